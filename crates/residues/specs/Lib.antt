@@ -1,0 +1,4 @@
+pub mod Prime
+pub mod Residue
+pub mod Field
+pub mod laws

@@ -1,0 +1,19 @@
+-- Canonical polynomials: terms strictly falling, coefficients 1 to p − 1. A statement about all terms of a polynomial.
+use mathlib.Core.Path.{_≡_}
+use mathlib.Core.List.{List, [], _∷_}
+use Prim.Native.Nat.{ℕ, _≤_, _<_, Ordering·lt}
+use Rattle.polynomials.specs.Poly.{Exponents, Term, Poly, order}
+
+-- All of f is below the monomial e.
+abbrev pub Under : Exponents → Poly → Type 0
+Under e [] = Unit {0}
+Under e (t ∷ f) = (order (t .exps) e ≡ Ordering·lt) × Under e f
+
+abbrev pub Canonical : ℕ → Poly → Type 0
+Canonical p [] = Unit {0}
+Canonical p (t ∷ f) = (1 ≤ t .coef) × (t .coef < p) × Under (t .exps) f × Canonical p f
+
+-- P holds of the exponents of each term.
+abbrev pub All : (Exponents → Type 0) → Poly → Type 0
+All P [] = Unit {0}
+All P (t ∷ f) = P (t .exps) × All P f

@@ -1,0 +1,8 @@
+pub mod Poly
+pub mod Canonical
+pub mod Division
+pub mod Value
+pub mod Bounds
+pub mod Packed
+pub mod Working
+pub mod laws

@@ -1,0 +1,74 @@
+-- The polynomial that pairs of words hold, by parts of the words: pairs taken, left out, read, and written at the end.
+use mathlib.Core.Path.{_≡_, refl, sym, _∙_, ap, ap₂, subst}
+use mathlib.Core.List.{List, [], _∷_, _++_, append-assoc}
+use Prim.Native.Nat.{ℕ, zero, suc, _+_, _-_, _*_, _/_, _%_, _≤_, _<_}
+use native.Mathlib.Numerals.{add-one}
+use native.Mathlib.Omega.{arith}
+use lib.ListN.{length, take, drop, getD, set, length-take, length-drop, length-append, length-set}
+use lib.Seq.{take-suc, take-suc-set, take-set-le, drop-cons, length-take-le, take-nil, drop-nil}
+use Rattle.polynomials.specs.Poly.{Poly, Term}
+use Rattle.polynomials.specs.Packed.{term, terms}
+use Rattle.polynomials.specs.Working.{Pairs}
+
+pub length-terms : (s : List ℕ) → length (terms s) ≡ length s / 2
+unfolding terms
+length-terms [] = refl
+length-terms (c ∷ []) = refl
+length-terms (c ∷ (m ∷ s)) = let ih : length (terms s) ≡ length s / 2 = length-terms s in omega arith
+
+pub words-of-terms : (s : List ℕ) → Pairs s → length s ≡ 2 * length (terms s)
+words-of-terms s h = omega (arith, length-terms s)
+
+pub terms-append : (s t : List ℕ) → Pairs s → terms (s ++ t) ≡ terms s ++ terms t
+unfolding terms
+terms-append [] t h = refl
+terms-append (c ∷ []) t h = absurd (omega arith)
+terms-append (c ∷ (m ∷ s)) t h = ap (λ z. term c m ∷ z) (terms-append s t (omega arith))
+
+-- n words, an even number, are taken.
+pub terms-take : (n : ℕ) (s : List ℕ) → n % 2 ≡ 0 → terms (take n s) ≡ take (n / 2) (terms s)
+unfolding terms
+terms-take zero s h = refl
+terms-take (suc zero) s h = absurd (omega arith)
+terms-take (suc (suc n)) [] h = sym (take-nil (suc (suc n) / 2))
+terms-take (suc (suc n)) (c ∷ []) h = sym (take-nil (suc (suc n) / 2))
+terms-take (suc (suc n)) (c ∷ (m ∷ s)) h =
+    ap (λ z. term c m ∷ z) (terms-take n s (omega arith)) ∙ ap (λ (k : ℕ). take k (term c m ∷ terms s)) half
+  where
+    half : suc (n / 2) ≡ suc (suc n) / 2
+    half = omega arith
+
+pub terms-drop : (n : ℕ) (s : List ℕ) → n % 2 ≡ 0 → terms (drop n s) ≡ drop (n / 2) (terms s)
+unfolding terms
+terms-drop zero s h = refl
+terms-drop (suc zero) s h = absurd (omega arith)
+terms-drop (suc (suc n)) [] h = sym (drop-nil (suc (suc n) / 2))
+terms-drop (suc (suc n)) (c ∷ []) h = sym (drop-nil (suc (suc n) / 2))
+terms-drop (suc (suc n)) (c ∷ (m ∷ s)) h = terms-drop n s (omega arith) ∙ ap (λ (k : ℕ). drop k (term c m ∷ terms s)) half
+  where
+    half : suc (n / 2) ≡ suc (suc n) / 2
+    half = omega arith
+
+-- The term at word i, and those behind it.
+pub terms-at : (s : List ℕ) (i : ℕ) → i + 1 < length s → terms (drop i s) ≡ term (getD s i 0) (getD s (i + 1) 0) ∷ terms (drop (i + 2) s)
+unfolding terms
+terms-at s i h = ap terms (drop-cons s i 0 (omega arith) ∙ ap (λ z. getD s i 0 ∷ z) second)
+  where
+    two : suc (suc i) ≡ i + 2
+    two = omega arith
+
+    second : drop (suc i) s ≡ getD s (i + 1) 0 ∷ drop (i + 2) s
+    second = drop-cons s (suc i) 0 (omega arith) ∙ ap (λ (j : ℕ). getD s j 0 ∷ drop (suc (suc i)) s) (sym (add-one i)) ∙ ap (λ (j : ℕ). getD s (i + 1) 0 ∷ drop j s) two
+
+-- A pair written behind k words.
+pub terms-push : (s : List ℕ) (k c m : ℕ) → k % 2 ≡ 0 → k + 1 < length s → terms (take (k + 2) (set (set s k c) (k + 1) m)) ≡ terms (take k s) ++ (term c m ∷ [])
+unfolding terms
+terms-push s k c m e h =
+    ap terms (ap (λ (j : ℕ). take j (set (set s k c) (k + 1) m)) up ∙ take-suc-set (set s k c) (k + 1) m (simp length-set (omega arith)) ∙ ap (λ z. z ++ (m ∷ [])) front ∙ append-assoc (take k s) (c ∷ []) (m ∷ []))
+    ∙ terms-append (take k s) (c ∷ (m ∷ [])) (simp length-take (omega arith))
+  where
+    up : k + 2 ≡ suc (k + 1)
+    up = omega arith
+
+    front : take (k + 1) (set s k c) ≡ take k s ++ (c ∷ [])
+    front = ap (λ (j : ℕ). take j (set s k c)) (add-one k) ∙ take-suc-set s k c (omega arith)

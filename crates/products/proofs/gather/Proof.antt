@@ -1,0 +1,210 @@
+-- `product::gather` meets its contract. The invariant, `Gathering`: x holds the product of the rows from word i on, an even number of them is left, and
+-- those can still bring it back to 256 terms. The measure is i.
+use borrow.Author.Needs.{needs}
+use native.Mathlib.Omega.{arith}
+use mathlib.Core.Path.{_≡_, sym, _∙_, ap}
+use mathlib.Core.Logic.{⊎-elim}
+use Prim.Native.Nat.{_+_, _-_, _*_, _/_, _≤_}
+use lib.ListN.{length}
+use lib.Seq.{length-take-le}
+use Rattle.products.proofs.ProductLaws.{Gathering, small, first-asks, first-gathering, none-gathering, room, upper-asks, upper-words, lower-asks, again, stopped, gathered}
+use Rattle.products.proofs.gather.Statement.{statement}
+use Rattle.products.proofs.gather.Tie as tie
+
+abbrev Inv-loop : tie.InvT-loop
+Inv-loop p f g x₀ z₀ i₀ n₀ x z i n = Gathering p f g x₀ z₀ x z i n
+
+abbrev μ-loop : tie.MeasureT-loop
+μ-loop p f g x₀ z₀ i₀ n₀ x z i n = i
+
+-- x is as long as when it was lent; two rows more find room in x and z.
+start-x : (c : tie.Joined1 Inv-loop μ-loop) → length (c .if1 .x) ≡ length (c .before .before .before .before .before .args .x .now)
+start-x c = ⊎-elim (λ w. ap length (w .8) ∙ w .5 .kept .1 .1 .1 .1 .1 .0) (λ w. ap length (w .1)) (c .if1 .came)
+
+room-x : (c : tie.In-loop Inv-loop μ-loop) → c .before .loop .n + 2 * length (c .before .before .before .before .before .before .before .args .g .now) ≤ length (c .before .loop .x)
+room-x c =
+    let s = c .before .before .before .before .before .before .before in
+    omega (arith, room _ _ _ (s .pre) _ _ _ _ _ _ (c .before .loop .inv) (c .loop-test .taken) (length (s .args .x .now)) (s .pre .1 .1 .1 .0), c .before .loop .inv .same-x, start-x (c .before .before))
+
+room-z : (c : tie.In-loop Inv-loop μ-loop) → c .before .loop .n + 2 * length (c .before .before .before .before .before .before .before .args .g .now) ≤ length (c .before .loop .z)
+room-z c =
+    let s = c .before .before .before .before .before .before .before in
+    omega (arith, room _ _ _ (s .pre) _ _ _ _ _ _ (c .before .loop .inv) (c .loop-test .taken) (length (s .args .z .now)) (s .pre .1 .1 .1 .1), c .before .loop .inv .same-z)
+
+rows-small : (c : tie.In-loop Inv-loop μ-loop) → (c .before .loop .i - 4) / 2 * length (c .before .before .before .before .before .before .before .args .g .now) ≤ 262144
+rows-small c =
+    let s = c .before .before .before .before .before .before .before in
+    small ((c .before .loop .i - 4) / 2) (length (s .args .g .now)) (omega (arith, c .before .loop .inv .inside, s .pre .1 .0 .0 .few)) (s .pre .1 .1 .0 .0 .few)
+
+sub-i : tie.Need-sub-i Inv-loop μ-loop
+sub-i c = search needs
+
+mul-add-multiple : tie.Need-mul-add-multiple Inv-loop μ-loop
+mul-add-multiple c = search needs
+
+shared-slice-read-add-multiple : tie.Need-shared-slice-read-add-multiple Inv-loop μ-loop
+shared-slice-read-add-multiple c = search needs
+
+add-add-multiple : tie.Need-add-add-multiple Inv-loop μ-loop
+add-add-multiple c = search needs
+
+mul-add-multiple-2 : tie.Need-mul-add-multiple-2 Inv-loop μ-loop
+mul-add-multiple-2 c = search needs
+
+shared-slice-read-add-multiple-2 : tie.Need-shared-slice-read-add-multiple-2 Inv-loop μ-loop
+shared-slice-read-add-multiple-2 c = search needs
+
+slice-aggregate-add-multiple : tie.Need-slice-aggregate-add-multiple Inv-loop μ-loop
+slice-aggregate-add-multiple c = search needs
+
+add-multiple-requires : tie.Need-add-multiple-requires Inv-loop μ-loop
+add-multiple-requires c κs =
+    let s = c .before .before .before .before .before .before .before .before .before in
+    first-asks _ _ _ (s .pre) (c .before .before .before .before .if1 .taken) _ (omega (arith, s .pre .1 .1 .1))
+
+loop-holds : tie.Need-loop-holds Inv-loop μ-loop
+loop-holds c =
+    let s = c .before .before .before .before .before in
+    ⊎-elim (λ w. rw (w .8, w .9, w .10) (first-gathering _ _ _ (s .pre) _ _ _ (w .0 .taken) (w .5 .ensures)))
+    (λ w. rw (w .1, w .2, w .3) (none-gathering _ _ _ (s .pre) _ _ (omega (arith, w .0 .left, s .pre .1 .0 .0 .pairs)))) (c .if1 .came)
+
+sub-i-2 : tie.Need-sub-i-2 Inv-loop μ-loop
+sub-i-2 c = search needs
+
+add-add-multiple-2 : tie.Need-add-add-multiple-2 Inv-loop μ-loop
+add-add-multiple-2 c = search needs
+
+mul-add-multiple-3 : tie.Need-mul-add-multiple-3 Inv-loop μ-loop
+mul-add-multiple-3 c = search needs
+
+shared-slice-read-add-multiple-3 : tie.Need-shared-slice-read-add-multiple-3 Inv-loop μ-loop
+shared-slice-read-add-multiple-3 c = search needs
+
+add-add-multiple-3 : tie.Need-add-add-multiple-3 Inv-loop μ-loop
+add-add-multiple-3 c = search needs
+
+mul-add-multiple-4 : tie.Need-mul-add-multiple-4 Inv-loop μ-loop
+mul-add-multiple-4 c = search needs
+
+shared-slice-read-add-multiple-4 : tie.Need-shared-slice-read-add-multiple-4 Inv-loop μ-loop
+shared-slice-read-add-multiple-4 c = search needs
+
+slice-reshare-prefix-add-multiple : tie.Need-slice-reshare-prefix-add-multiple Inv-loop μ-loop
+slice-reshare-prefix-add-multiple c = search needs
+
+slice-aggregate-add-multiple-2 : tie.Need-slice-aggregate-add-multiple-2 Inv-loop μ-loop
+slice-aggregate-add-multiple-2 c = sym (length-take-le _ _ (c .before .before .before .before .before .loop .inv .rows .written .within))
+
+add-multiple-requires-2 : tie.Need-add-multiple-requires-2 Inv-loop μ-loop
+add-multiple-requires-2 c κs =
+    let t = c .before .before .before .before .before in
+    upper-asks _ _ _ (t .before .before .before .before .before .before .before .pre) _ _ _ _ _ _ (t .before .loop .inv) (t .loop-test .taken) _ (omega (arith, room-z t))
+
+mul-add-multiple-5 : tie.Need-mul-add-multiple-5 Inv-loop μ-loop
+mul-add-multiple-5 c = search needs
+
+shared-slice-read-add-multiple-5 : tie.Need-shared-slice-read-add-multiple-5 Inv-loop μ-loop
+shared-slice-read-add-multiple-5 c = search needs
+
+add-add-multiple-4 : tie.Need-add-add-multiple-4 Inv-loop μ-loop
+add-add-multiple-4 c = search needs
+
+mul-add-multiple-6 : tie.Need-mul-add-multiple-6 Inv-loop μ-loop
+mul-add-multiple-6 c = search needs
+
+shared-slice-read-add-multiple-6 : tie.Need-shared-slice-read-add-multiple-6 Inv-loop μ-loop
+shared-slice-read-add-multiple-6 c = search needs
+
+slice-reshare-prefix-add-multiple-2 : tie.Need-slice-reshare-prefix-add-multiple-2 Inv-loop μ-loop
+slice-reshare-prefix-add-multiple-2 c = search needs
+
+slice-aggregate-add-multiple-3 : tie.Need-slice-aggregate-add-multiple-3 Inv-loop μ-loop
+slice-aggregate-add-multiple-3 c = sym (length-take-le _ _ (c .before .before .before .before .before .add-multiple2 .ensures .within))
+
+add-multiple-requires-3 : tie.Need-add-multiple-requires-3 Inv-loop μ-loop
+add-multiple-requires-3 c κs =
+    let t = c .before .before .before .before .before .before .before .before .before .before .before .before in
+    let w = c .before .before .before .before .before .before .add-multiple2 .ensures in
+    lower-asks _ _ _ (t .before .before .before .before .before .before .before .pre) _ _ _ _ _ _ (t .before .loop .inv) (t .loop-test .taken) _ _ w _ (omega (arith, upper-words _ _ _ (t .before .before .before .before .before .before .before .pre) _ _ _ _ _ _ (t .before .loop .inv) (t .loop-test .taken) _ _ w, room-x t))
+
+mul-if2 : tie.Need-mul-if2 Inv-loop μ-loop
+mul-if2 c = omega (arith, rows-small (c .before .before .before .before .before .before .before .before .before .before .before .before .before .before .before))
+
+add-if2 : tie.Need-add-if2 Inv-loop μ-loop
+add-if2 c = omega (arith, rows-small (c .before .before .before .before .before .before .before .before .before .before .before .before .before .before .before))
+
+same-length : tie.Need-same-length Inv-loop μ-loop
+same-length c =
+    let t = c .before .before .before .before .before .before .before .before .before .before .before .before .before .before .before .before in
+    c .before .before .before .add-multiple3 .kept .1 .1 .1 .1 .1 .0 ∙ t .before .loop .inv .same-x ∙ start-x (t .before .before)
+
+same-length-2 : tie.Need-same-length-2 Inv-loop μ-loop
+same-length-2 c = search needs
+
+returns : tie.Need-returns Inv-loop μ-loop
+returns c =
+    let t = c .before .before .before .before .before .before .before .before .before .before .before .before .before .before .before .before in
+    stopped _ _ _ (t .before .before .before .before .before .before .before .pre) _ _ _ _ _ _ (t .before .loop .inv) (t .loop-test .taken) _ _ (c .before .before .before .before .before .before .before .before .before .before .add-multiple2 .ensures) _ _ (c .before .before .before .add-multiple3 .ensures) (c .if2 .taken)
+
+loop-less : tie.Need-loop-less Inv-loop μ-loop
+loop-less c = search needs
+
+loop-again : tie.Need-loop-again Inv-loop μ-loop
+loop-again c =
+    let t = c .before .before .before .before .before .before .before .before .before .before .before .before .before .before .before .before in
+    let upper = c .before .before .before .before .before .before .before .before .before .before .add-multiple2 in
+    let lower = c .before .before .before .add-multiple3 in
+    again _ _ _ (t .before .before .before .before .before .before .before .pre) _ _ _ _ _ _ (t .before .loop .inv) (t .loop-test .taken) _ _ (upper .ensures) _ _ (lower .ensures) (c .if2 .left) (lower .kept .1 .1 .1 .1 .1 .0) (upper .kept .1 .1 .1 .1 .1 .0)
+
+same-length-3 : tie.Need-same-length-3 Inv-loop μ-loop
+same-length-3 c = c .before .loop .inv .same-x ∙ start-x (c .before .before)
+
+same-length-4 : tie.Need-same-length-4 Inv-loop μ-loop
+same-length-4 c = search needs
+
+returns-2 : tie.Need-returns-2 Inv-loop μ-loop
+returns-2 c = gathered _ _ _ (c .before .before .before .before .before .before .before .pre) _ _ _ _ _ _ (c .before .loop .inv) (c .loop-test .left)
+
+pub gather-spec : {M : Type 1} → statement M
+gather-spec =
+    tie.close
+    (tie.spec
+    Inv-loop
+    μ-loop
+    sub-i
+    mul-add-multiple
+    shared-slice-read-add-multiple
+    add-add-multiple
+    mul-add-multiple-2
+    shared-slice-read-add-multiple-2
+    slice-aggregate-add-multiple
+    add-multiple-requires
+    loop-holds
+    sub-i-2
+    add-add-multiple-2
+    mul-add-multiple-3
+    shared-slice-read-add-multiple-3
+    add-add-multiple-3
+    mul-add-multiple-4
+    shared-slice-read-add-multiple-4
+    slice-reshare-prefix-add-multiple
+    slice-aggregate-add-multiple-2
+    add-multiple-requires-2
+    mul-add-multiple-5
+    shared-slice-read-add-multiple-5
+    add-add-multiple-4
+    mul-add-multiple-6
+    shared-slice-read-add-multiple-6
+    slice-reshare-prefix-add-multiple-2
+    slice-aggregate-add-multiple-3
+    add-multiple-requires-3
+    mul-if2
+    add-if2
+    same-length
+    same-length-2
+    returns
+    loop-less
+    loop-again
+    same-length-3
+    same-length-4
+    returns-2)

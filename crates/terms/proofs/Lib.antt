@@ -1,0 +1,3 @@
+pub mod ExponentLaws
+pub mod PartLaws
+pub mod ValueLaws

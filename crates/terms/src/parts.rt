@@ -1,0 +1,135 @@
+// The parts of a polynomial: degrees, leading variable, initial and rest; and equality.
+ghost use mathlib.Core.Path.{_≡_};
+ghost use Prim.Native.Nat.{ℕ, _+_, _≤_, _<_};
+ghost use lib.ListN.{length, getD};
+ghost use Rattle.polynomials.specs.Poly.{equal};
+ghost use Rattle.polynomials.specs.Bounds.{at-most, degrees-over};
+ghost use Rattle.polynomials.specs.Canonical.{Canonical};
+ghost use Rattle.polynomials.specs.Division.{degree, leader, initial, rest};
+ghost use Rattle.polynomials.specs.Packed.{terms, bytes};
+ghost use Rattle.polynomials.specs.Working.{Pairs, Written, Split};
+use crate::monomial;
+
+// Whether two polynomials are equal.
+pub fn equal(f: &[u64], g: &[u64]) -> bool
+    requires { ⌜ Pairs (now f) ⌝ }
+    requires { ⌜ Pairs (now g) ⌝ }
+    ensures { λ r. ⌜ r ≡ equal (terms (now (f .entry))) (terms (now (g .entry))) ⌝ }
+{
+    if f.len() != g.len() {
+        return false;
+    }
+    let mut i = 0;
+    while i < f.len() {
+        if f[i] != g[i] {
+            return false;
+        }
+        i += 1;
+    }
+    true
+}
+
+// The degree in v(k+1).
+pub fn degree(f: &[u64], k: u32) -> u64
+    requires { ⌜ k < 8 ⌝ }
+    requires { ⌜ Pairs (now f) ⌝ }
+    ensures { λ r. ⌜ r ≡ degree k (terms (now (f .entry))) ⌝ }
+{
+    let mut d = 0;
+    let mut i = 0;
+    while i < f.len() {
+        let e = monomial::exponent(f[i + 1], k);
+        if d < e {
+            d = e;
+        }
+        i += 2;
+    }
+    d
+}
+
+// The monomials of f, or-ed: no exponent in it is below a degree of f.
+pub fn union(f: &[u64]) -> u64
+    requires { ⌜ Pairs (now f) ⌝ }
+    ensures { λ r. ⌜ ((k : ℕ) → degree k (terms (now (f .entry))) ≤ getD (bytes 8 r) k 0) ⌝ }
+{
+    let mut m = 0;
+    let mut i = 0;
+    while i < f.len() {
+        m = m | f[i + 1];
+        i += 2;
+    }
+    m
+}
+
+// Whether for some variable the degrees of f and g sum to over 255.
+pub fn degrees_over(f: &[u64], g: &[u64]) -> bool
+    requires { ⌜ Pairs (now f) ⌝ }
+    requires { ⌜ Pairs (now g) ⌝ }
+    ensures { λ r. ⌜ r ≡ degrees-over (at-most 255) (terms (now (f .entry))) (terms (now (g .entry))) ⌝ }
+{
+    if !monomial::passes(union(f), union(g)) {
+        return false;
+    }
+    let mut k = 0;
+    while k < 8 {
+        if 255 < degree(f, k) + degree(g, k) {
+            return true;
+        }
+        k += 1;
+    }
+    false
+}
+
+// The leading variable: k for vk, 0 for a polynomial without one. It stands in the first term.
+pub fn leader(f: &[u64]) -> u32
+    requires { ⌜ Pairs (now f) ⌝ }
+    requires { ⌜ ((p : ℕ) × Canonical p (terms (now f))) ⌝ }
+    ensures { λ r. ⌜ r ≡ leader (terms (now (f .entry))) ⌝ }
+{
+    if f.len() == 0 {
+        return 0;
+    }
+    monomial::highest(f[1])
+}
+
+// How many words the terms of the highest power of v(k+1), the leading variable, take: they come first.
+fn initial_words(f: &[u64], k: u32) -> usize
+    requires { ⌜ Pairs (now f) ⌝ }
+    requires { ⌜ ((p : ℕ) × Canonical p (terms (now f))) × (leader (terms (now f)) ≡ k + 1) ⌝ }
+    ensures { λ r. ⌜ Split k (now (f .entry)) r ⌝ }
+{
+    let top = monomial::exponent(f[1], k);
+    let mut i = 2;
+    while i < f.len() && monomial::exponent(f[i + 1], k) == top {
+        i += 2;
+    }
+    i
+}
+
+// The initial, into the first words of `out`.
+pub fn initial(f: &[u64], k: u32, out: &mut [u64]) -> usize
+    requires { ⌜ Pairs (now f) ⌝ }
+    requires { ⌜ ((p : ℕ) × Canonical p (terms (now f))) × (leader (terms (now f)) ≡ k + 1) ⌝ }
+    requires { ⌜ length (now f) ≤ length (now out) ⌝ }
+    ensures { λ r. ⌜ Written (initial k (terms (now (f .entry)))) r (now (out .exit)) ⌝ }
+{
+    let n = initial_words(f, k);
+    let top = monomial::exponent(f[1], k) << (8 * k);
+    let mut i = 0;
+    while i < n {
+        out[i] = f[i];
+        out[i + 1] = f[i + 1] - top;
+        i += 2;
+    }
+    n
+}
+
+// The rest: the terms behind those of the initial.
+pub fn rest(f: &[u64], k: u32) -> &[u64]
+    requires { ⌜ Pairs (now f) ⌝ }
+    requires { ⌜ ((p : ℕ) × Canonical p (terms (now f))) × (leader (terms (now f)) ≡ k + 1) ⌝ }
+    ensures { λ r. ⌜ terms (now r) ≡ rest k (terms (now (f .entry))) ⌝ }
+{
+    let n = initial_words(f, k);
+    &f[n..]
+}

@@ -1,0 +1,12 @@
+pub mod Branch
+pub mod Room
+pub mod Rule
+pub mod Step
+pub mod Run
+pub mod Written
+pub mod Eliminate
+pub mod Writable
+pub mod laws
+pub mod Solutions
+pub mod Claims
+pub mod Jobs

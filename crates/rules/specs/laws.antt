@@ -1,0 +1,17 @@
+pub mod Stands
+pub mod Lengths
+pub mod Held
+pub mod ReadAgain
+pub mod Lists
+pub mod Put
+pub mod Pivot
+pub mod Taken
+pub mod Runs
+pub mod Kept
+pub mod Points
+pub mod Initials
+pub mod Rising
+pub mod Answers
+pub mod AdmissibleRun
+pub mod WithinRoom
+pub mod WrittenAgain

@@ -1,0 +1,106 @@
+-- What every step keeps holds at the end of a run; a run takes no more steps than its limit.
+use mathlib.Core.Path.{_≡_, refl, sym, subst}
+use mathlib.Core.List.{List, [], _∷_}
+use Prim.Native.Nat.{ℕ, zero, suc, _+_, _≤_}
+use native.Mathlib.Omega.{arith}
+use Rattle.tables.specs.Read.{System, Input}
+use Rattle.tables.specs.declared.Reason.{Reason}
+use Rattle.tables.specs.declared.Reason.the-variants.{Steps}
+use Rattle.rules.specs.Branch.{Branch}
+use Rattle.rules.specs.Room.{Limits, State}
+use Rattle.rules.specs.Step.{Stepped, next, stopped, step}
+use Rattle.rules.specs.Run.{Ended, finished, refused, after-step, run, first-branch, start, run-of}
+use Rattle.rules.specs.laws.Taken.{Taken, step-taken, within-room-next}
+
+-- ── what every step keeps ──
+module _ {ℓ} (l : Limits) (p : ℕ) (Inv : State → Type ℓ)
+    (keeps : (b : Branch) (waiting : List Branch) (listed : List System) (s : State) → Taken l p b waiting listed s →
+    Inv (record { branches = b ∷ waiting; systems = listed }) → Inv s) where
+  at-end : (s : State) (n m : ℕ) (ss : List System) → [] ≡ s .branches → finished n (s .systems) ≡ finished m ss → Inv s → Inv (record { branches = []; systems = ss })
+  at-end s n m ss q e h = subst Inv same h
+    where
+      systems-same : s .systems ≡ ss
+      systems-same = cc
+
+      same : s ≡ record { branches = []; systems = ss }
+      same = λ i. record { branches = sym q i; systems = systems-same i }
+
+  pub run-keeps : (left n : ℕ) (s : State) (m : ℕ) (ss : List System) → run l p left n s ≡ finished m ss → Inv s → Inv (record { branches = []; systems = ss })
+  unfolding run
+  run-keeps zero n s m ss e h = go (s .branches) refl e
+    where
+      go : (bs : List Branch) → bs ≡ s .branches → (elim bs as (λ bs. Ended) [ [] ↦ finished n (s .systems) | b ∷ bs ↦ refused n Steps ]) ≡ finished m ss →
+          Inv (record { branches = []; systems = ss })
+      go [] q e = at-end s n m ss q e h
+      go (b ∷ bs) q e = let z : _≡_ {A = ℕ} 0 1 = cc in absurd (omega arith)
+  run-keeps (suc left) n s m ss e h = go (run-keeps left (suc n)) (s .branches) refl e
+    where
+      onward : ((s : State) (m : ℕ) (ss : List System) → run l p left (suc n) s ≡ finished m ss → Inv s → Inv (record { branches = []; systems = ss })) →
+          (b : Branch) (bs : List Branch) → (b ∷ bs) ≡ s .branches → (x : Stepped) → step l p b bs (s .systems) ≡ x →
+          after-step (run l p left (suc n)) n x ≡ finished m ss → Inv (record { branches = []; systems = ss })
+      onward ih b bs q (next s′) f e =
+          ih s′ m ss e (keeps b bs (s .systems) s′ (step-taken l p bs (s .systems) b s′ f) (subst Inv (λ i. record { branches = sym q i; systems = s .systems }) h))
+      onward ih b bs q (stopped why) f e = let z : _≡_ {A = ℕ} 0 1 = cc in absurd (omega arith)
+
+      go : ((s : State) (m : ℕ) (ss : List System) → run l p left (suc n) s ≡ finished m ss → Inv s → Inv (record { branches = []; systems = ss })) →
+          (bs : List Branch) → bs ≡ s .branches →
+          (elim bs as (λ bs. Ended) [ [] ↦ finished n (s .systems) | b ∷ bs ↦ after-step (run l p left (suc n)) n (step l p b bs (s .systems)) ]) ≡ finished m ss →
+          Inv (record { branches = []; systems = ss })
+      go ih [] q e = at-end s n m ss q e h
+      go ih (b ∷ bs) q e = onward ih b bs q (step l p b bs (s .systems)) refl e
+
+-- The state that a run starts from.
+abbrev pub first-state : Input → State
+first-state t = record { branches = first-branch t ∷ []; systems = [] }
+
+started : (l : Limits) (t : Input) (s : State) → start l t ≡ next s → first-state t ≡ s
+unfolding start
+started l t s e = within-room-next l (t .modulus) (first-state t) s e
+
+module _ {ℓ} (l : Limits) (t : Input) (Inv : State → Type ℓ)
+    (keeps : (b : Branch) (waiting : List Branch) (listed : List System) (s : State) → Taken l (t .modulus) b waiting listed s →
+    Inv (record { branches = b ∷ waiting; systems = listed }) → Inv s) where
+  pub run-of-keeps : (limit n : ℕ) (ss : List System) → run-of l limit t ≡ finished n ss → Inv (first-state t) → Inv (record { branches = []; systems = ss })
+  unfolding run-of
+  run-of-keeps limit n ss e h = go (start l t) (started l t) e
+    where
+      go : (x : Stepped) → ((s : State) → x ≡ next s → first-state t ≡ s) → after-step (run l (t .modulus) limit 0) 0 x ≡ finished n ss → Inv (record { branches = []; systems = ss })
+      go (next s) q e = run-keeps l (t .modulus) Inv keeps limit 0 s n ss e (subst Inv (q s refl) h)
+      go (stopped why) q e = let z : _≡_ {A = ℕ} 0 1 = cc in absurd (omega arith)
+
+-- ── steps ──
+abbrev steps-of : Ended → ℕ
+steps-of (finished n ss) = n
+steps-of (refused n why) = n
+
+run-steps : (l : Limits) (p left n : ℕ) (s : State) → steps-of (run l p left n s) ≤ n + left
+unfolding run
+run-steps l p zero n s = go (s .branches)
+  where
+    go : (bs : List Branch) → steps-of (elim bs as (λ bs. Ended) [ [] ↦ finished n (s .systems) | b ∷ bs ↦ refused n Steps ]) ≤ n + 0
+    go [] = omega arith
+    go (b ∷ bs) = omega arith
+run-steps l p (suc left) n s = go (run-steps l p left (suc n)) (s .branches)
+  where
+    onward : ((s : State) → steps-of (run l p left (suc n) s) ≤ suc n + left) → (x : Stepped) → steps-of (after-step (run l p left (suc n)) n x) ≤ n + suc left
+    onward ih (next s) = omega (arith, ih s)
+    onward ih (stopped why) = omega arith
+
+    go : ((s : State) → steps-of (run l p left (suc n) s) ≤ suc n + left) → (bs : List Branch) →
+        steps-of (elim bs as (λ bs. Ended) [ [] ↦ finished n (s .systems) | b ∷ bs ↦ after-step (run l p left (suc n)) n (step l p b bs (s .systems)) ]) ≤ n + suc left
+    go ih [] = omega arith
+    go ih (b ∷ bs) = onward ih (step l p b bs (s .systems))
+
+run-of-steps : (l : Limits) (limit : ℕ) (t : Input) → steps-of (run-of l limit t) ≤ limit
+unfolding run-of
+run-of-steps l limit t = go (start l t)
+  where
+    go : (x : Stepped) → steps-of (after-step (run l (t .modulus) limit 0) 0 x) ≤ limit
+    go (next s) = omega (arith, run-steps l (t .modulus) limit 0 s)
+    go (stopped why) = omega arith
+
+pub finished-steps : (l : Limits) (limit : ℕ) (t : Input) (n : ℕ) (ss : List System) → run-of l limit t ≡ finished n ss → n ≤ limit
+finished-steps l limit t n ss e = subst (λ r. steps-of r ≤ limit) e (run-of-steps l limit t)
+
+pub refused-steps : (l : Limits) (limit : ℕ) (t : Input) (n : ℕ) (why : Reason) → run-of l limit t ≡ refused n why → n ≤ limit
+refused-steps l limit t n why e = subst (λ r. steps-of r ≤ limit) e (run-of-steps l limit t)

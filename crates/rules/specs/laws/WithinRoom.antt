@@ -1,0 +1,152 @@
+-- A run stays within its room: the live count never passes it, so the systems listed take no more records.
+use mathlib.Core.Path.{_≡_, refl, sym, subst}
+use mathlib.Core.List.{List, [], _∷_, _++_}
+use mathlib.Core.Bool.{Bool, true, false, _||_}
+use Prim.Native.Nat.{ℕ, zero, suc, _+_, _-_, _≤_}
+use native.Mathlib.Omega.{arith}
+use borrow.Author.Tests.{ltb-false}
+use lib.Dec.{ltb}
+use lib.ListN.{length}
+use Rattle.polynomials.specs.Poly.{Poly}
+use Rattle.polynomials.specs.Division.{initial}
+use Rattle.polynomials.specs.Bounds.{at-most, over, Bounded, within, degree-passed, terms-passed}
+use Rattle.tables.specs.Read.{System, Input}
+use Rattle.tables.specs.declared.Reason.the-variants.{Room, Steps}
+use Rattle.rules.specs.Branch.{Branch, member, is-one, some-one, some-zero, highest-leader, Chosen, pivot, remove, Found, none, found, other}
+use Rattle.rules.specs.Room.{Limits, State, polynomials-size, branch-size, branches-size, systems-size, live}
+use Rattle.rules.specs.Rule.{Rule, drop, list, split, divide, close, divide-or-close, rule-with, rule-of-P, rule-of}
+use Rattle.rules.specs.Step.{Stepped, next, stopped, within-room, after-division, split-open, split-aside, divided, closed, with-Q, state, remainder-by, replace, apply, step}
+use Rattle.rules.specs.Run.{Ended, finished, refused, after-step, run, start, run-of}
+use Rattle.rules.specs.laws.Lists.{At}
+use Rattle.rules.specs.laws.Pivot.{pivot-stands}
+
+-- ── sizes ──
+size-remove : (i : ℕ) (f : Poly) (fs : List Poly) → At i f fs → polynomials-size fs ≡ suc (length f + polynomials-size (remove i fs))
+unfolding polynomials-size remove
+size-remove i f [] a = absurd a
+size-remove zero f (g ∷ fs) a = let s : length f ≡ length g = cc in omega arith
+size-remove (suc i) f (g ∷ fs) a = omega (arith, size-remove i f fs a)
+
+size-append : (ss : List System) (s : System) → systems-size (ss ++ (s ∷ [])) ≡ systems-size ss + suc (polynomials-size (s .T) + polynomials-size (s .U))
+unfolding systems-size
+size-append [] s = omega arith
+size-append (u ∷ ss) s = omega (arith, size-append ss s)
+
+-- ── the pivot that rule 5 closes on stands in P ──
+abbrev Stands-in : Rule → Branch → Type 0
+Stands-in drop b = Unit {0}
+Stands-in list b = Unit {0}
+Stands-in (split k f) b = Unit {0}
+Stands-in (divide k f g) b = Unit {0}
+Stands-in (close k f) b = At (f .place) (f .poly) (b .P)
+
+rule-with-stands : (k : ℕ) (f : Chosen) (b : Branch) → At (f .place) (f .poly) (b .P) → Stands-in (rule-with k f b) b
+unfolding rule-with
+rule-with-stands k f b a = go (is-one (initial k (f .poly)) || member (initial k (f .poly)) (b .Q))
+  where
+    of-found : (o : Found) → Stands-in (divide-or-close k f o) b
+    of-found none = a
+    of-found (found g) = tt
+
+    go : (c : Bool) → Stands-in (elim c as (λ c. Rule) [ true ↦ divide-or-close k f (other k (f .place) (b .P)) | false ↦ split k f ]) b
+    go true = of-found (other k (f .place) (b .P))
+    go false = tt
+
+rule-stands : (b : Branch) → Stands-in (rule-of b) b
+unfolding rule-of
+rule-stands b = go (some-one (b .P) || some-zero (b .Q))
+  where
+    of-P : (P : List Poly) → b .P ≡ P → Stands-in (rule-of-P P b) b
+    of-P [] q = tt
+    of-P (f ∷ fs) q =
+        let c = pivot (highest-leader (f ∷ fs) - 1) f fs in
+        rule-with-stands (highest-leader (f ∷ fs) - 1) c b (subst (At (c .place) (c .poly)) (sym q) (pivot-stands (highest-leader (f ∷ fs) - 1) f fs))
+
+    go : (c : Bool) → Stands-in (elim c as (λ c. Rule) [ true ↦ drop | false ↦ rule-of-P (b .P) b ]) b
+    go true = tt
+    go false = of-P (b .P) refl
+
+-- ── the live count ──
+-- Over the room the run stops.
+abbrev tested : Bool → Stepped → Stepped
+tested c x = elim c as (λ c. Stepped) [ true ↦ stopped Room | false ↦ x ]
+
+after-formed : (x : Bounded) (k : Poly → Stepped) (s : State) (R : Type 0) → ((r : Poly) → k r ≡ next s → R) → after-division x k ≡ next s → R
+after-formed (within r) k s R u e = u r e
+after-formed degree-passed k s R u e = let z : _≡_ {A = ℕ} 0 1 = cc in absurd (omega arith)
+after-formed terms-passed k s R u e = let z : _≡_ {A = ℕ} 0 1 = cc in absurd (omega arith)
+
+module _ (l : Limits) (m : ℕ) (bound : l .of-room ≡ at-most m) where
+  over-room : (n : ℕ) (x : Stepped) (s : State) → tested (over (l .of-room) n) x ≡ next s → (n ≤ m) × (x ≡ next s)
+  unfolding over
+  over-room n x s e = go (ltb m n) refl (subst (λ r. tested (over r n) x ≡ next s) bound e)
+    where
+      go : (c : Bool) → ltb m n ≡ c → tested c x ≡ next s → (n ≤ m) × (x ≡ next s)
+      go true q e = let z : _≡_ {A = ℕ} 0 1 = cc in absurd (omega arith)
+      go false q e = (ltb-false m n q, e)
+
+  live-within : (s s′ : State) → within-room l s ≡ next s′ → live s′ ≤ m
+  unfolding within-room
+  live-within s s′ e = let u = over-room (live s) (next s) s′ e in let q : s ≡ s′ = cc in subst (λ (r : State). live r ≤ m) q (u .0)
+
+  module _ (p : ℕ) (waiting : List Branch) (listed : List System) where
+    live-replace : (k : ℕ) (f : Poly) (gs : List Poly) (b : Branch) (s : State) → live (state l p waiting listed b) ≤ m → replace l p waiting listed k f gs b ≡ next s → live s ≤ m
+    unfolding replace
+    live-replace k f [] b s h e = let q : state l p waiting listed b ≡ s = cc in subst (λ (r : State). live r ≤ m) q h
+    live-replace k f (g ∷ gs) b s h e =
+        after-formed (remainder-by l p k f g) _ s (live s ≤ m)
+        (λ r er. let u = over-room (polynomials-size gs + live (state l p waiting listed (with-Q l p r b))) (replace l p waiting listed k f gs (with-Q l p r b)) s er in
+        live-replace k f gs (with-Q l p r b) s (omega (arith, u .0)) (u .1)) e
+
+    live-apply : (r : Rule) (b : Branch) (s : State) → Stands-in r b → live (state l p waiting listed b) ≤ m → apply l p waiting listed r b ≡ next s → live s ≤ m
+    unfolding apply live branch-size branches-size polynomials-size
+    live-apply drop b s a h e =
+        let q : record { branches = waiting; systems = listed } ≡ s = cc in subst (λ (r : State). live r ≤ m) q (omega arith)
+    live-apply list b s a h e =
+        let new : System = record { T = b .T; U = b .Q } in
+        let q : record { branches = waiting; systems = listed ++ (new ∷ []) } ≡ s = cc in
+        subst (λ (r : State). live r ≤ m) q (omega (arith, size-append listed new))
+    live-apply (split k f) b s a h e = live-within (record { branches = split-open l p k f b ∷ (split-aside l p k f b ∷ waiting); systems = listed }) s e
+    live-apply (divide k f g) b s a h e =
+        after-formed (remainder-by l p k (f .poly) (g .poly)) _ s (live s ≤ m) (λ r er. live-within (state l p waiting listed (divided l p g r b)) s er) e
+    live-apply (close k f) b s a h e =
+        live-replace k (f .poly) (b .Q) (closed l p f b) s (omega (arith, size-remove (f .place) (f .poly) (b .P) a)) e
+
+    live-step : (b : Branch) (s : State) → live (state l p waiting listed b) ≤ m → step l p b waiting listed ≡ next s → live s ≤ m
+    unfolding step
+    live-step b s h e = live-apply (rule-of b) b s (rule-stands b) h e
+
+  -- Where no branch is left, the live count is that of the systems.
+  at-end : (s : State) (n j : ℕ) (ss : List System) → [] ≡ s .branches → live s ≤ m → finished n (s .systems) ≡ finished j ss → systems-size ss ≤ m
+  unfolding live
+  at-end s n j ss q h e = let same : systems-size (s .systems) ≡ systems-size ss = cc in omega arith
+
+  module _ (p : ℕ) where
+    live-run : (left n : ℕ) (s : State) (j : ℕ) (ss : List System) → live s ≤ m → run l p left n s ≡ finished j ss → systems-size ss ≤ m
+    unfolding run
+    live-run zero n s j ss h e = go (s .branches) refl e
+      where
+        go : (bs : List Branch) → bs ≡ s .branches → (elim bs as (λ bs. Ended) [ [] ↦ finished n (s .systems) | b ∷ bs ↦ refused n Steps ]) ≡ finished j ss → systems-size ss ≤ m
+        go [] q e = at-end s n j ss q h e
+        go (b ∷ bs) q e = let z : _≡_ {A = ℕ} 0 1 = cc in absurd (omega arith)
+    live-run (suc left) n s j ss h e = go (s .branches) refl (live-run left (suc n)) e
+      where
+        go : (bs : List Branch) → bs ≡ s .branches → ((s : State) (j : ℕ) (ss : List System) → live s ≤ m → run l p left (suc n) s ≡ finished j ss → systems-size ss ≤ m) →
+            (elim bs as (λ bs. Ended) [ [] ↦ finished n (s .systems) | b ∷ bs ↦ after-step (run l p left (suc n)) n (step l p b bs (s .systems)) ]) ≡ finished j ss → systems-size ss ≤ m
+        go [] q ih e = at-end s n j ss q h e
+        go (b ∷ bs) q ih e = on (step l p b bs (s .systems)) refl e
+          where
+            before : live (record { branches = b ∷ bs; systems = s .systems }) ≤ m
+            before = subst (λ (bs : List Branch). live (record { branches = bs; systems = s .systems }) ≤ m) (sym q) h
+
+            on : (x : Stepped) → step l p b bs (s .systems) ≡ x → after-step (run l p left (suc n)) n x ≡ finished j ss → systems-size ss ≤ m
+            on (next s′) f e = ih s′ j ss (live-step p bs (s .systems) b s′ before f) e
+            on (stopped why) f e = let z : _≡_ {A = ℕ} 0 1 = cc in absurd (omega arith)
+
+  pub listed-within : (limit : ℕ) (t : Input) (n : ℕ) (ss : List System) → run-of l limit t ≡ finished n ss → systems-size ss ≤ m
+  unfolding run-of start
+  listed-within limit t n ss e = go (start l t) refl e
+    where
+      go : (x : Stepped) → start l t ≡ x → after-step (run l (t .modulus) limit 0) 0 x ≡ finished n ss → systems-size ss ≤ m
+      go (next s) f e = live-run (t .modulus) limit 0 s n ss (live-within _ s f) e
+      go (stopped why) f e = let z : _≡_ {A = ℕ} 0 1 = cc in absurd (omega arith)

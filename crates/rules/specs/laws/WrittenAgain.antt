@@ -1,0 +1,124 @@
+-- What an elimination writes can be read again: the same systems in the same order.
+use mathlib.Core.Path.{_≡_, refl, _∙_, ap}
+use mathlib.Core.Bool.{Bool, true, false}
+use mathlib.Core.List.{List, [], _∷_}
+use Prim.Native.Nat.{ℕ, _/_, _≤_}
+use native.Mathlib.Omega.{arith}
+use lib.Dec.{ltb}
+use Rattle.polynomials.specs.Poly.{Poly}
+use Rattle.polynomials.specs.Canonical.{Canonical}
+use Rattle.tables.specs.Read.{Read, good, Input, System, Listing, read-table, read-list}
+use Rattle.tables.specs.Read as tables
+use Rattle.tables.specs.Admissible.{Each as EachRead, Admissible as AdmissibleRead, AdmissibleNumbers}
+use Rattle.tables.specs.laws.Accepted.{accepted-admissible, table-read}
+use Rattle.tables.specs.declared.Reason.the-variants.{Output}
+use Rattle.rules.specs.Run.{Ended, finished, refused, run-of}
+use Rattle.rules.specs.Written.{list-words, list-records}
+use Rattle.rules.specs.Eliminate.{room-of, limits-of, Eliminated, listed, turned-back, delivered, eliminated}
+use Rattle.rules.specs.Writable.{Each, Admissible, Writable}
+use Rattle.rules.specs.Solutions.{Proper}
+use Rattle.rules.specs.laws.Lists.{each-map}
+use Rattle.rules.specs.laws.ReadAgain.{read-again}
+use Rattle.rules.specs.laws.Kept.{Of-system}
+use Rattle.rules.specs.laws.Rising as RisingLaws
+use Rattle.rules.specs.laws.AdmissibleRun.{admissible-run}
+use Rattle.rules.specs.laws.WithinRoom.{listed-within}
+
+-- ── what was listed ──
+-- The list that is written of an input's systems.
+abbrev listing : Input → List System → Listing
+listing t ss = record { modulus = t .modulus; variables = t .variables; systems = ss }
+
+-- The table was read, the run finished, and the words are the list's.
+pub record Delivered (w : List ℕ) (work limit n : ℕ) (ss : List System) (words : List ℕ) : Type 0 where
+  pub input : Input
+  pub accepted : read-table w ≡ good input
+  pub ended : run-of (limits-of work) limit input ≡ finished n ss
+  pub written : words ≡ list-words (listing input ss)
+
+module _ (w : List ℕ) (work output limit n : ℕ) (ss : List System) (words : List ℕ) where
+  of-ended : (t : Input) → read-table w ≡ good t → (x : Ended) → run-of (limits-of work) limit t ≡ x → delivered (output / 4) t x ≡ listed n ss words →
+      Delivered w work limit n ss words
+  of-ended t r (refused m why) q e = let z : _≡_ {A = ℕ} 0 1 = cc in absurd (omega arith)
+  of-ended t r (finished m us) q e = go (ltb (output / 4) (list-records us)) e
+    where
+      go : (c : Bool) →
+          (elim c as (λ c. Eliminated) [ true ↦ turned-back m Output 0 | false ↦ listed m us (list-words (listing t us)) ]) ≡ listed n ss words →
+          Delivered w work limit n ss words
+      go true e = let z : _≡_ {A = ℕ} 0 1 = cc in absurd (omega arith)
+      go false e =
+          record { input = t; accepted = r; ended = cc; written = cc }
+
+  pub listed-delivered : eliminated w work output limit ≡ listed n ss words → Delivered w work limit n ss words
+  unfolding eliminated
+  listed-delivered e = go (read-table w) refl e
+    where
+      go : (r : Read Input) → read-table w ≡ r →
+          (elim r as (λ r. Eliminated) [ good t ↦ delivered (output / 4) t (run-of (limits-of work) limit t) | tables.refused why at ↦ turned-back 0 why at ]) ≡ listed n ss words →
+          Delivered w work limit n ss words
+      go (good t) q e = of-ended t q (run-of (limits-of work) limit t) refl e
+      go (tables.refused why at) q e = let z : _≡_ {A = ℕ} 0 1 = cc in absurd (omega arith)
+
+-- ── it can be written ──
+-- What `tables` says of each member of a list.
+each-read : {A : Type 0} (P Q : A → Type 0) → ((a : A) → P a → Q a) → (xs : List A) → EachRead P xs → Each Q xs
+each-read P Q h [] e = tt
+each-read P Q h (a ∷ xs) e = (h a (e .0), each-read P Q h xs (e .1))
+
+module _ (w : List ℕ) (t : Input) (r : read-table w ≡ good t) where
+  abbrev Holdable : Poly → Type 0
+  Holdable = Admissible (t .modulus) (t .variables)
+
+  each-holdable : (fs : List Poly) → EachRead (AdmissibleRead (t .modulus) (t .variables)) fs → Each Holdable fs
+  each-holdable =
+      each-read (AdmissibleRead (t .modulus) (t .variables)) Holdable
+      (λ f a. record { canonical = a .canonical; few = a .few; places = a .places; small = a .small; absent = a .absent })
+
+  pub accepted-P : Each Holdable (t .P)
+  accepted-P = each-holdable (t .P) (accepted-admissible w t r .zeros)
+
+  pub accepted-Q : Each Holdable (t .Q)
+  accepted-Q = each-holdable (t .Q) (accepted-admissible w t r .nonzeros)
+
+  pub accepted-proper : Proper t
+  accepted-proper =
+      record {
+        prime = accepted-admissible w t r .numbers .prime;
+        canonical-P = each-map Holdable (Canonical (t .modulus)) (λ f h. h .canonical) (t .P) accepted-P;
+        canonical-Q = each-map Holdable (Canonical (t .modulus)) (λ f h. h .canonical) (t .Q) accepted-Q;
+      }
+
+-- The systems of a finished run take fewer records than the work area has.
+few-records : (work limit : ℕ) (t : Input) (n : ℕ) (ss : List System) → run-of (limits-of work) limit t ≡ finished n ss → list-records ss ≤ 65536
+unfolding limits-of room-of list-records
+few-records work limit t n ss e = omega (arith, listed-within (limits-of work) (room-of work) refl limit t n ss e)
+
+pub listed-writable : (w : List ℕ) (work limit : ℕ) (t : Input) (n : ℕ) (ss : List System) → read-table w ≡ good t → run-of (limits-of work) limit t ≡ finished n ss → Writable (listing t ss)
+unfolding limits-of
+listed-writable w work limit t n ss r e =
+    record {
+      prime = table-read w t r .readable .prime;
+      some-variable = a .some-variable;
+      eight-variables = a .eight-variables;
+      few-records = few-records work limit t n ss e;
+      triangular = each-map (Of-system G) (λ s. Each G (s .T)) (λ s h. h .0) ss all;
+      companion = each-map (Of-system G) (λ s. Each G (s .U)) (λ s h. h .1) ss all;
+      rising = RisingLaws.rising (limits-of work) t (accepted-proper w t r) (each-map G _ (λ f h. h .places) (t .P) (accepted-P w t r)) (each-map G _ (λ f h. h .places) (t .Q) (accepted-Q w t r)) limit n ss e;
+    }
+  where
+    G : Poly → Type 0
+    G = Admissible (t .modulus) (t .variables)
+
+    a : AdmissibleNumbers (t .modulus) (t .variables)
+    a = accepted-admissible w t r .numbers
+
+    all : Each (Of-system G) ss
+    all = admissible-run (limits-of work) limit t refl (a .prime) (a .some-variable) (accepted-P w t r) (accepted-Q w t r) n ss e
+
+-- "The written list, read again": the words that an accepted elimination writes are a list, of the systems of the run on the table's input.
+pub written-again : (w : List ℕ) (work output limit n : ℕ) (ss : List System) (words : List ℕ) → eliminated w work output limit ≡ listed n ss words →
+    (t : Input) × (read-table w ≡ good t) × (run-of (limits-of work) limit t ≡ finished n ss) × (read-list words ≡ good (record { modulus = t .modulus; variables = t .variables; systems = ss }))
+written-again w work output limit n ss words e =
+    let d = listed-delivered w work output limit n ss words e in
+    let t = d .input in
+    (t, d .accepted, d .ended, ap read-list (d .written) ∙ read-again (listing t ss) (listed-writable w work limit t n ss (d .accepted) (d .ended)))

@@ -1,0 +1,107 @@
+-- The invariant: what is read from here decides what is read of the whole chain. The measure: the records above `at`.
+use mathlib.Core.Path.{_≡_, sym, _∙_}
+use Prim.Native.Nat.{_-_, _<_}
+use native.Mathlib.Omega.{arith}
+use borrow.Author.Needs.{needs}
+use Rattle.tables.specs.declared.words.Next.the-variants.{To}
+use Rattle.tables.specs.Words.{records, follow}
+use Rattle.tables.specs.Read.{read-heads}
+use Rattle.tables.specs.Solve.{checked}
+use Rattle.tables.specs.Walk.{next}
+use Rattle.tables.specs.laws.Chains.{checked-good, next-inside, Reached, reached-first, reached-end, reached-astray, reached-refused, reached-on, heads-chain}
+use Rattle.tables.proofs.ReadLaws.{fits-word}
+use Rattle.tables.proofs.read.check_heads.Statement.{statement}
+use Rattle.tables.proofs.read.check_heads.Tie as tie
+
+abbrev Inv-loop : tie.InvT-loop
+Inv-loop table p n from first at₀ i₀ at i = Reached (heads-chain table p n) tt at i (checked (read-heads table p n (records table) from first))
+
+abbrev μ-loop : tie.MeasureT-loop
+μ-loop table p n from first at₀ i₀ at i = records table - at
+
+loop-holds : tie.Need-loop-holds Inv-loop μ-loop
+loop-holds c =
+    let a = c .before .args in
+    reached-first (heads-chain (a .table .now) (a .p) (a .n)) tt (a .from) (a .first) (c .before .pre .1)
+
+follow-requires : tie.Need-follow-requires Inv-loop μ-loop
+follow-requires c κs = search needs
+
+enum-told : tie.Need-enum-told Inv-loop μ-loop
+enum-told c = search needs
+
+returns : tie.Need-returns Inv-loop μ-loop
+returns c =
+    let a = c .before .before .before .before .before .args in
+    reached-end (heads-chain (a .table .now) (a .p) (a .n)) (c .before .before .before .loop .inv) (sym (c .before .before .follow .ensures) ∙ c .enum-told .given .1)
+
+enum-told-2 : tie.Need-enum-told-2 Inv-loop μ-loop
+enum-told-2 c = search needs
+
+cast-t13 : tie.Need-cast-t13 Inv-loop μ-loop
+cast-t13 c = fits-word (c .before .before .before .before .before .pre .0) (c .before .before .before .loop .inv .enough .inside)
+
+returns-2 : tie.Need-returns-2 Inv-loop μ-loop
+returns-2 c =
+    let a = c .before .before .before .before .before .args in
+    reached-astray (heads-chain (a .table .now) (a .p) (a .n)) (c .before .before .before .loop .inv) (sym (c .before .before .follow .ensures) ∙ c .enum-told2 .given .1)
+
+enum-known-j : tie.Need-enum-known-j Inv-loop μ-loop
+enum-known-j c = search needs
+
+-- The index leads to record j.
+leads-on :
+    (c : tie.After-j Inv-loop μ-loop)
+    → next (follow (c .before .before .before .before .before .args .table .now) (c .before .before .before .loop .at) (c .before .before .before .loop .i)) ≡ To (c .j .given .0 .0)
+leads-on c = sym (c .before .before .follow .ensures) ∙ c .j .given .1
+
+inside : (c : tie.After-j Inv-loop μ-loop) → (c .before .before .before .loop .at < c .j .given .0 .0) × (c .j .given .0 .0 < records (c .before .before .before .before .before .args .table .now))
+inside c = next-inside _ _ _ _ (leads-on c)
+
+check-head-requires : tie.Need-check-head-requires Inv-loop μ-loop
+check-head-requires c κs = (c .before .before .before .before .before .before .pre .0, inside (c .before) .1)
+
+enum-known-why : tie.Need-enum-known-why Inv-loop μ-loop
+enum-known-why c = search needs
+
+returns-3 : tie.Need-returns-3 Inv-loop μ-loop
+returns-3 c =
+    let a = c .before .before .before .before .before .before .before .before .before .before .args in
+    reached-refused (heads-chain (a .table .now) (a .p) (a .n)) (c .before .before .before .before .before .before .before .before .loop .inv) (leads-on (c .before .before .before .before .before)) (sym (c .before .before .before .check-head .ensures) ∙ c .before .why .given .1)
+
+enum-told-3 : tie.Need-enum-told-3 Inv-loop μ-loop
+enum-told-3 c = search needs
+
+word-requires : tie.Need-word-requires Inv-loop μ-loop
+word-requires c κs = (inside (c .before .before .before .before) .1, omega arith)
+
+loop-less : tie.Need-loop-less Inv-loop μ-loop
+loop-less c = omega (arith, inside (c .before .before .before .before .before) .0, inside (c .before .before .before .before .before) .1)
+
+loop-again : tie.Need-loop-again Inv-loop μ-loop
+loop-again c =
+    let a = c .before .before .before .before .before .before .before .before .before .before .args in
+    let g = checked-good _ (sym (c .before .before .before .check-head .ensures) ∙ c .before .enum-told3 .given .1) in
+    rw (c .word .ensures) (reached-on (heads-chain (a .table .now) (a .p) (a .n)) (c .before .before .before .before .before .before .before .before .loop .inv) (leads-on (c .before .before .before .before .before)) (g .1))
+
+pub check-heads-spec : {M : Type 1} → statement M
+check-heads-spec =
+    tie.close
+    (tie.spec
+    Inv-loop
+    μ-loop
+    loop-holds
+    follow-requires
+    enum-told
+    returns
+    enum-told-2
+    cast-t13
+    returns-2
+    enum-known-j
+    check-head-requires
+    enum-known-why
+    returns-3
+    enum-told-3
+    word-requires
+    loop-less
+    loop-again)

@@ -1,0 +1,140 @@
+-- The invariant: what is read from here, with m terms behind, decides what is read of the whole chain. The measure: the records above `at`.
+use mathlib.Core.Path.{_≡_, sym, _∙_, ap₂}
+use Prim.Native.Nat.{_-_, _<_}
+use native.Mathlib.Omega.{arith}
+use borrow.Author.Needs.{needs}
+use Rattle.polynomials.specs.Packed.{exponents}
+use Rattle.tables.specs.declared.Checked.the-variants.{Good}
+use Rattle.tables.specs.declared.words.Next.the-variants.{To}
+use Rattle.tables.specs.Words.{word, records, follow}
+use Rattle.tables.specs.Read.{first, read-term, read-terms}
+use Rattle.tables.specs.Solve.{checked}
+use Rattle.tables.specs.Walk.{before, next}
+use Rattle.tables.specs.laws.Chains.{checked-good, next-inside, Reached, reached-first, reached-end, reached-astray, reached-refused, terms-chain, term-read}
+use Rattle.tables.proofs.ReadLaws.{fits-word, terms-on}
+use Rattle.tables.proofs.read.check_terms.Statement.{statement}
+use Rattle.tables.proofs.read.check_terms.Tie as tie
+
+abbrev Inv-loop : tie.InvT-loop
+Inv-loop table p n head at₀ i₀ m₀ last₀ at i m last =
+    Reached (terms-chain table p n) (m, before m last) at i (checked (read-terms table p n (records table) 0 first head (word table head 0)))
+
+abbrev μ-loop : tie.MeasureT-loop
+μ-loop table p n head at₀ i₀ m₀ last₀ at i m last = records table - at
+
+word-requires : tie.Need-word-requires Inv-loop μ-loop
+word-requires c κs = search needs
+
+loop-holds : tie.Need-loop-holds Inv-loop μ-loop
+loop-holds c =
+    let a = c .before .before .args in
+    rw (c .word .ensures) (reached-first (terms-chain (a .table .now) (a .p) (a .n)) (0, first) (a .head) (word (a .table .now) (a .head) 0) (c .before .before .pre .1))
+
+follow-requires : tie.Need-follow-requires Inv-loop μ-loop
+follow-requires c κs = search needs
+
+enum-told : tie.Need-enum-told Inv-loop μ-loop
+enum-told c = search needs
+
+returns : tie.Need-returns Inv-loop μ-loop
+returns c =
+    let a = c .before .before .before .before .before .before .args in
+    reached-end (terms-chain (a .table .now) (a .p) (a .n)) (c .before .before .before .loop .inv) (sym (c .before .before .follow .ensures) ∙ c .enum-told .given .1)
+
+enum-told-2 : tie.Need-enum-told-2 Inv-loop μ-loop
+enum-told-2 c = search needs
+
+cast-t14 : tie.Need-cast-t14 Inv-loop μ-loop
+cast-t14 c = fits-word (c .before .before .before .before .before .before .pre .0) (c .before .before .before .loop .inv .enough .inside)
+
+returns-2 : tie.Need-returns-2 Inv-loop μ-loop
+returns-2 c =
+    let a = c .before .before .before .before .before .before .args in
+    reached-astray (terms-chain (a .table .now) (a .p) (a .n)) (c .before .before .before .loop .inv) (sym (c .before .before .follow .ensures) ∙ c .enum-told2 .given .1)
+
+enum-known-j : tie.Need-enum-known-j Inv-loop μ-loop
+enum-known-j c = search needs
+
+-- The index leads to record j.
+leads-on :
+    (c : tie.After-j Inv-loop μ-loop)
+    → next (follow (c .before .before .before .before .before .before .args .table .now) (c .before .before .before .loop .at) (c .before .before .before .loop .i)) ≡ To (c .j .given .0 .0)
+leads-on c = sym (c .before .before .follow .ensures) ∙ c .j .given .1
+
+inside : (c : tie.After-j Inv-loop μ-loop) → (c .before .before .before .loop .at < c .j .given .0 .0) × (c .j .given .0 .0 < records (c .before .before .before .before .before .before .args .table .now))
+inside c = next-inside _ _ _ _ (leads-on c)
+
+check-term-requires : tie.Need-check-term-requires Inv-loop μ-loop
+check-term-requires c κs = (c .before .before .before .before .before .before .before .pre .0, inside (c .before) .1)
+
+enum-known-why : tie.Need-enum-known-why Inv-loop μ-loop
+enum-known-why c = search needs
+
+returns-3 : tie.Need-returns-3 Inv-loop μ-loop
+returns-3 c =
+    let a = c .before .before .before .before .before .before .before .before .before .before .before .args in
+    reached-refused (terms-chain (a .table .now) (a .p) (a .n)) (c .before .before .before .before .before .before .before .before .loop .inv) (leads-on (c .before .before .before .before .before)) (sym (c .before .before .before .check-term .ensures) ∙ c .before .why .given .1)
+
+enum-told-3 : tie.Need-enum-told-3 Inv-loop μ-loop
+enum-told-3 c = search needs
+
+word-requires-2 : tie.Need-word-requires-2 Inv-loop μ-loop
+word-requires-2 c κs = (inside (c .before .before .before .before) .1, omega arith)
+
+word-requires-3 : tie.Need-word-requires-3 Inv-loop μ-loop
+word-requires-3 c κs = (inside (c .before .before .before .before .before) .1, omega arith)
+
+packed-requires : tie.Need-packed-requires Inv-loop μ-loop
+packed-requires c κs = search needs
+
+-- The term in record j is accepted.
+accepts :
+    (c : tie.After-enum-told3 Inv-loop μ-loop)
+    → checked (read-term (c .before .before .before .before .before .before .before .before .before .before .args .table .now) (c .before .before .before .before .before .before .before .before .before .before .args .p) (c .before .before .before .before .before .before .before .before .before .before .args .n) (c .before .before .before .before .before .before .before .loop .m) (before (c .before .before .before .before .before .before .before .loop .m) (c .before .before .before .before .before .before .before .loop .last)) (c .before .before .before .before .j .given .0 .0)) ≡ Good
+accepts c = sym (c .before .before .check-term .ensures) ∙ c .enum-told3 .given .1
+
+add-m : tie.Need-add-m Inv-loop μ-loop
+add-m c =
+    let a = c .before .before .before .before .before .before .before .before .before .before .before .before .before .args in
+    let few : c .before .before .before .before .before .before .before .before .before .before .loop .m < 256 = term-read (a .table .now) (a .p) (a .n) (checked-good _ (accepts (c .before .before .before)) .1) .few in
+    record { fits = omega arith }
+
+word-requires-4 : tie.Need-word-requires-4 Inv-loop μ-loop
+word-requires-4 c κs = (inside (c .before .before .before .before .before .before .before) .1, omega arith)
+
+loop-less : tie.Need-loop-less Inv-loop μ-loop
+loop-less c = omega (arith, inside (c .before .before .before .before .before .before .before .before) .0, inside (c .before .before .before .before .before .before .before .before) .1)
+
+loop-again : tie.Need-loop-again Inv-loop μ-loop
+loop-again c =
+    let a = c .before .before .before .before .before .before .before .before .before .before .before .before .before .before .args in
+    let l = c .before .before .before .before .before .before .before .before .before .before .before .loop in
+    terms-on (a .table .now) (a .p) (a .n) (l .m) (l .last) (c .before .packed .result) (c .word4 .result) (l .inv) (leads-on (c .before .before .before .before .before .before .before .before)) (accepts (c .before .before .before .before))
+    (c .before .packed .ensures .1 ∙ ap₂ exponents (c .before .before .before .word2 .ensures) (c .before .before .word3 .ensures)) (c .word4 .ensures)
+
+pub check-terms-spec : {M : Type 1} → statement M
+check-terms-spec =
+    tie.close
+    (tie.spec
+    Inv-loop
+    μ-loop
+    word-requires
+    loop-holds
+    follow-requires
+    enum-told
+    returns
+    enum-told-2
+    cast-t14
+    returns-2
+    enum-known-j
+    check-term-requires
+    enum-known-why
+    returns-3
+    enum-told-3
+    word-requires-2
+    word-requires-3
+    packed-requires
+    add-m
+    word-requires-4
+    loop-less
+    loop-again)

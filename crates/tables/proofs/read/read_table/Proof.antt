@@ -1,0 +1,97 @@
+-- The header, then P's chain, then Q's, as `read-table` does.
+use mathlib.Core.Path.{_≡_, sym, _∙_}
+use native.Mathlib.Omega.{arith}
+use Rattle.tables.specs.declared.Checked.the-variants.{Good}
+use Rattle.tables.specs.Words.{word}
+use Rattle.tables.specs.Read.{read-header}
+use Rattle.tables.specs.Solve.{checked}
+use Rattle.tables.specs.Walk.{Readable, accepted}
+use Rattle.tables.specs.laws.Chains.{header-readable, readable-words}
+use Rattle.tables.proofs.ReadLaws.{table-refused, table-refused-P, table-refused-Q, table-accepted}
+use borrow.Author.Needs.{needs}
+use Rattle.tables.proofs.read.read_table.Statement.{statement}
+use Rattle.tables.proofs.read.read_table.Tie as tie
+
+check-header-requires : tie.Need-check-header-requires
+check-header-requires c κs = search needs
+
+enum-known-why : tie.Need-enum-known-why
+enum-known-why c = search needs
+
+returns : tie.Need-returns
+returns c = table-refused (c .before .before .before .before .before .args .table .now) (sym (c .before .before .before .check-header .ensures) ∙ c .before .why .given .1)
+
+enum-told : tie.Need-enum-told
+enum-told c = search needs
+
+-- The header is accepted.
+header : (c : tie.After-enum-told) → checked (read-header (c .before .before .before .before .args .table .now) accepted) ≡ Good
+header c = sym (c .before .before .check-header .ensures) ∙ c .enum-told .given .1
+
+readable : (c : tie.After-enum-told) → Readable (c .before .before .before .before .args .table .now) (word (c .before .before .before .before .args .table .now) 0 0) (word (c .before .before .before .before .args .table .now) 0 1)
+readable c = header-readable (c .before .before .before .before .args .table .now) (header c)
+
+shared-slice-read-p : tie.Need-shared-slice-read-p
+shared-slice-read-p c = omega (arith, readable-words (readable (c .before)))
+
+shared-slice-read-n : tie.Need-shared-slice-read-n
+shared-slice-read-n c = omega (arith, readable-words (readable (c .before .before)))
+
+shared-slice-read-check-heads : tie.Need-shared-slice-read-check-heads
+shared-slice-read-check-heads c = omega (arith, readable-words (readable (c .before .before .before)))
+
+check-heads-requires : tie.Need-check-heads-requires
+check-heads-requires c κs = let r = readable (c .before .before .before) in (r, omega (arith, readable-words r))
+
+enum-known-why-2 : tie.Need-enum-known-why-2
+enum-known-why-2 c = search needs
+
+returns-2 : tie.Need-returns-2
+returns-2 c = table-refused-P (c .before .before .before .before .before .before .before .before .before .before .before .args .table .now) (header (c .before .before .before .before .before .before .before)) (sym (c .before .before .before .check-heads .ensures) ∙ c .before .why2 .given .1)
+
+enum-told-2 : tie.Need-enum-told-2
+enum-told-2 c = search needs
+
+shared-slice-read-check-heads-2 : tie.Need-shared-slice-read-check-heads-2
+shared-slice-read-check-heads-2 c = omega (arith, readable-words (readable (c .before .before .before .before .before .before .before)))
+
+check-heads-requires-2 : tie.Need-check-heads-requires-2
+check-heads-requires-2 c κs = let r = readable (c .before .before .before .before .before .before .before) in (r, omega (arith, readable-words r))
+
+enum-known-why-3 : tie.Need-enum-known-why-3
+enum-known-why-3 c = search needs
+
+returns-3 : tie.Need-returns-3
+returns-3 c =
+    table-refused-Q (c .before .before .before .before .before .before .before .before .before .before .before .before .before .before .before .args .table .now) (header (c .before .before .before .before .before .before .before .before .before .before .before)) (sym (c .before .before .before .before .before .before .before .check-heads .ensures) ∙ c .before .before .before .before .before .enum-told2 .given .1)
+    (sym (c .before .before .before .check-heads2 .ensures) ∙ c .before .why3 .given .1)
+
+enum-told-3 : tie.Need-enum-told-3
+enum-told-3 c = search needs
+
+returns-4 : tie.Need-returns-4
+returns-4 c =
+    table-accepted (c .before .before .before .before .before .before .before .before .before .before .before .before .before .before .args .table .now) (header (c .before .before .before .before .before .before .before .before .before .before)) (sym (c .before .before .before .before .before .before .check-heads .ensures) ∙ c .before .before .before .before .enum-told2 .given .1)
+    (sym (c .before .before .check-heads2 .ensures) ∙ c .enum-told3 .given .1)
+
+pub read-table-spec : {M : Type 1} → statement M
+read-table-spec =
+    tie.close
+    (tie.spec
+    check-header-requires
+    enum-known-why
+    returns
+    enum-told
+    shared-slice-read-p
+    shared-slice-read-n
+    shared-slice-read-check-heads
+    check-heads-requires
+    enum-known-why-2
+    returns-2
+    enum-told-2
+    shared-slice-read-check-heads-2
+    check-heads-requires-2
+    enum-known-why-3
+    returns-3
+    enum-told-3
+    returns-4)

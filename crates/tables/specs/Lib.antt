@@ -1,0 +1,7 @@
+pub mod Reason
+pub mod Words
+pub mod Read
+pub mod Solve
+pub mod Walk
+pub mod laws
+pub mod Admissible

@@ -1,0 +1,4 @@
+pub mod Chains
+pub mod Linked
+pub mod Accepted
+pub mod Solved

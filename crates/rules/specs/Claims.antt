@@ -9,11 +9,15 @@ use Rattle.residues.specs.Field.{Field, Contains}
 use Rattle.polynomials.specs.Canonical.{All}
 use Rattle.polynomials.specs.Division.{leader, initial}
 use Rattle.polynomials.specs.Value.{value-modulo}
-use Rattle.tables.specs.Read.{System, Input}
+use Rattle.polynomials.specs.Bounds.{standard}
+use Rattle.tables.specs.Read.{good, System, Input, read-table, read-list}
 use Rattle.tables.specs.Solve.{solves, first-solved}
+use Rattle.tables.specs.Admissible.{Admissible, AdmissibleInput}
 use Rattle.tables.specs.declared.Reason.{Reason}
 use Rattle.rules.specs.Room.{Limits}
 use Rattle.rules.specs.Run.{finished, refused, run-of}
+use Rattle.rules.specs.Eliminate.{limits-of, listed, eliminated}
+use Rattle.rules.specs.Jobs
 use Rattle.rules.specs.Writable.{Each, Rising}
 use Rattle.rules.specs.Solutions.{Some, Solves-input, Solves-system, NonZero-initial, Proper}
 use Rattle.rules.specs.laws.Points
@@ -21,6 +25,8 @@ use Rattle.rules.specs.laws.Initials
 use Rattle.rules.specs.laws.Rising as RisingLaws
 use Rattle.rules.specs.laws.Runs
 use Rattle.rules.specs.laws.Answers
+use Rattle.rules.specs.laws.AdmissibleRun
+use Rattle.rules.specs.laws.WrittenAgain
 
 -- A run that finished, from an input with a prime modulus and canonical polynomials.
 module _ (l : Limits) (limit : ℕ) (t : Input) (proper : Proper t) (n : ℕ) (ss : List System) (ended : run-of l limit t ≡ finished n ss) where
@@ -50,3 +56,18 @@ finished-steps l limit t n ss e = Runs.finished-steps l limit t n ss e
 
 pub refused-steps : (l : Limits) (limit : ℕ) (t : Input) (n : ℕ) (why : Reason) → run-of l limit t ≡ refused n why → n ≤ limit
 refused-steps l limit t n why e = Runs.refused-steps l limit t n why e
+
+-- Within the bounds of document 01, each polynomial of a listed system is one that a table can hold, where those of the input are.
+pub admissible-run : (l : Limits) (limit : ℕ) (t : Input) → l .bounds ≡ standard → AdmissibleInput t → (n : ℕ) (ss : List System) → run-of l limit t ≡ finished n ss →
+    Each (λ s. Each (Admissible (t .modulus) (t .variables)) (s .T) × Each (Admissible (t .modulus) (t .variables)) (s .U)) ss
+admissible-run l limit t b a n ss e = AdmissibleRun.admissible-run l limit t b (a .numbers .prime) (a .numbers .some-variable) (a .zeros) (a .nonzeros) n ss e
+
+-- "The written list, read again": the words that an accepted elimination writes are a list, of the systems of the run on the table's input.
+pub written-again : (w : List ℕ) (work output limit n : ℕ) (ss : List System) (words : List ℕ) → eliminated w work output limit ≡ listed n ss words →
+    (t : Input) × (read-table w ≡ good t) × (run-of (limits-of work) limit t ≡ finished n ss)
+    × (read-list words ≡ good (record { modulus = t .modulus; variables = t .variables; systems = ss }))
+written-again w work output limit n ss words e = WrittenAgain.written-again w work output limit n ss words e
+
+-- The starred jobs of document 01.
+pub starred-jobs : Each Jobs.Holds Jobs.jobs
+starred-jobs = Jobs.jobs-hold

@@ -75,7 +75,7 @@ abbrev systems-of : Ended → List System
 systems-of (finished n ss) = ss
 systems-of (refused n why) = []
 
-abbrev Holds : Job → Type 0
+abbrev pub Holds : Job → Type 0
 Holds j =
     (run-of (record { bounds = standard; of-room = at-most (j .room) }) (j .limit) (j .input) ≡ j .ends)
     × Each (λ x. first-solved (j .input .modulus) x 1 (systems-of (j .ends)) ≡ 0) (j .unsolved)

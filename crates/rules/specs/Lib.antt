@@ -10,3 +10,4 @@ pub mod laws
 pub mod Solutions
 pub mod Claims
 pub mod Jobs
+pub mod Ahead

@@ -1,35 +1,11 @@
 -- The lists that can be written as a table: what the numbers, the polynomials and their order must be.
 use mathlib.Core.Path.{_≡_}
 use mathlib.Core.Bool.{true}
-use mathlib.Core.List.{List, [], _∷_}
-use Prim.Native.Nat.{ℕ, _≤_, _<_}
-use lib.ListN.{length, getD}
+use Prim.Native.Nat.{_≤_}
 use Rattle.residues.specs.Prime.{is-modulus}
-use Rattle.polynomials.specs.Poly.{Poly}
-use Rattle.polynomials.specs.Canonical.{Canonical, All}
-use Rattle.polynomials.specs.Division.{leader}
 use Rattle.tables.specs.Read.{Listing}
+pub use Rattle.tables.specs.Admissible.{Each, Rising, Admissible}
 use Rattle.rules.specs.Written.{list-records}
-
--- P holds of each member of a list.
-module _ {ℓ} {A : Type 0} (P : A → Type ℓ) where
-  abbrev pub Each : List A → Type ℓ
-  Each [] = Unit {ℓ}
-  Each (a ∷ xs) = P a × Each xs
-
--- "Leading variables rise: each polynomial of T has one, higher than that of the polynomial before it."
-abbrev pub Rising : ℕ → List Poly → Type 0
-Rising last [] = Unit {0}
-Rising last (f ∷ fs) = (last < leader f) × Rising (leader f) fs
-
--- A polynomial in n variables over the residues modulo p that a table can hold: at most 256 terms; exponents of eight variables, "0 to 255
--- each", and 0 for each variable above vn.
-pub record Admissible (p n : ℕ) (f : Poly) : Type 0 where
-  pub canonical : Canonical p f
-  pub few : length f ≤ 256
-  pub places : All (λ e. length e ≡ 8) f
-  pub small : (k : ℕ) → All (λ e. getD e k 0 ≤ 255) f
-  pub absent : (k : ℕ) → n ≤ k → All (λ e. getD e k 0 ≡ 0) f
 
 -- A list whose words are a table's: its numbers and polynomials are such as a table may hold, its records are not too many, and each T rises.
 pub record Writable (l : Listing) : Type 0 where

@@ -15,3 +15,4 @@ pub mod Answers
 pub mod AdmissibleRun
 pub mod WithinRoom
 pub mod WrittenAgain
+pub mod Least

@@ -25,7 +25,7 @@ use Rattle.rules.specs.Room.{Limits}
 use Rattle.rules.specs.Step.{remainder-by}
 use Rattle.rules.specs.Run.{finished, run-of}
 use Rattle.rules.specs.Writable.{Each, Admissible}
-use Rattle.rules.specs.laws.Taken.{remainder-by-is}
+use Rattle.rules.specs.laws.Taken.{tested-within, and-then-within, remainder-by-is}
 use Rattle.rules.specs.laws.Kept.{Closed, Of-system, canonical-closed, listed-keep}
 use Rattle.rules.specs.laws.Rising.{places-closed}
 
@@ -83,19 +83,13 @@ unfolding difference
 low-difference p f g u v k = degree-multiple k 255 p (p - 1) g f (v k) (u k)
 
 -- ── what is formed within the standard bounds is small ──
-tested-few : (f h : Poly) → tested standard f ≡ within h → (f ≡ h) × (length f ≤ 256)
+few-tested : (f h : Poly) → tested standard f ≡ within h → length h ≤ 256
 unfolding tested over
-tested-few f h e = go (ltb 256 (length f)) refl e
+few-tested f h e = go (ltb 256 (length f)) refl e
   where
-    go : (b : Bool) → ltb 256 (length f) ≡ b → (elim b as (λ b. Bounded) [ true ↦ terms-passed | false ↦ within f ]) ≡ within h → (f ≡ h) × (length f ≤ 256)
+    go : (b : Bool) → ltb 256 (length f) ≡ b → (elim b as (λ b. Bounded) [ true ↦ terms-passed | false ↦ within f ]) ≡ within h → length h ≤ 256
     go true q e = let z : _≡_ {A = ℕ} 0 1 = cc in absurd (omega arith)
-    go false q e = (cc, ltb-false 256 (length f) q)
-
--- What follows a polynomial that was formed follows one that is so.
-after-formed : (P : Poly → Type 0) (x : Bounded) (k : Poly → Bounded) (h : Poly) → ((f : Poly) → x ≡ within f → k f ≡ within h → P h) → and-then x k ≡ within h → P h
-after-formed P (within f) k h u e = u f refl e
-after-formed P degree-passed k h u e = let z : _≡_ {A = ℕ} 0 1 = cc in absurd (omega arith)
-after-formed P terms-passed k h u e = let z : _≡_ {A = ℕ} 0 1 = cc in absurd (omega arith)
+    go false q e = let s : f ≡ h = cc in subst (λ (g : Poly). length g ≤ 256) s (ltb-false 256 (length f) q)
 
 module _ (p : ℕ) where
   low-product : (f g h : Poly) → bounded-product standard p f g ≡ within h → Low h
@@ -107,16 +101,18 @@ module _ (p : ℕ) where
       go : (b : Bool) → degrees-over (at-most 255) (t ∷ f) (u ∷ g) ≡ b →
           (elim b as (λ b. Bounded) [ true ↦ degree-passed | false ↦ tested standard (product p (t ∷ f) (u ∷ g)) ]) ≡ within h → Low h
       go true q e = let z : _≡_ {A = ℕ} 0 1 = cc in absurd (omega arith)
-      go false q e = subst Low (tested-few (product p (t ∷ f) (u ∷ g)) h e .0)
+      go false q e = subst Low (tested-within standard p (product p (t ∷ f) (u ∷ g)) h e)
           (λ (k : ℕ). omega (arith, degree-product k p (t ∷ f) (u ∷ g), degrees-over-none 255 (t ∷ f) (u ∷ g) q k))
 
   small-round : (k d : ℕ) (G R h : Poly) → bounded-round standard p k d G R ≡ within h → Small h
   unfolding bounded-round bounded-difference
   small-round k d G R h e =
-      after-formed Small (bounded-product standard p (coefficient k d G) R) _ h
-      (λ x ex. after-formed Small (bounded-product standard p (factor k d R) G) _ h
-      (λ y ey ed. let t = tested-few (difference p x y) h ed in
-      subst Small (t .0) (t .1, low-difference p x y (low-product (coefficient k d G) R x ex) (low-product (factor k d R) G y ey)))) e
+      let first = and-then-within standard p (bounded-product standard p (coefficient k d G) R) _ h e in
+      let second = and-then-within standard p (bounded-product standard p (factor k d R) G) _ h (first .2) in (
+        few-tested (difference p (first .0) (second .0)) h (second .2),
+        subst Low (tested-within standard p (difference p (first .0) (second .0)) h (second .2))
+            (low-difference p (first .0) (second .0) (low-product (coefficient k d G) R (first .0) (first .1)) (low-product (factor k d R) G (second .0) (second .1))),
+      )
 
   small-remainder : (k d : ℕ) (G : Poly) (n : ℕ) (R h : Poly) → Small R → bounded-remainder standard p k d G n R ≡ within h → Small h
   unfolding bounded-remainder
@@ -125,7 +121,9 @@ module _ (p : ℕ) where
     where
       go : (b : Bool) → ((R h : Poly) → Small R → bounded-remainder standard p k d G n R ≡ within h → Small h) →
           (elim b as (λ b. Bounded) [ true ↦ and-then (bounded-round standard p k d G R) (bounded-remainder standard p k d G n) | false ↦ within R ]) ≡ within h → Small h
-      go true ih e = after-formed Small (bounded-round standard p k d G R) (bounded-remainder standard p k d G n) h (λ r er. ih r h (small-round k d G R r er)) e
+      go true ih e =
+          let r = and-then-within standard p (bounded-round standard p k d G R) (bounded-remainder standard p k d G n) h e in
+          ih (r .0) h (small-round k d G R (r .0) (r .1)) (r .2)
       go false ih e = let s : R ≡ h = cc in subst Small s u
 
 small-closed : (l : Limits) (p : ℕ) → l .bounds ≡ standard → Closed l p Small

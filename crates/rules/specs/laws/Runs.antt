@@ -14,7 +14,7 @@ use Rattle.rules.specs.laws.Taken.{Taken, step-taken, within-room-next}
 
 -- ── what every step keeps ──
 module _ {ℓ} (l : Limits) (p : ℕ) (Inv : State → Type ℓ)
-    (keeps : (b : Branch) (waiting : List Branch) (listed : List System) (s : State) → Taken l p b waiting listed s →
+    (keeps : (b : Branch) (waiting : List Branch) (listed : List System) (s : State) → step l p b waiting listed ≡ next s →
     Inv (record { branches = b ∷ waiting; systems = listed }) → Inv s) where
   at-end : (s : State) (n m : ℕ) (ss : List System) → [] ≡ s .branches → finished n (s .systems) ≡ finished m ss → Inv s → Inv (record { branches = []; systems = ss })
   at-end s n m ss q e h = subst Inv same h
@@ -39,7 +39,7 @@ module _ {ℓ} (l : Limits) (p : ℕ) (Inv : State → Type ℓ)
           (b : Branch) (bs : List Branch) → (b ∷ bs) ≡ s .branches → (x : Stepped) → step l p b bs (s .systems) ≡ x →
           after-step (run l p left (suc n)) n x ≡ finished m ss → Inv (record { branches = []; systems = ss })
       onward ih b bs q (next s′) f e =
-          ih s′ m ss e (keeps b bs (s .systems) s′ (step-taken l p bs (s .systems) b s′ f) (subst Inv (λ i. record { branches = sym q i; systems = s .systems }) h))
+          ih s′ m ss e (keeps b bs (s .systems) s′ f (subst Inv (λ i. record { branches = sym q i; systems = s .systems }) h))
       onward ih b bs q (stopped why) f e = let z : _≡_ {A = ℕ} 0 1 = cc in absurd (omega arith)
 
       go : ((s : State) (m : ℕ) (ss : List System) → run l p left (suc n) s ≡ finished m ss → Inv s → Inv (record { branches = []; systems = ss })) →
@@ -57,16 +57,24 @@ started : (l : Limits) (t : Input) (s : State) → start l t ≡ next s → firs
 unfolding start
 started l t s e = within-room-next l (t .modulus) (first-state t) s e
 
-module _ {ℓ} (l : Limits) (t : Input) (Inv : State → Type ℓ)
-    (keeps : (b : Branch) (waiting : List Branch) (listed : List System) (s : State) → Taken l (t .modulus) b waiting listed s →
-    Inv (record { branches = b ∷ waiting; systems = listed }) → Inv s) where
-  pub run-of-keeps : (limit n : ℕ) (ss : List System) → run-of l limit t ≡ finished n ss → Inv (first-state t) → Inv (record { branches = []; systems = ss })
+module _ {ℓ} (l : Limits) (t : Input) (Inv : State → Type ℓ) where
+  pub run-of-steps-keep : ((b : Branch) (waiting : List Branch) (listed : List System) (s : State) → step l (t .modulus) b waiting listed ≡ next s →
+      Inv (record { branches = b ∷ waiting; systems = listed }) → Inv s) →
+      (limit n : ℕ) (ss : List System) → run-of l limit t ≡ finished n ss → ((s : State) → start l t ≡ next s → Inv s) → Inv (record { branches = []; systems = ss })
   unfolding run-of
-  run-of-keeps limit n ss e h = go (start l t) (started l t) e
+  run-of-steps-keep keeps limit n ss e h = go (start l t) h e
     where
-      go : (x : Stepped) → ((s : State) → x ≡ next s → first-state t ≡ s) → after-step (run l (t .modulus) limit 0) 0 x ≡ finished n ss → Inv (record { branches = []; systems = ss })
-      go (next s) q e = run-keeps l (t .modulus) Inv keeps limit 0 s n ss e (subst Inv (q s refl) h)
+      go : (x : Stepped) → ((s : State) → x ≡ next s → Inv s) → after-step (run l (t .modulus) limit 0) 0 x ≡ finished n ss → Inv (record { branches = []; systems = ss })
+      go (next s) q e = run-keeps l (t .modulus) Inv keeps limit 0 s n ss e (q s refl)
       go (stopped why) q e = let z : _≡_ {A = ℕ} 0 1 = cc in absurd (omega arith)
+
+  -- What each rule keeps.
+  pub run-of-keeps : ((b : Branch) (waiting : List Branch) (listed : List System) (s : State) → Taken l (t .modulus) b waiting listed s →
+      Inv (record { branches = b ∷ waiting; systems = listed }) → Inv s) →
+      (limit n : ℕ) (ss : List System) → run-of l limit t ≡ finished n ss → Inv (first-state t) → Inv (record { branches = []; systems = ss })
+  run-of-keeps keeps limit n ss e h =
+      run-of-steps-keep (λ b waiting listed s f. keeps b waiting listed s (step-taken l (t .modulus) waiting listed b s f)) limit n ss e
+      (λ s f. subst Inv (started l t s f) h)
 
 -- ── steps ──
 abbrev steps-of : Ended → ℕ

@@ -22,7 +22,7 @@ use Rattle.rules.specs.laws.Pivot.{pivot-stands, pivot-leads, OtherIs, o
 
 -- ── a remainder formed within bounds ──
 module _ (b : Bounds) (p : ℕ) where
-  tested-within : (f h : Poly) → tested b f ≡ within h → f ≡ h
+  pub tested-within : (f h : Poly) → tested b f ≡ within h → f ≡ h
   unfolding tested
   tested-within f h e = go (over (b .of-terms) (length f)) e
     where
@@ -46,7 +46,7 @@ module _ (b : Bounds) (p : ℕ) where
       go false e = tested-within (product p (t ∷ f) (u ∷ g)) h e
 
   -- What follows a polynomial that was formed was formed too.
-  and-then-within : (x : Bounded) (k : Poly → Bounded) (h : Poly) → and-then x k ≡ within h → (f : Poly) × (x ≡ within f) × (k f ≡ within h)
+  pub and-then-within : (x : Bounded) (k : Poly → Bounded) (h : Poly) → and-then x k ≡ within h → (f : Poly) × (x ≡ within f) × (k f ≡ within h)
   and-then-within (within f) k h e = (f, refl, e)
   and-then-within degree-passed k h e = (h, e, cc)
   and-then-within terms-passed k h e = (h, e, cc)
@@ -119,7 +119,7 @@ module _ (l : Limits) (p : ℕ) where
       go true e = cc
       go false e = cc
 
-  after-division-next : (x : Bounded) (k : Poly → Stepped) (s : State) → after-division x k ≡ next s → (r : Poly) × (x ≡ within r) × (k r ≡ next s)
+  pub after-division-next : (x : Bounded) (k : Poly → Stepped) (s : State) → after-division x k ≡ next s → (r : Poly) × (x ≡ within r) × (k r ≡ next s)
   after-division-next (within r) k s e = (r, refl, e)
   after-division-next degree-passed k s e = ([], cc, cc)
   after-division-next terms-passed k s e = ([], cc, cc)

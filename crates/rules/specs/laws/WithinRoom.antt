@@ -9,16 +9,18 @@ use lib.Dec.{ltb}
 use lib.ListN.{length}
 use Rattle.polynomials.specs.Poly.{Poly}
 use Rattle.polynomials.specs.Division.{initial}
-use Rattle.polynomials.specs.Bounds.{at-most, over, Bounded, within, degree-passed, terms-passed}
+use Rattle.polynomials.specs.Bounds.{at-most, over}
 use Rattle.tables.specs.Read.{System, Input}
-use Rattle.tables.specs.declared.Reason.the-variants.{Room, Steps}
+use Rattle.tables.specs.declared.Reason.the-variants.{Room}
 use Rattle.rules.specs.Branch.{Branch, member, is-one, some-one, some-zero, highest-leader, Chosen, pivot, remove, Found, none, found, other}
 use Rattle.rules.specs.Room.{Limits, State, polynomials-size, branch-size, branches-size, systems-size, live}
 use Rattle.rules.specs.Rule.{Rule, drop, list, split, divide, close, divide-or-close, rule-with, rule-of-P, rule-of}
-use Rattle.rules.specs.Step.{Stepped, next, stopped, within-room, after-division, split-open, split-aside, divided, closed, with-Q, state, remainder-by, replace, apply, step}
-use Rattle.rules.specs.Run.{Ended, finished, refused, after-step, run, start, run-of}
+use Rattle.rules.specs.Step.{Stepped, next, stopped, within-room, split-open, split-aside, divided, closed, with-Q, state, remainder-by, replace, apply, step}
+use Rattle.rules.specs.Run.{finished, start, run-of}
 use Rattle.rules.specs.laws.Lists.{At}
 use Rattle.rules.specs.laws.Pivot.{pivot-stands}
+use Rattle.rules.specs.laws.Taken.{after-division-next}
+use Rattle.rules.specs.laws.Runs.{run-of-steps-keep}
 
 -- ── sizes ──
 size-remove : (i : ℕ) (f : Poly) (fs : List Poly) → At i f fs → polynomials-size fs ≡ suc (length f + polynomials-size (remove i fs))
@@ -71,11 +73,6 @@ rule-stands b = go (some-one (b .P) || some-zero (b .Q))
 abbrev tested : Bool → Stepped → Stepped
 tested c x = elim c as (λ c. Stepped) [ true ↦ stopped Room | false ↦ x ]
 
-after-formed : (x : Bounded) (k : Poly → Stepped) (s : State) (R : Type 0) → ((r : Poly) → k r ≡ next s → R) → after-division x k ≡ next s → R
-after-formed (within r) k s R u e = u r e
-after-formed degree-passed k s R u e = let z : _≡_ {A = ℕ} 0 1 = cc in absurd (omega arith)
-after-formed terms-passed k s R u e = let z : _≡_ {A = ℕ} 0 1 = cc in absurd (omega arith)
-
 module _ (l : Limits) (m : ℕ) (bound : l .of-room ≡ at-most m) where
   over-room : (n : ℕ) (x : Stepped) (s : State) → tested (over (l .of-room) n) x ≡ next s → (n ≤ m) × (x ≡ next s)
   unfolding over
@@ -94,9 +91,9 @@ module _ (l : Limits) (m : ℕ) (bound : l .of-room ≡ at-most m) where
     unfolding replace
     live-replace k f [] b s h e = let q : state l p waiting listed b ≡ s = cc in subst (λ (r : State). live r ≤ m) q h
     live-replace k f (g ∷ gs) b s h e =
-        after-formed (remainder-by l p k f g) _ s (live s ≤ m)
-        (λ r er. let u = over-room (polynomials-size gs + live (state l p waiting listed (with-Q l p r b))) (replace l p waiting listed k f gs (with-Q l p r b)) s er in
-        live-replace k f gs (with-Q l p r b) s (omega (arith, u .0)) (u .1)) e
+        let d = after-division-next l p (remainder-by l p k f g) _ s e in
+        let u = over-room (polynomials-size gs + live (state l p waiting listed (with-Q l p (d .0) b))) (replace l p waiting listed k f gs (with-Q l p (d .0) b)) s (d .2) in
+        live-replace k f gs (with-Q l p (d .0) b) s (omega (arith, u .0)) (u .1)
 
     live-apply : (r : Rule) (b : Branch) (s : State) → Stands-in r b → live (state l p waiting listed b) ≤ m → apply l p waiting listed r b ≡ next s → live s ≤ m
     unfolding apply live branch-size branches-size polynomials-size
@@ -108,45 +105,15 @@ module _ (l : Limits) (m : ℕ) (bound : l .of-room ≡ at-most m) where
         subst (λ (r : State). live r ≤ m) q (omega (arith, size-append listed new))
     live-apply (split k f) b s a h e = live-within (record { branches = split-open l p k f b ∷ (split-aside l p k f b ∷ waiting); systems = listed }) s e
     live-apply (divide k f g) b s a h e =
-        after-formed (remainder-by l p k (f .poly) (g .poly)) _ s (live s ≤ m) (λ r er. live-within (state l p waiting listed (divided l p g r b)) s er) e
+        let d = after-division-next l p (remainder-by l p k (f .poly) (g .poly)) _ s e in
+        live-within (state l p waiting listed (divided l p g (d .0) b)) s (d .2)
     live-apply (close k f) b s a h e =
         live-replace k (f .poly) (b .Q) (closed l p f b) s (omega (arith, size-remove (f .place) (f .poly) (b .P) a)) e
 
-    live-step : (b : Branch) (s : State) → live (state l p waiting listed b) ≤ m → step l p b waiting listed ≡ next s → live s ≤ m
-    unfolding step
-    live-step b s h e = live-apply (rule-of b) b s (rule-stands b) h e
-
-  -- Where no branch is left, the live count is that of the systems.
-  at-end : (s : State) (n j : ℕ) (ss : List System) → [] ≡ s .branches → live s ≤ m → finished n (s .systems) ≡ finished j ss → systems-size ss ≤ m
-  unfolding live
-  at-end s n j ss q h e = let same : systems-size (s .systems) ≡ systems-size ss = cc in omega arith
-
-  module _ (p : ℕ) where
-    live-run : (left n : ℕ) (s : State) (j : ℕ) (ss : List System) → live s ≤ m → run l p left n s ≡ finished j ss → systems-size ss ≤ m
-    unfolding run
-    live-run zero n s j ss h e = go (s .branches) refl e
-      where
-        go : (bs : List Branch) → bs ≡ s .branches → (elim bs as (λ bs. Ended) [ [] ↦ finished n (s .systems) | b ∷ bs ↦ refused n Steps ]) ≡ finished j ss → systems-size ss ≤ m
-        go [] q e = at-end s n j ss q h e
-        go (b ∷ bs) q e = let z : _≡_ {A = ℕ} 0 1 = cc in absurd (omega arith)
-    live-run (suc left) n s j ss h e = go (s .branches) refl (live-run left (suc n)) e
-      where
-        go : (bs : List Branch) → bs ≡ s .branches → ((s : State) (j : ℕ) (ss : List System) → live s ≤ m → run l p left (suc n) s ≡ finished j ss → systems-size ss ≤ m) →
-            (elim bs as (λ bs. Ended) [ [] ↦ finished n (s .systems) | b ∷ bs ↦ after-step (run l p left (suc n)) n (step l p b bs (s .systems)) ]) ≡ finished j ss → systems-size ss ≤ m
-        go [] q ih e = at-end s n j ss q h e
-        go (b ∷ bs) q ih e = on (step l p b bs (s .systems)) refl e
-          where
-            before : live (record { branches = b ∷ bs; systems = s .systems }) ≤ m
-            before = subst (λ (bs : List Branch). live (record { branches = bs; systems = s .systems }) ≤ m) (sym q) h
-
-            on : (x : Stepped) → step l p b bs (s .systems) ≡ x → after-step (run l p left (suc n)) n x ≡ finished j ss → systems-size ss ≤ m
-            on (next s′) f e = ih s′ j ss (live-step p bs (s .systems) b s′ before f) e
-            on (stopped why) f e = let z : _≡_ {A = ℕ} 0 1 = cc in absurd (omega arith)
-
   pub listed-within : (limit : ℕ) (t : Input) (n : ℕ) (ss : List System) → run-of l limit t ≡ finished n ss → systems-size ss ≤ m
-  unfolding run-of start
-  listed-within limit t n ss e = go (start l t) refl e
-    where
-      go : (x : Stepped) → start l t ≡ x → after-step (run l (t .modulus) limit 0) 0 x ≡ finished n ss → systems-size ss ≤ m
-      go (next s) f e = live-run (t .modulus) limit 0 s n ss (live-within _ s f) e
-      go (stopped why) f e = let z : _≡_ {A = ℕ} 0 1 = cc in absurd (omega arith)
+  unfolding step start live branches-size
+  listed-within limit t n ss e =
+      let h : live (record { branches = []; systems = ss }) ≤ m =
+      run-of-steps-keep l t (λ s. live s ≤ m) (λ b waiting listed s f h. live-apply (t .modulus) waiting listed (rule-of b) b s (rule-stands b) h f) limit n ss e
+      (λ s f. live-within _ s f) in
+      omega arith

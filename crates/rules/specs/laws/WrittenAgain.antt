@@ -1,7 +1,7 @@
 -- What an elimination writes can be read again: the same systems in the same order.
 use mathlib.Core.Path.{_≡_, refl, _∙_, ap}
 use mathlib.Core.Bool.{Bool, true, false}
-use mathlib.Core.List.{List, [], _∷_}
+use mathlib.Core.List.{List}
 use Prim.Native.Nat.{ℕ, _/_, _≤_}
 use native.Mathlib.Omega.{arith}
 use lib.Dec.{ltb}
@@ -9,7 +9,7 @@ use Rattle.polynomials.specs.Poly.{Poly}
 use Rattle.polynomials.specs.Canonical.{Canonical}
 use Rattle.tables.specs.Read.{Read, good, Input, System, Listing, read-table, read-list}
 use Rattle.tables.specs.Read as tables
-use Rattle.tables.specs.Admissible.{Each as EachRead, Admissible as AdmissibleRead, AdmissibleNumbers}
+use Rattle.tables.specs.Admissible.{AdmissibleInput}
 use Rattle.tables.specs.laws.Accepted.{accepted-admissible, table-read}
 use Rattle.tables.specs.declared.Reason.the-variants.{Output}
 use Rattle.rules.specs.Run.{Ended, finished, refused, run-of}
@@ -60,33 +60,15 @@ module _ (w : List ℕ) (work output limit n : ℕ) (ss : List System) (words : 
       go (tables.refused why at) q e = let z : _≡_ {A = ℕ} 0 1 = cc in absurd (omega arith)
 
 -- ── it can be written ──
--- What `tables` says of each member of a list.
-each-read : {A : Type 0} (P Q : A → Type 0) → ((a : A) → P a → Q a) → (xs : List A) → EachRead P xs → Each Q xs
-each-read P Q h [] e = tt
-each-read P Q h (a ∷ xs) e = (h a (e .0), each-read P Q h xs (e .1))
-
-module _ (w : List ℕ) (t : Input) (r : read-table w ≡ good t) where
-  abbrev Holdable : Poly → Type 0
-  Holdable = Admissible (t .modulus) (t .variables)
-
-  each-holdable : (fs : List Poly) → EachRead (AdmissibleRead (t .modulus) (t .variables)) fs → Each Holdable fs
-  each-holdable =
-      each-read (AdmissibleRead (t .modulus) (t .variables)) Holdable
-      (λ f a. record { canonical = a .canonical; few = a .few; places = a .places; small = a .small; absent = a .absent })
-
-  pub accepted-P : Each Holdable (t .P)
-  accepted-P = each-holdable (t .P) (accepted-admissible w t r .zeros)
-
-  pub accepted-Q : Each Holdable (t .Q)
-  accepted-Q = each-holdable (t .Q) (accepted-admissible w t r .nonzeros)
-
-  pub accepted-proper : Proper t
-  accepted-proper =
-      record {
-        prime = accepted-admissible w t r .numbers .prime;
-        canonical-P = each-map Holdable (Canonical (t .modulus)) (λ f h. h .canonical) (t .P) accepted-P;
-        canonical-Q = each-map Holdable (Canonical (t .modulus)) (λ f h. h .canonical) (t .Q) accepted-Q;
-      }
+-- A table that is accepted is proper.
+pub accepted-proper : (w : List ℕ) (t : Input) → read-table w ≡ good t → Proper t
+accepted-proper w t r =
+    let a = accepted-admissible w t r in
+    record {
+      prime = a .numbers .prime;
+      canonical-P = each-map (Admissible (t .modulus) (t .variables)) (Canonical (t .modulus)) (λ f h. h .canonical) (t .P) (a .zeros);
+      canonical-Q = each-map (Admissible (t .modulus) (t .variables)) (Canonical (t .modulus)) (λ f h. h .canonical) (t .Q) (a .nonzeros);
+    }
 
 -- The systems of a finished run take fewer records than the work area has.
 few-records : (work limit : ℕ) (t : Input) (n : ℕ) (ss : List System) → run-of (limits-of work) limit t ≡ finished n ss → list-records ss ≤ 65536
@@ -98,26 +80,26 @@ unfolding limits-of
 listed-writable w work limit t n ss r e =
     record {
       prime = table-read w t r .readable .prime;
-      some-variable = a .some-variable;
-      eight-variables = a .eight-variables;
+      some-variable = a .numbers .some-variable;
+      eight-variables = a .numbers .eight-variables;
       few-records = few-records work limit t n ss e;
       triangular = each-map (Of-system G) (λ s. Each G (s .T)) (λ s h. h .0) ss all;
       companion = each-map (Of-system G) (λ s. Each G (s .U)) (λ s h. h .1) ss all;
-      rising = RisingLaws.rising (limits-of work) t (accepted-proper w t r) (each-map G _ (λ f h. h .places) (t .P) (accepted-P w t r)) (each-map G _ (λ f h. h .places) (t .Q) (accepted-Q w t r)) limit n ss e;
+      rising = RisingLaws.rising (limits-of work) t (accepted-proper w t r) (each-map G _ (λ f h. h .places) (t .P) (a .zeros)) (each-map G _ (λ f h. h .places) (t .Q) (a .nonzeros)) limit n ss e;
     }
   where
     G : Poly → Type 0
     G = Admissible (t .modulus) (t .variables)
 
-    a : AdmissibleNumbers (t .modulus) (t .variables)
-    a = accepted-admissible w t r .numbers
+    a : AdmissibleInput t
+    a = accepted-admissible w t r
 
     all : Each (Of-system G) ss
-    all = admissible-run (limits-of work) limit t refl (a .prime) (a .some-variable) (accepted-P w t r) (accepted-Q w t r) n ss e
+    all = admissible-run (limits-of work) limit t refl (a .numbers .prime) (a .numbers .some-variable) (a .zeros) (a .nonzeros) n ss e
 
--- "The written list, read again": the words that an accepted elimination writes are a list, of the systems of the run on the table's input.
+-- The words of an accepted elimination, read as a list, are the systems of the run on the table's input.
 pub written-again : (w : List ℕ) (work output limit n : ℕ) (ss : List System) (words : List ℕ) → eliminated w work output limit ≡ listed n ss words →
-    (t : Input) × (read-table w ≡ good t) × (run-of (limits-of work) limit t ≡ finished n ss) × (read-list words ≡ good (record { modulus = t .modulus; variables = t .variables; systems = ss }))
+    (t : Input) × (read-table w ≡ good t) × (run-of (limits-of work) limit t ≡ finished n ss) × (read-list words ≡ good (listing t ss))
 written-again w work output limit n ss words e =
     let d = listed-delivered w work output limit n ss words e in
     let t = d .input in

@@ -5,4 +5,5 @@ pub mod Value
 pub mod Bounds
 pub mod Packed
 pub mod Working
+mod Examples
 pub mod laws

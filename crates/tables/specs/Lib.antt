@@ -3,5 +3,6 @@ pub mod Words
 pub mod Read
 pub mod Solve
 pub mod Walk
+mod Examples
 pub mod laws
 pub mod Admissible

@@ -252,21 +252,18 @@ unfolding product
 all-product P Q S p [] g h u v = tt
 all-product P Q S p (t ∷ f) g h u v = all-add-multiple Q S p (t .coef) (t .exps) g (product p f g) (λ b. h (t .exps) b (u .0)) v (all-product P Q S p f g h (u .1) v)
 
-degree-all : (k m : ℕ) (f : Poly) → All (λ a. getD a k 0 ≤ m) f → degree k f ≤ m
+pub degree-at-most : (k m : ℕ) (f : Poly) → All (λ a. getD a k 0 ≤ m) f → degree k f ≤ m
 unfolding degree
-degree-all k m [] u = omega arith
-degree-all k m (t ∷ f) u = omega (arith, u .0, degree-all k m f (u .1))
+degree-at-most k m [] u = omega arith
+degree-at-most k m (t ∷ f) u = omega (arith, u .0, degree-at-most k m f (u .1))
 
 pub degree-product : (k p : ℕ) (f g : Poly) → degree k (product p f g) ≤ degree k f + degree k g
 degree-product k p f g =
-    degree-all k (degree k f + degree k g) (product p f g)
+    degree-at-most k (degree k f + degree k g) (product p f g)
     (all-product (λ a. getD a k 0 ≤ degree k f) (λ b. getD b k 0 ≤ degree k g) (λ e. getD e k 0 ≤ degree k f + degree k g) p f g
     (λ a b x y. omega (arith, at-join k a b)) (all-degree k (degree k f) f (omega arith)) (all-degree k (degree k g) g (omega arith)))
 
 -- ── degrees of the parts ──
-pub degree-at-most : (k m : ℕ) (f : Poly) → All (λ a. getD a k 0 ≤ m) f → degree k f ≤ m
-degree-at-most k m f u = degree-all k m f u
-
 pub degree-coefficient : (k d : ℕ) (f : Poly) → degree k (coefficient k d f) ≡ 0
 unfolding degree
 degree-coefficient k d f = none (coefficient k d f) (all-coefficient k d f)

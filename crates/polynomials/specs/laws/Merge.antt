@@ -34,29 +34,6 @@ insert-at : (p c : ℕ) (t : Term) (f : Poly) → insert p c (t .exps) (t ∷ f)
 unfolding insert choose
 insert-at p c t f = ap (λ o. choose o (t ∷ insert p c (t .exps) f) (keep ((c + t .coef) % p) (t .exps) f) (keep c (t .exps) (t ∷ f))) (order-refl (t .exps))
 
-under-add-multiple : (p c : ℕ) (b : Exponents) (g f : Poly) → Under b g → Under b f → Under b (add-multiple p c [] g f)
-unfolding add-multiple join
-under-add-multiple p c b [] f u v = v
-under-add-multiple p c b (t ∷ g) f u v = under-insert p (c * t .coef % p) b (t .exps) (add-multiple p c [] g f) (u .0) (under-add-multiple p c b g f (u .1) v)
-
--- f plus c times g, the first term of f above all of g.
-pub merge-left : (p c : ℕ) (t : Term) (f g : Poly) → Under (t .exps) g → add-multiple p c [] g (t ∷ f) ≡ t ∷ add-multiple p c [] g f
-unfolding add-multiple join
-merge-left p c t f [] u = refl
-merge-left p c t f (s ∷ g) u = ap (insert p (c * s .coef % p) (s .exps)) (merge-left p c t f g (u .1)) ∙ insert-behind p (c * s .coef % p) (s .exps) t (add-multiple p c [] g f) (u .0)
-
--- the first term of g above all others
-pub merge-right : (p c : ℕ) (s : Term) (f g : Poly) → Under (s .exps) f → Under (s .exps) g → add-multiple p c [] (s ∷ g) f ≡ keep (c * s .coef % p) (s .exps) (add-multiple p c [] g f)
-unfolding add-multiple join
-merge-right p c s f g u v = insert-top p (c * s .coef % p) (s .exps) (add-multiple p c [] g f) (under-add-multiple p c (s .exps) g f v u)
-
--- both first terms alike
-pub merge-both : (p c : ℕ) (t s : Term) (f g : Poly) → t .exps ≡ s .exps → Under (s .exps) g →
-    add-multiple p c [] (s ∷ g) (t ∷ f) ≡ keep ((c * s .coef % p + t .coef) % p) (t .exps) (add-multiple p c [] g f)
-unfolding add-multiple join
-merge-both p c t s f g q v =
-    ap₂ (insert p (c * s .coef % p)) (sym q) (merge-left p c t f g (subst (λ e. Under e g) (sym q) v)) ∙ insert-at p (c * s .coef % p) t (add-multiple p c [] g f)
-
 -- ── c·e times g, for any monomial e ──
 -- All terms of e times g are below b.
 abbrev pub Below : Exponents → Exponents → Poly → Type 0

@@ -62,14 +62,8 @@ prime-of-root p h f = record { two≤ = h; no-divisor = go }
         ]
 
 -- numbers and their squares
-pub root-less : (p d : ℕ) → 2 ≤ d → d * d ≤ p → d < p
-root-less p d h l = let m : d * 2 ≤ d * d = mul-le-mul-left d h in omega arith
-
 pub root-below : (p d e : ℕ) → p < d * d → e * e ≤ p → e < d
 root-below p d e h l = lt-of-not-le (λ (k : d ≤ e). let m : d * d ≤ e * e = mul-le-mul k k in omega arith)
-
-pub one-more-divisor : (p d : ℕ) → ((e : ℕ) → 2 ≤ e → e < d → p % e ≢ 0) → p % d ≢ 0 → (e : ℕ) → 2 ≤ e → e < d + 1 → p % e ≢ 0
-one-more-divisor p d f n e h l = elim (eq-or-lt-of-le {n = e} {m = d} (omega arith)) [ inl q ↦ (λ z. n (ap (λ x. p % x) (sym q) ∙ z)) | inr q ↦ f e h q ]
 
 -- what the code answers
 pub test-yes : (p : ℕ) → 2 ≤ p → ((d : ℕ) → 2 ≤ d → d * d ≤ p → p % d ≢ 0) → true ≡ is-prime p

@@ -1,0 +1,70 @@
+-- `move_down` meets its contract. The invariant: the first i records are moved.
+use mathlib.Core.Path.{_≡_, refl, ap, _∙_}
+use Prim.Native.Nat.{ℕ, _-_, _≤_}
+use native.Mathlib.Omega.{arith}
+use lib.ListN.{length, drop}
+use lib.Seq.{paste, paste-zero}
+use Rattle.records.specs.Records.{nul, view}
+use Rattle.records.proofs.Rows.{length-view}
+use Rattle.records.proofs.Moves.{down-turn}
+use Rattle.records.proofs.move_down.Statement.{statement}
+use Rattle.records.proofs.move_down.Tie as tie
+
+abbrev Inv-loop : tie.InvT-loop
+Inv-loop w₀ from n to i₀ w i = (i ≤ n) × (length w ≡ length w₀) × (view w ≡ paste (view w₀) to (drop from (view w₀)) i)
+
+abbrev μ-loop : tie.MeasureT-loop
+μ-loop w₀ from n to i₀ w i = n - i
+
+loop-holds : tie.Need-loop-holds Inv-loop μ-loop
+loop-holds c = (omega arith, refl, paste-zero (view (c .before .args .w .now)) (c .before .args .to) (drop (c .before .args .from) (view (c .before .args .w .now))))
+
+add-copy-rec : tie.Need-add-copy-rec Inv-loop μ-loop
+add-copy-rec c = omega arith
+
+add-copy-rec-2 : tie.Need-add-copy-rec-2 Inv-loop μ-loop
+add-copy-rec-2 c = omega arith
+
+copy-rec-requires : tie.Need-copy-rec-requires Inv-loop μ-loop
+copy-rec-requires c κs = omega arith
+
+add-i : tie.Need-add-i Inv-loop μ-loop
+add-i c = omega arith
+
+loop-less : tie.Need-loop-less Inv-loop μ-loop
+loop-less c = omega arith
+
+loop-again : tie.Need-loop-again Inv-loop μ-loop
+loop-again c =
+    let head = c .before .before .before .before .before in
+    let a = head .before .before .args in (
+      omega arith,
+      omega arith,
+      down-turn nul (view (a .w .now)) (view (head .loop .w)) (view (c .before .before .copy-rec .last .0)) (a .from) (a .to) (head .loop .i)
+          (omega arith) (omega (arith, length-view (a .w .now))) (head .loop .inv .2) (c .before .before .copy-rec .ensures),
+    )
+
+same-length : tie.Need-same-length Inv-loop μ-loop
+same-length c = omega arith
+
+returns : tie.Need-returns Inv-loop μ-loop
+returns c =
+    let a = c .before .before .before .args in
+    let done : c .before .loop .i ≡ a .n = omega arith in
+    c .before .loop .inv .2 ∙ ap (λ (j : ℕ). paste (view (a .w .now)) (a .to) (drop (a .from) (view (a .w .now))) j) done
+
+pub move-down-spec : {M : Type 1} → statement M
+move-down-spec =
+    tie.close
+    (tie.spec
+    Inv-loop
+    μ-loop
+    loop-holds
+    add-copy-rec
+    add-copy-rec-2
+    copy-rec-requires
+    add-i
+    loop-less
+    loop-again
+    same-length
+    returns)

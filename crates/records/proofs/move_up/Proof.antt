@@ -1,0 +1,79 @@
+-- `move_up` meets its contract. The invariant: all but the first i records are moved.
+use mathlib.Core.Path.{_≡_, refl, ap, _∙_}
+use Prim.Native.Nat.{ℕ, _+_, _-_, _≤_}
+use native.Mathlib.Omega.{arith}
+use lib.ListN.{length, drop}
+use lib.Seq.{paste, paste-zero}
+use Rattle.records.specs.Records.{nul, view}
+use Rattle.records.proofs.Rows.{length-view}
+use Rattle.records.proofs.Moves.{up-turn}
+use Rattle.records.proofs.move_up.Statement.{statement}
+use Rattle.records.proofs.move_up.Tie as tie
+
+abbrev Inv-loop : tie.InvT-loop
+Inv-loop w₀ from n to i₀ w i = (i ≤ n) × (length w ≡ length w₀) × (view w ≡ paste (view w₀) (to + i) (drop (from + i) (view w₀)) (n - i))
+
+abbrev μ-loop : tie.MeasureT-loop
+μ-loop w₀ from n to i₀ w i = i
+
+loop-holds : tie.Need-loop-holds Inv-loop μ-loop
+loop-holds c =
+    let a = c .before .args in
+    let none : 0 ≡ a .n - a .n = omega arith in (
+      omega arith,
+      refl,
+      paste-zero (view (a .w .now)) (a .to + a .n) (drop (a .from + a .n) (view (a .w .now)))
+          ∙ ap (λ (j : ℕ). paste (view (a .w .now)) (a .to + a .n) (drop (a .from + a .n) (view (a .w .now))) j) none,
+    )
+
+sub-i : tie.Need-sub-i Inv-loop μ-loop
+sub-i c = omega arith
+
+add-copy-rec : tie.Need-add-copy-rec Inv-loop μ-loop
+add-copy-rec c = omega arith
+
+add-copy-rec-2 : tie.Need-add-copy-rec-2 Inv-loop μ-loop
+add-copy-rec-2 c = omega arith
+
+copy-rec-requires : tie.Need-copy-rec-requires Inv-loop μ-loop
+copy-rec-requires c κs = omega arith
+
+loop-less : tie.Need-loop-less Inv-loop μ-loop
+loop-less c = omega arith
+
+loop-again : tie.Need-loop-again Inv-loop μ-loop
+loop-again c =
+    let head = c .before .before .before .before .before in
+    let a = head .before .before .args in (
+      omega arith,
+      omega arith,
+      up-turn nul (view (a .w .now)) (view (head .loop .w)) (view (c .before .before .copy-rec .last .0)) (a .from) (a .n) (a .to) (head .loop .i)
+          (omega arith) (omega arith) (omega arith) (omega (arith, length-view (a .w .now))) (head .loop .inv .2) (c .before .before .copy-rec .ensures),
+    )
+
+same-length : tie.Need-same-length Inv-loop μ-loop
+same-length c = omega arith
+
+returns : tie.Need-returns Inv-loop μ-loop
+returns c =
+    let a = c .before .before .before .args in
+    let to' : a .to + c .before .loop .i ≡ a .to = omega arith in
+    let from' : a .from + c .before .loop .i ≡ a .from = omega arith in
+    let n' : a .n - c .before .loop .i ≡ a .n = omega arith in
+    c .before .loop .inv .2 ∙ (λ t. paste (view (a .w .now)) (to' t) (drop (from' t) (view (a .w .now))) (n' t))
+
+pub move-up-spec : {M : Type 1} → statement M
+move-up-spec =
+    tie.close
+    (tie.spec
+    Inv-loop
+    μ-loop
+    loop-holds
+    sub-i
+    add-copy-rec
+    add-copy-rec-2
+    copy-rec-requires
+    loop-less
+    loop-again
+    same-length
+    returns)

@@ -1,0 +1,38 @@
+-- The work area as a list of records of four words. `view` is the one place that knows how a record lies in the words.
+use Prim.Native.Nat.{ℕ, zero, suc, _+_, _*_, _/_}
+use mathlib.Core.List.{List, [], _∷_}
+use lib.ListN.{length, getD, drop}
+use lib.Seq.{paste}
+
+-- a record's four words
+pub record Rec : Type 0 where
+  pub w0 : ℕ
+  pub w1 : ℕ
+  pub w2 : ℕ
+  pub w3 : ℕ
+
+abbrev pub mk : ℕ → ℕ → ℕ → ℕ → Rec
+mk a b c d = record { w0 = a; w1 = b; w2 = c; w3 = d }
+
+abbrev pub nul : Rec
+nul = mk 0 0 0 0
+
+-- f 0, f 1, .. f (n - 1)
+abbrev pub tab : {A : Type 0} → ℕ → (ℕ → A) → List A
+tab zero f = []
+tab (suc n) f = f zero ∷ tab n (λ i. f (suc i))
+
+-- whole records in the words
+abbrev pub room : List ℕ → ℕ
+room w = length w / 4
+
+-- rows of four
+abbrev pub recAt : List ℕ → ℕ → Rec
+recAt w i = mk (getD w (4 * i) 0) (getD w (4 * i + 1) 0) (getD w (4 * i + 2) 0) (getD w (4 * i + 3) 0)
+
+unfoldable pub view : List ℕ → List Rec
+view w = tab (room w) (recAt w)
+
+-- The n records from `from` on, copied over those from `to` on.
+abbrev pub moved : List Rec → ℕ → ℕ → ℕ → List Rec
+moved v from n to = paste v to (drop from v) n

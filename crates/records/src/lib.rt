@@ -1,0 +1,100 @@
+// The work area: a lent run of 32-bit words as records of four. This crate alone knows where a record's words lie.
+ghost use mathlib.Core.Path.{_≡_};
+ghost use Prim.Native.Nat.{_+_, _<_, _≤_};
+ghost use lib.ListN.{length, getD, set, replicate};
+ghost use Rattle.records.specs.Records.{mk, nul, room, view, moved};
+
+// Word 0 of record i.
+pub fn get0(w: &[u32], i: usize) -> u32
+    requires { ⌜ i < room (now w) ⌝ }
+    ensures { λ r. ⌜ r ≡ getD (view (now (w .entry))) i nul .w0 ⌝ }
+{
+    w[4 * i]
+}
+
+// Word 1 of record i.
+pub fn get1(w: &[u32], i: usize) -> u32
+    requires { ⌜ i < room (now w) ⌝ }
+    ensures { λ r. ⌜ r ≡ getD (view (now (w .entry))) i nul .w1 ⌝ }
+{
+    w[4 * i + 1]
+}
+
+// Word 2 of record i.
+pub fn get2(w: &[u32], i: usize) -> u32
+    requires { ⌜ i < room (now w) ⌝ }
+    ensures { λ r. ⌜ r ≡ getD (view (now (w .entry))) i nul .w2 ⌝ }
+{
+    w[4 * i + 2]
+}
+
+// Writes record i whole.
+pub fn put_rec(w: &mut [u32], i: usize, a: u32, b: u32, c: u32, d: u32)
+    requires { ⌜ i < room (now w) ⌝ }
+    ensures { λ _. ⌜ view (now (w .exit)) ≡ set (view (now (w .entry))) i (mk a b c d) ⌝ }
+{
+    let k = 4 * i;
+    w[k] = a;
+    w[k + 1] = b;
+    w[k + 2] = c;
+    w[k + 3] = d;
+}
+
+// Copies record `from` over record `to`.
+pub fn copy_rec(w: &mut [u32], from: usize, to: usize)
+    requires { ⌜ from < room (now w) ⌝ }
+    requires { ⌜ to < room (now w) ⌝ }
+    ensures { λ _. ⌜ view (now (w .exit)) ≡ set (view (now (w .entry))) to (getD (view (now (w .entry))) from nul) ⌝ }
+{
+    let k = 4 * from;
+    let a = w[k];
+    let b = w[k + 1];
+    let c = w[k + 2];
+    let d = w[k + 3];
+    put_rec(w, to, a, b, c, d)
+}
+
+// Word 3 of record i: its link.
+pub fn get3(w: &[u32], i: usize) -> u32
+    requires { ⌜ i < room (now w) ⌝ }
+    ensures { λ r. ⌜ r ≡ getD (view (now (w .entry))) i nul .w3 ⌝ }
+{
+    w[4 * i + 3]
+}
+
+// Moves the n records from `from` on up to `to`.
+pub fn move_up(w: &mut [u32], from: usize, n: usize, to: usize)
+    requires { ⌜ from ≤ to ⌝ }
+    requires { ⌜ to + n ≤ room (now w) ⌝ }
+    ensures { λ _. ⌜ view (now (w .exit)) ≡ moved (view (now (w .entry))) from n to ⌝ }
+{
+    let mut i = n;
+    while 0 < i {
+        i -= 1;
+        copy_rec(w, from + i, to + i);
+    }
+}
+
+// Moves the n records from `from` on down to `to`.
+pub fn move_down(w: &mut [u32], from: usize, n: usize, to: usize)
+    requires { ⌜ to ≤ from ⌝ }
+    requires { ⌜ from + n ≤ room (now w) ⌝ }
+    ensures { λ _. ⌜ view (now (w .exit)) ≡ moved (view (now (w .entry))) from n to ⌝ }
+{
+    let mut i = 0;
+    while i < n {
+        copy_rec(w, from + i, to + i);
+        i += 1;
+    }
+}
+
+// Clears every word.
+pub fn clear(w: &mut [u32])
+    ensures { λ _. ⌜ now (w .exit) ≡ replicate (length (now (w .entry))) 0 ⌝ }
+{
+    let mut i = 0;
+    while i < w.len() {
+        w[i] = 0;
+        i += 1;
+    }
+}

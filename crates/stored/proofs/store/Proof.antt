@@ -1,0 +1,135 @@
+-- `store` meets its contract. The invariant: behind the head, the first i terms are written.
+use mathlib.Core.Path.{_≡_, refl, _∙_}
+use Prim.Native.Nat.{_+_, _*_, _-_, _/_, _≤_}
+use native.Mathlib.Omega.{arith}
+use lib.ListN.{length, getD}
+use lib.Seq.{paste, paste-zero}
+use Rattle.records.specs.Records.{nul, view}
+use Rattle.records.proofs.Rows.{length-view}
+use Rattle.records.proofs.Moves.{paste-turn}
+use Rattle.stored.specs.Stored.{head, term-record, term-records}
+use Rattle.stored.specs.laws.Stored.{length-term-records}
+use Rattle.stored.proofs.Laws.{getD-term-records, head-then-terms}
+use Rattle.stored.proofs.store.Statement.{statement}
+use Rattle.stored.proofs.store.Tie as tie
+
+abbrev Inv-loop : tie.InvT-loop
+Inv-loop w₀ at f n i₀ w i = (i ≤ n) × (length w ≡ length w₀) × (view w ≡ paste (view w₀) (at + 1) (term-records f) i)
+
+abbrev μ-loop : tie.MeasureT-loop
+μ-loop w₀ at f n i₀ w i = n - i
+
+cast-put-rec : tie.Need-cast-put-rec Inv-loop μ-loop
+cast-put-rec c = omega arith
+
+put-rec-requires : tie.Need-put-rec-requires Inv-loop μ-loop
+put-rec-requires c κs = omega arith
+
+loop-holds : tie.Need-loop-holds Inv-loop μ-loop
+loop-holds c =
+    let v = view (c .before .before .put-rec .last .0) in
+    let a = c .before .before .before .before .before .before .args in (omega arith, refl, paste-zero v (a .at + 1) (term-records (a .f .now)))
+
+mul-m : tie.Need-mul-m Inv-loop μ-loop
+mul-m c = omega arith
+
+add-m : tie.Need-add-m Inv-loop μ-loop
+add-m c = omega arith
+
+mul-m-2 : tie.Need-mul-m-2 Inv-loop μ-loop
+mul-m-2 c = omega arith
+
+shared-slice-read-m : tie.Need-shared-slice-read-m Inv-loop μ-loop
+shared-slice-read-m c = omega arith
+
+cast-high : tie.Need-cast-high Inv-loop μ-loop
+cast-high c = omega (arith, c .shared-slice-known2 .given (2 * c .before .before .loop .i + 1))
+
+cast-low : tie.Need-cast-low Inv-loop μ-loop
+cast-low c = omega arith
+
+add-put-rec : tie.Need-add-put-rec Inv-loop μ-loop
+add-put-rec c = omega arith
+
+add-put-rec-2 : tie.Need-add-put-rec-2 Inv-loop μ-loop
+add-put-rec-2 c = omega arith
+
+mul-put-rec : tie.Need-mul-put-rec Inv-loop μ-loop
+mul-put-rec c = omega arith
+
+mul-put-rec-2 : tie.Need-mul-put-rec-2 Inv-loop μ-loop
+mul-put-rec-2 c = omega arith
+
+shared-slice-read-put-rec : tie.Need-shared-slice-read-put-rec Inv-loop μ-loop
+shared-slice-read-put-rec c = omega arith
+
+cast-put-rec-2 : tie.Need-cast-put-rec-2 Inv-loop μ-loop
+cast-put-rec-2 c =
+    let start = c .before .before .before .before .before .before .before .before .before .before .before in
+    omega (arith, start .pre .0 .coefficients (c .before .before .before .before .loop .i))
+
+put-rec-requires-2 : tie.Need-put-rec-requires-2 Inv-loop μ-loop
+put-rec-requires-2 c κs = omega arith
+
+add-i : tie.Need-add-i Inv-loop μ-loop
+add-i c = omega arith
+
+loop-less : tie.Need-loop-less Inv-loop μ-loop
+loop-less c = omega arith
+
+loop-again : tie.Need-loop-again Inv-loop μ-loop
+loop-again c =
+    let again = c .before .before .put-rec2 in
+    let turn = c .before .before .before .before .before .before .before in
+    let head = turn .before .before .before .put-rec in
+    let a = turn .before .before .before .before .before .before .before .args in
+    let i = turn .loop .i in
+    let f = a .f .now in (
+      omega arith,
+      omega arith,
+      paste-turn nul (view (head .last .0)) (view (turn .loop .w)) (view (again .last .0)) (term-records f) (a .at + 1) i
+          (term-record (getD f (2 * i) 0) (getD f (2 * i + 1) 0)) (omega (arith, length-view (head .last .0))) (omega (arith, length-term-records f))
+          (turn .loop .inv .2) (again .ensures) (getD-term-records f i (omega arith)),
+    )
+
+same-length : tie.Need-same-length Inv-loop μ-loop
+same-length c = omega arith
+
+returns : tie.Need-returns Inv-loop μ-loop
+returns c =
+    let put = c .before .before .before .before .put-rec in
+    let a = c .before .before .before .before .before .before .before .before .args in
+    let S = term-records (a .f .now) in
+    let n = length (a .f .now) / 2 in
+    let done : c .before .loop .i ≡ n = omega arith in
+    c .before .loop .inv .2
+    ∙ (λ t. paste (put .ensures t) (a .at + 1) S (done t))
+    ∙ head-then-terms (view (a .w .now)) S (head n) (a .at) n (omega (arith, length-view (a .w .now)))
+
+pub store-spec : {M : Type 1} → statement M
+store-spec =
+    tie.close
+    (tie.spec
+    Inv-loop
+    μ-loop
+    cast-put-rec
+    put-rec-requires
+    loop-holds
+    mul-m
+    add-m
+    mul-m-2
+    shared-slice-read-m
+    cast-high
+    cast-low
+    add-put-rec
+    add-put-rec-2
+    mul-put-rec
+    mul-put-rec-2
+    shared-slice-read-put-rec
+    cast-put-rec-2
+    put-rec-requires-2
+    add-i
+    loop-less
+    loop-again
+    same-length
+    returns)

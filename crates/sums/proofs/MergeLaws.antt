@@ -1,4 +1,4 @@
--- What the code of `merge` plugs its places into: the merge on words, the tested difference, and the monic polynomial. What holds at a
+-- What the code of `sums` plugs its places into: the merge on words, the tested difference, and the monic polynomial. What holds at a
 -- loop's head, and each turn.
 use mathlib.Core.Path.{_≡_, refl, sym, _∙_, ap, ap₂, subst}
 use mathlib.Core.Logic.{_≢_}
@@ -23,6 +23,7 @@ use Rattle.polynomials.specs.laws.Order.{compare-is}
 use Rattle.polynomials.specs.laws.Canonical.{under-first}
 use Rattle.polynomials.specs.laws.Merge.{Below, below-first, below-trans, multiple-left, multiple-right, multiple-both, multiple-zeros, keep-none, keep-some, scaled, monic-scaled}
 use Rattle.polynomials.specs.laws.Packed.{order-bytes, join-bytes, length-bytes}
+use Rattle.polynomials.specs.laws.Places.{places-terms}
 use Rattle.polynomials.specs.laws.Terms.{terms-at, terms-push, terms-append, words-of-terms}
 
 -- ── words ──
@@ -43,12 +44,6 @@ Word w = w < 256 ^ 8
 
 pub words-below : (w v : ℕ) → Word w → Word v → w < v → order (bytes 8 w) (bytes 8 v) ≡ Ordering·lt
 words-below w v h k l = order-bytes 8 w v h k ∙ compare-is w v Ordering·lt l
-
-pub all-of-eight : (s : List ℕ) → All (λ a. length a ≡ 8) (terms s)
-unfolding terms
-all-of-eight [] = tt
-all-of-eight (c ∷ []) = tt
-all-of-eight (c ∷ (m ∷ s)) = (length-bytes 8 m, all-of-eight s)
 
 -- The two words at j and what stands behind them.
 pub drop-pair : (s : List ℕ) (j : ℕ) → j + 1 < length s → drop j s ≡ getD s j 0 ∷ (getD s (j + 1) 0 ∷ drop (j + 2) s)
@@ -168,7 +163,7 @@ module _ {p c m : ℕ} {g f out : List ℕ} {i j k : ℕ} (H : Head p c m g f ou
         ahead : left p c m g f i j ≡ term (getD f i 0) (getD f (i + 1) 0) ∷ left p c m g f (i + 2) j
         ahead =
             ap₂ (add-multiple p c (bytes 8 m)) (terms-at g j j-pair) (terms-at f i (i-pair in-f))
-            ∙ turn-left p c m (getD g j 0) (getD g (j + 1) 0) (terms (drop (j + 2) g)) small (next-fits .0) (all-of-eight (drop (j + 2) g)) (next-canonical .2)
+            ∙ turn-left p c m (getD g j 0) (getD g (j + 1) 0) (terms (drop (j + 2) g)) small (next-fits .0) (places-terms (drop (j + 2) g)) (next-canonical .2)
             (getD f i 0) (getD f (i + 1) 0) (terms (drop (i + 2) f)) word less
             ∙ ap (λ z. term (getD f i 0) (getD f (i + 1) 0) ∷ add-multiple p c (bytes 8 m) z (terms (drop (i + 2) f))) (sym (terms-at g j j-pair))
 
@@ -179,7 +174,7 @@ module _ {p c m : ℕ} {g f out : List ℕ} {i j k : ℕ} (H : Head p c m g f ou
       within = H .i≤;
       canonical = H .f-canonical;
       sum = ap (λ z. add-multiple p c (bytes 8 m) z (terms (drop i f))) (terms-at g j j-pair)
-          ∙ turn-right p c m (getD g j 0) (getD g (j + 1) 0) (terms (drop (j + 2) g)) small (next-fits .0) (all-of-eight (drop (j + 2) g)) (next-canonical .2) (terms (drop i f)) u;
+          ∙ turn-right p c m (getD g j 0) (getD g (j + 1) 0) (terms (drop (j + 2) g)) small (next-fits .0) (places-terms (drop (j + 2) g)) (next-canonical .2) (terms (drop i f)) u;
     }
 
     -- f is at its end.
@@ -202,7 +197,7 @@ module _ {p c m : ℕ} {g f out : List ℕ} {i j k : ℕ} (H : Head p c m g f ou
       within = omega (arith, i-pair in-f);
       canonical = front-canonical in-f .3;
       sum = ap₂ (add-multiple p c (bytes 8 m)) (terms-at g j j-pair) (terms-at f i (i-pair in-f) ∙ ap (λ v. term (getD f i 0) v ∷ terms (drop (i + 2) f)) alike)
-          ∙ turn-both p c m (getD g j 0) (getD g (j + 1) 0) (terms (drop (j + 2) g)) small (next-fits .0) (all-of-eight (drop (j + 2) g)) (next-canonical .2) (getD f i 0) (terms (drop (i + 2) f));
+          ∙ turn-both p c m (getD g j 0) (getD g (j + 1) 0) (terms (drop (j + 2) g)) small (next-fits .0) (places-terms (drop (j + 2) g)) (next-canonical .2) (getD f i 0) (terms (drop (i + 2) f));
     }
 
   -- The sum is zero, and nothing is written.
@@ -277,7 +272,7 @@ all-fit-zero (c ∷ (e ∷ s)) = (fits-zero 8 e, all-fit-zero s)
 
 pub difference-written : (p n : ℕ) (f g s : List ℕ) → Written (add-multiple p (p - 1) (bytes 8 0) (terms g) (terms f)) n s → Written (difference p (terms f) (terms g)) n s
 unfolding difference
-difference-written p n f g s = subst (λ d. Written d n s) (multiple-zeros p (p - 1) 8 (terms g) (terms f) (all-of-eight g))
+difference-written p n f g s = subst (λ d. Written d n s) (multiple-zeros p (p - 1) 8 (terms g) (terms f) (places-terms g))
 
 -- What was formed is tested.
 pub formed : (f : Poly) (n : ℕ) (x : List ℕ) → Written f n x → n ≤ 512 → Forms (tested standard f) (Words n) x

@@ -1,4 +1,4 @@
--- `product::gather` meets its contract. The invariant, `Gathering`: x holds the product of the rows from word i on, an even number of them is left, and
+-- `products::gather` meets its contract. The invariant, `Gathering`: x holds the product of the rows from word i on, an even number of them is left, and
 -- those can still bring it back to 256 terms. The measure is i.
 use borrow.Author.Needs.{needs}
 use native.Mathlib.Omega.{arith}

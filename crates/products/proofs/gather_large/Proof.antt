@@ -1,4 +1,4 @@
--- `product::gather_large` meets its contract: what `gather` forms in a local buffer is copied. 66,816 words suffice for any two factors.
+-- `products::gather_large` meets its contract: what `gather` forms in a local buffer is copied. 66,816 words suffice for any two factors.
 use mathlib.Core.Path.{sym}
 use borrow.Author.Needs.{needs}
 use lib.Seq.{length-take-le}

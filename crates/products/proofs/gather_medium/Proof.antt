@@ -1,4 +1,4 @@
--- `product::gather_medium` meets its contract: what `gather` forms in a local buffer is copied.
+-- `products::gather_medium` meets its contract: what `gather` forms in a local buffer is copied.
 use mathlib.Core.Path.{sym}
 use borrow.Author.Needs.{needs}
 use lib.Seq.{length-take-le}

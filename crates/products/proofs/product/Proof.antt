@@ -1,4 +1,4 @@
--- `product::product` meets its contract: a zero factor, the test of degrees, then the rows of the shorter factor.
+-- `products::product` meets its contract: a zero factor, the test of degrees, then the rows of the shorter factor.
 use mathlib.Core.Path.{sym, _∙_}
 use native.Mathlib.Omega.{arith}
 use borrow.Author.Needs.{needs}

@@ -1,4 +1,4 @@
--- `product::rows` meets its contract: a single row is the product, else the rows are gathered where there is room.
+-- `products::rows` meets its contract: a single row is the product, else the rows are gathered where there is room.
 use native.Mathlib.Omega.{arith}
 use borrow.Author.Needs.{needs}
 use borrow.Author.Tests.{leb-true}

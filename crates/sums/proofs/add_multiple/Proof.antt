@@ -1,4 +1,4 @@
--- `merge::add_multiple` meets its contract. The invariant: the words written, with what is still to be merged, are the whole sum.
+-- `sums::add_multiple` meets its contract. The invariant: the words written, with what is still to be merged, are the whole sum.
 use mathlib.Core.Path.{_≡_, refl, sym, ap, _∙_, subst}
 use mathlib.Core.Logic.{⊎-elim}
 use Prim.Native.Nat.{_+_, _-_, _*_, _%_, _≤_, _<_}

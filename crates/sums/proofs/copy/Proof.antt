@@ -1,4 +1,4 @@
--- `merge::copy` meets its contract. The invariant: the first i words are copied.
+-- `sums::copy` meets its contract. The invariant: the first i words are copied.
 use mathlib.Core.Path.{_≡_, refl, sym, ap, ap₂, _∙_}
 use mathlib.Core.List.{List}
 use Prim.Native.Nat.{ℕ, _+_, _-_, _≤_, _<_}

@@ -1,4 +1,4 @@
--- `merge::difference` meets its contract: the multiple by p - 1 and the monomial 1, tested.
+-- `sums::difference` meets its contract: the multiple by p - 1 and the monomial 1, tested.
 use native.Mathlib.Omega.{arith}
 use borrow.Author.Needs.{needs}
 use Rattle.polynomials.specs.Poly.{difference}

@@ -1,4 +1,4 @@
--- `merge::monic` meets its contract. The invariant: the coefficients of the first i words are times the inverse.
+-- `sums::monic` meets its contract. The invariant: the coefficients of the first i words are times the inverse.
 use mathlib.Core.Path.{sym, ap, _∙_, subst}
 use Prim.Native.Nat.{_+_, _-_, _<_}
 use native.Mathlib.Omega.{arith}

@@ -1,4 +1,4 @@
--- `polynomials::value::term_value` meets its contract. The loop's invariant: v times what the coordinates from i on give with the bytes of e is the
+-- `value::term_value` meets its contract. The loop's invariant: v times what the coordinates from i on give with the bytes of e is the
 -- value, and e has at most 8 - i bytes. The measure is the count of coordinates left.
 use mathlib.Core.Path.{_≡_, refl, sym, _∙_, ap}
 use Prim.Native.Nat.{ℕ, suc, _<_, _+_, _-_, _^_, _*_, _%_, _/_}

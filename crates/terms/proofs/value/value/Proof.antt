@@ -1,4 +1,4 @@
--- `polynomials::value::value` meets its contract. The loop's invariant: v plus the value of the terms from word i on is the value, and these terms
+-- `value::value` meets its contract. The loop's invariant: v plus the value of the terms from word i on is the value, and these terms
 -- are canonical. The measure is the count of words left.
 use mathlib.Core.Path.{_≡_, sym, _∙_, ap}
 use Prim.Native.Nat.{_<_, _+_, _-_, _*_, _%_}

@@ -1,0 +1,129 @@
+-- The branch set aside at a split: the one that stays open is what the split's definition says, and a state that finds no room on the way has none at the end.
+use mathlib.Core.Path.{_≡_, refl, sym, ap, _∙_, subst}
+use mathlib.Core.Bool.{Bool, true, false, _||_}
+use mathlib.Core.List.{List, [], _∷_, _++_, append-assoc, append-nil}
+use Prim.Native.Nat.{ℕ, zero, suc, _+_, _-_, _/_, _≤_, _<_, min}
+use native.Mathlib.Omega.{arith}
+use borrow.Author.Tests.{leb-false, lt-leb}
+use lib.ListN.{length, take, drop, getD, length-append, length-drop}
+use lib.Seq.{take-all, drop-length, take-at, drop-at, length-take-le, split-at}
+use Rattle.records.specs.Records.{Rec}
+use Rattle.stored.specs.Stored.{polys-records, member}
+use Rattle.stored.specs.laws.Stored.{polys-records-append}
+use Rattle.branches.specs.Words.{put-P, put-Q, put-Q-before, remove, unless, is-zero, is-one}
+use Rattle.branches.specs.Area.{Stored, Area, Held, Leaves, capacity, stack, branch-records, with-open, size, kept-open, aside, put-into-P, put-into-Q, without-P, split-area}
+use Rattle.branches.proofs.TurnLaws.{start, control, own-record}
+
+-- ── lists of polynomials ──
+remove-in-parts : (i : ℕ) (fs : List (List ℕ)) → remove i fs ≡ take i fs ++ drop (suc i) fs
+unfolding remove
+remove-in-parts zero [] = refl
+remove-in-parts (suc i) [] = refl
+remove-in-parts zero (f ∷ fs) = refl
+remove-in-parts (suc i) (f ∷ fs) = ap (λ (l : List (List ℕ)). f ∷ l) (remove-in-parts i fs)
+
+pub length-remove : (i : ℕ) (fs : List (List ℕ)) → i < length fs → length (remove i fs) + 1 ≡ length fs
+length-remove i fs h =
+    omega (arith, ap length (remove-in-parts i fs), length-append (take i fs) (drop (suc i) fs), length-take-le i fs (omega arith), length-drop (suc i) fs)
+
+-- A put only adds behind.
+added-P : List ℕ → List (List ℕ) → List (List ℕ)
+added-P f fs = unless (is-zero f || member f fs) f []
+
+put-P-adds : (f : List ℕ) (fs : List (List ℕ)) → put-P f fs ≡ fs ++ added-P f fs
+unfolding put-P added-P
+put-P-adds f fs = go (is-zero f || member f fs)
+  where
+    go : (t : Bool) → unless t f fs ≡ fs ++ unless t f []
+    go true = sym (append-nil fs)
+    go false = refl
+
+restored : (fs more : List (List ℕ)) (i n : ℕ) (f : List ℕ) → i < length fs → n + 1 ≡ length fs → getD fs i [] ≡ f
+    → take i (remove i fs ++ more) ++ (f ∷ take (n - i) (drop i (remove i fs ++ more))) ≡ fs
+restored fs more i n f h l g =
+    let e : remove i fs ++ more ≡ take i fs ++ (drop (suc i) fs ++ more) =
+    ap (λ (x : List (List ℕ)). x ++ more) (remove-in-parts i fs) ∙ append-assoc (take i fs) (drop (suc i) fs) more in
+    let li : length (take i fs) ≡ i = length-take-le i fs (omega arith) in
+    let front : take i (remove i fs ++ more) ≡ take i fs = ap (take i) e ∙ take-at (take i fs) (drop (suc i) fs ++ more) i li in
+    let back : take (n - i) (drop i (remove i fs ++ more)) ≡ drop (suc i) fs =
+    ap (take (n - i)) (ap (drop i) e ∙ drop-at (take i fs) (drop (suc i) fs ++ more) i li)
+    ∙ take-at (drop (suc i) fs) more (n - i) (omega (arith, length-drop (suc i) fs)) in
+    (λ t. front t ++ (sym g t ∷ back t)) ∙ sym (split-at fs i [] h)
+
+put-Q-adds : (f : List ℕ) (fs : List (List ℕ)) → is-one f ≡ false → member f fs ≡ false → fs ++ (f ∷ []) ≡ put-Q-before 0 f fs
+unfolding put-Q put-Q-before
+put-Q-adds f fs one there =
+    let all : length fs - 0 ≡ length fs = omega arith in
+    let front : take (length fs - 0) fs ≡ fs = take-all (length fs - 0) fs (omega arith) in
+    let back : drop (length fs - 0) fs ≡ [] = ap (λ (k : ℕ). drop k fs) all ∙ drop-length fs in
+    sym ((λ t. unless (is-one f || member f (front t)) f (front t) ++ back t) ∙ append-nil (unless (is-one f || member f fs) f fs) ∙ (λ t. unless (one t || there t) f fs))
+
+-- P of the branch set aside begins with P without the pivot.
+aside-P : (i : ℕ) (initial rest : List ℕ) (b : Stored) → List (List ℕ)
+aside-P i initial rest b = added-P initial (remove i (b .P)) ++ added-P rest (put-P initial (remove i (b .P)))
+
+aside-P-is : (i : ℕ) (initial rest : List ℕ) (b : Stored) → aside i initial rest b .P ≡ remove i (b .P) ++ aside-P i initial rest b
+unfolding aside-P
+aside-P-is i initial rest b =
+    let first = put-P initial (remove i (b .P)) in
+    put-P-adds rest first ∙ ap (λ (l : List (List ℕ)). l ++ added-P rest first) (put-P-adds initial (remove i (b .P)))
+    ∙ append-assoc (remove i (b .P)) (added-P initial (remove i (b .P))) (added-P rest first)
+
+pub length-aside : (i : ℕ) (initial rest : List ℕ) (b : Stored) → i < length (b .P) → length (b .P) ≤ length (aside i initial rest b .P) + 1
+length-aside i initial rest b h =
+    omega (arith, ap length (aside-P-is i initial rest b), length-append (remove i (b .P)) (aside-P i initial rest b), length-remove i (b .P) h)
+
+pub kept-aside : (i n : ℕ) (f initial rest : List ℕ) (b : Stored) → i < length (b .P) → n + 1 ≡ length (b .P) → getD (b .P) i [] ≡ f → is-one initial ≡ false
+    → member initial (b .Q) ≡ false → kept-open i n f initial (aside i initial rest b) ≡ put-into-Q 0 initial b
+kept-aside i n f initial rest b h l g one there =
+    let inP : take i (aside i initial rest b .P) ++ (f ∷ take (n - i) (drop i (aside i initial rest b .P))) ≡ b .P =
+    ap (λ (x : List (List ℕ)). take i x ++ (f ∷ take (n - i) (drop i x))) (aside-P-is i initial rest b)
+    ∙ restored (b .P) (aside-P i initial rest b) i n f h l g in
+    λ t. record { P = inP t; Q = put-Q-adds initial (b .Q) one there t; T = b .T }
+
+-- ── sizes ──
+length-put : (f : List ℕ) (b : Stored) (under : ℕ) → length (branch-records under b) ≤ length (branch-records under (put-into-P f b))
+length-put f b under =
+    let rest : List Rec = polys-records (b .Q) ++ polys-records (b .T) in
+    omega (arith, length-append (polys-records (b .P)) rest, length-append (polys-records (put-P f (b .P))) rest, ap (λ (l : List (List ℕ)). length (polys-records l)) (put-P-adds f (b .P)), ap length (polys-records-append (b .P) (added-P f (b .P))), length-append (polys-records (b .P)) (polys-records (added-P f (b .P))))
+
+pub size-put : (f : List ℕ) (b : Stored) (bs ss : List Stored) → size (with-open b bs ss) ≤ size (with-open (put-into-P f b) bs ss)
+unfolding size
+size-put f b bs ss =
+    omega (arith, length-put f b (stack bs .1), length-append (stack bs .0) (branch-records (stack bs .1) b), length-append (stack bs .0) (branch-records (stack bs .1) (put-into-P f b)))
+
+pub size-more : (b b' : Stored) (bs ss : List Stored) → size (with-open b bs ss) ≤ size (with-open b' (b ∷ bs) ss)
+unfolding size
+size-more b b' bs ss = omega (arith, length-append (stack (b ∷ bs) .0) (branch-records (stack (b ∷ bs) .1) b'))
+
+-- ── answers ──
+-- Where a smaller state finds no room.
+pub failed : (a a' : Area) (most most' : ℕ) (r : Bool) (v v' : List Rec) → r ≡ false → most ≡ most' → Leaves most a r v → size a ≤ size a' → Leaves most' a' false v'
+failed a a' most most' r v v' e m L h =
+    let less : most < size a = leb-false (size a) most (sym (L .answer) ∙ e) in
+    record {
+      answer = sym (lt-leb (size a') most' (omega arith));
+      held = λ t. absurd (let z : _≡_ {A = ℕ} 0 1 = cc in omega arith);
+    }
+
+-- Two states that the same records hold have as many members in P.
+pub same-members : {v : List Rec} {most most' : ℕ} {b b' : Stored} {bs bs' ss ss' : List Stored} → Held v most (with-open b bs ss) → Held v most' (with-open b' bs' ss')
+    → length (b .P) ≡ length (b' .P)
+same-members {v} {most} {most'} {b} {b'} {bs} {bs'} H H' =
+    let at : start bs ≡ start bs' = sym (ap (λ (r : Rec). r .w0) (control H)) ∙ ap (λ (r : Rec). r .w0) (control H') in
+    sym (ap (λ (r : Rec). r .w0) (own-record H (start bs) refl)) ∙ ap (λ (r : Rec). r .w0) (own-record H' (start bs) at)
+
+pub size-initial : (i : ℕ) (initial rest : List ℕ) (b : Stored) (bs ss : List Stored)
+    → size (with-open (put-into-P initial (without-P i b)) bs ss) ≤ size (split-area i initial rest b bs ss)
+size-initial i initial rest b bs ss =
+    omega (arith, size-put rest (put-into-P initial (without-P i b)) bs ss, size-more (aside i initial rest b) (put-into-Q 0 initial b) bs ss)
+
+-- ── words of one length ──
+pub same-capacity : (xs ys : List ℕ) → length xs ≡ length ys → capacity xs ≡ capacity ys
+same-capacity xs ys e = ap (λ (n : ℕ). min (n / 4) 65536) e
+
+pub held-by : (v : List Rec) (a : Area) (xs ys : List ℕ) → length xs ≡ length ys → Held v (capacity xs) a → Held v (capacity ys) a
+held-by v a xs ys e H = subst (λ (n : ℕ). Held v n a) (same-capacity xs ys e) H
+
+pub left-by : (v : List Rec) (r : Bool) (a a' : Area) (xs ys : List ℕ) → length xs ≡ length ys → a ≡ a' → Leaves (capacity xs) a r v → Leaves (capacity ys) a' r v
+left-by v r a a' xs ys e f L = subst (λ (x : Area). Leaves (capacity ys) x r v) f (subst (λ (n : ℕ). Leaves n a r v) (same-capacity xs ys e) L)

@@ -1,0 +1,181 @@
+-- When a put into P or Q keeps the branch, when it adds the polynomial, and when there is no room for it.
+use mathlib.Core.Path.{_≡_, refl, sym, ap, ap₂, _∙_, subst}
+use mathlib.Core.Bool.{Bool, true, false, _&&_, _||_}
+use mathlib.Core.List.{List, [], _∷_, _++_, append-assoc}
+use Prim.Native.Nat.{ℕ, zero, suc, _+_, _-_, _/_, _≤_, _<_}
+use native.Mathlib.Omega.{arith}
+use borrow.Author.Tests.{le-leb, lt-leb}
+use lib.Dec.{eqb}
+use lib.ListN.{length, take, drop, getD, length-append, take-append-drop}
+use Rattle.records.specs.Records.{Rec, nul}
+use Rattle.stored.specs.Stored.{member, same, Storable}
+use Rattle.stored.specs.laws.Stored.{equal-of-same, length-le-polys-records}
+use Rattle.branches.specs.Words.{put-P, put-Q, put-Q-before, is-zero, is-one, unless, remove}
+use Rattle.branches.specs.Area.{Stored, Area, Held, Leaves, size, with-open, All-storable, put-into-P, put-into-Q, without-P, closed}
+use Rattle.branches.proofs.AreaLaws.{lies, first-is, place, place-add, place-one, all, at-of, end-of, end-is, room-is, storable-take, parted-at-P}
+use Rattle.branches.proofs.OpenLaws.{parted-without-P}
+
+-- ── the answers ──
+pub leaves-held : {v : List Rec} {most : ℕ} {a : Area} → Held v most a → Leaves most a true v
+unfolding size
+leaves-held {v} {most} {a} H = record { answer = sym (le-leb (size a) most (omega (arith, H .fits))); held = λ e. H }
+
+nothing : false ≡ true → ⊥
+nothing e = let z : _≡_ {A = ℕ} 0 1 = cc in omega arith
+
+module _ {v : List Rec} {most : ℕ} {b : Stored} {bs ss : List Stored} (H : Held v most (with-open b bs ss)) where
+  pub top-is : (top : ℕ) → top ≡ getD v 0 nul .w2 → top ≡ end-of b bs + length (H .free)
+  top-is top e = e ∙ ap (λ (r : Rec). r .w2) (first-is (lies H))
+
+  pub no-room : (b₁ : Stored) (xs : List (List ℕ)) (f : List ℕ) (ys : List (List ℕ)) → all b ≡ xs ++ ys → all b₁ ≡ xs ++ (f ∷ ys) → length (H .free) < length f / 2 + 1
+      → Leaves most (with-open b₁ bs ss) false v
+  unfolding size
+  no-room b₁ xs f ys s s₁ h =
+      record {
+        answer = sym (lt-leb (size (with-open b₁ bs ss)) most
+            (omega (arith, room-is H, end-is b₁ bs, ap (place (at-of bs)) s, ap (place (at-of bs)) s₁, place-one (at-of bs) xs f ys, place-add (at-of bs) xs ys)));
+        held = λ e. absurd (nothing e);
+      }
+
+  -- The counts of the open branch are small.
+  pub counts-small : (length (b .P) < most) × (length (b .Q) < most) × (length (b .T) < most)
+  counts-small =
+      let p = length-le-polys-records (b .P) in
+      let q = length-le-polys-records (b .Q) in
+      let t = length-le-polys-records (b .T) in
+      let first = place-add (at-of bs) (b .P) (b .Q ++ b .T) in
+      let second = place-add (at-of bs) (b .Q) (b .T) in
+      let room = room-is H in
+      (omega arith, omega arith, omega arith)
+
+  pub leaves-same : (b₁ : Stored) → b ≡ b₁ → Leaves most (with-open b₁ bs ss) true v
+  leaves-same b₁ e = leaves-held (subst (λ (x : Stored). Held v most (with-open x bs ss)) e H)
+
+-- ── lists ──
+pub storable-append : (xs ys : List (List ℕ)) → All-storable xs → All-storable ys → All-storable (xs ++ ys)
+storable-append [] ys h k = k
+storable-append (f ∷ xs) ys h k = (h .0, storable-append xs ys (h .1) k)
+
+-- ── P ──
+pub put-P-zero : (f : List ℕ) (fs : List (List ℕ)) → length f ≡ 0 → put-P f fs ≡ fs
+unfolding put-P is-zero
+put-P-zero [] fs h = refl
+put-P-zero (x ∷ f) fs h = absurd (omega arith)
+
+pub put-P-found : (f : List ℕ) (fs : List (List ℕ)) → member f fs ≡ true → put-P f fs ≡ fs
+unfolding put-P is-zero
+put-P-found [] fs h = refl
+put-P-found (x ∷ f) fs h = ap (λ (t : Bool). unless t (x ∷ f) fs) h
+
+pub put-P-new : (f : List ℕ) (fs : List (List ℕ)) → (length f ≡ 0 → ⊥) → member f fs ≡ false → put-P f fs ≡ fs ++ (f ∷ [])
+unfolding put-P is-zero
+put-P-new [] fs n h = absurd (n refl)
+put-P-new (x ∷ f) fs n h = ap (λ (t : Bool). unless t (x ∷ f) fs) h
+
+module _ (f : List ℕ) (b : Stored) where
+  pub kept-P : put-P f (b .P) ≡ b .P → b ≡ put-into-P f b
+  kept-P e = λ t. record { P = sym e t; Q = b .Q; T = b .T }
+
+  pub parted-new-P : put-P f (b .P) ≡ b .P ++ (f ∷ []) → all (put-into-P f b) ≡ b .P ++ (f ∷ (b .Q ++ b .T))
+  parted-new-P e = ap (λ (l : List (List ℕ)). l ++ (b .Q ++ b .T)) e ∙ append-assoc (b .P) (f ∷ []) (b .Q ++ b .T)
+
+  pub length-new-P : put-P f (b .P) ≡ b .P ++ (f ∷ []) → length (put-P f (b .P)) ≡ length (b .P) + 1
+  length-new-P e = ap length e ∙ length-append (b .P) (f ∷ [])
+
+  pub storable-new-P : put-P f (b .P) ≡ b .P ++ (f ∷ []) → All-storable (b .P) → Storable f → All-storable (put-P f (b .P))
+  storable-new-P e h k = subst All-storable (sym e) (storable-append (b .P) (f ∷ []) h (k, tt))
+
+-- ── Q ──
+pub one : (f : List ℕ) → length f ≡ 2 → eqb (getD f 0 0) 1 ≡ true → eqb (getD f 1 0) 0 ≡ true → is-one f ≡ true
+unfolding is-one same
+one [] l x y = absurd (omega arith)
+one (c ∷ []) l x y = absurd (omega arith)
+one (c ∷ (m ∷ [])) l x y = ap₂ _&&_ x (ap (λ (t : Bool). t && true) y)
+one (c ∷ (m ∷ (d ∷ f))) l x y = absurd (omega arith)
+
+is-false : (t : Bool) → (t ≡ true → ⊥) → t ≡ false
+is-false true h = absurd (h refl)
+is-false false h = refl
+
+ones : (f : List ℕ) → is-one f ≡ true → f ≡ 1 ∷ 0 ∷ []
+unfolding is-one
+ones f e = equal-of-same f (1 ∷ 0 ∷ []) e
+
+pub not-one-by-length : (f : List ℕ) → (length f ≡ 2 → ⊥) → is-one f ≡ false
+not-one-by-length f h = is-false (is-one f) (λ e. h (ap length (ones f e)))
+
+pub not-one-by-coefficient : (f : List ℕ) → eqb (getD f 0 0) 1 ≡ false → is-one f ≡ false
+not-one-by-coefficient f h = is-false (is-one f) (λ e. nothing (sym h ∙ ap (λ (l : List ℕ). eqb (getD l 0 0) 1) (ones f e)))
+
+pub not-one-by-monomial : (f : List ℕ) → eqb (getD f 1 0) 0 ≡ false → is-one f ≡ false
+not-one-by-monomial f h = is-false (is-one f) (λ e. nothing (sym h ∙ ap (λ (l : List ℕ). eqb (getD l 1 0) 0) (ones f e)))
+
+pub put-Q-one : (f : List ℕ) (fs : List (List ℕ)) → is-one f ≡ true → put-Q f fs ≡ fs
+unfolding put-Q
+put-Q-one f fs h = ap (λ (t : Bool). unless (t || member f fs) f fs) h
+
+pub put-Q-found : (f : List ℕ) (fs : List (List ℕ)) → member f fs ≡ true → put-Q f fs ≡ fs
+unfolding put-Q
+put-Q-found f fs h = go (is-one f)
+  where
+    go : (t : Bool) → unless (t || member f fs) f fs ≡ fs
+    go true = refl
+    go false = ap (λ (m : Bool). unless m f fs) h
+
+pub put-Q-new : (f : List ℕ) (fs : List (List ℕ)) → is-one f ≡ false → member f fs ≡ false → put-Q f fs ≡ fs ++ (f ∷ [])
+unfolding put-Q
+put-Q-new f fs n h = ap₂ (λ (t m : Bool). unless (t || m) f fs) n h
+
+pub storable-drop : (k : ℕ) (fs : List (List ℕ)) → All-storable fs → All-storable (drop k fs)
+storable-drop zero fs h = h
+storable-drop (suc k) [] h = h
+storable-drop (suc k) (f ∷ fs) h = storable-drop k fs (h .1)
+
+-- How many members of Q are looked at.
+abbrev pub seen : ℕ → Stored → ℕ
+seen left b = length (b .Q) - left
+
+module _ (left : ℕ) (f : List ℕ) (b : Stored) where
+  pub kept-Q : put-Q f (take (seen left b) (b .Q)) ≡ take (seen left b) (b .Q) → b ≡ put-into-Q left f b
+  unfolding put-Q-before
+  kept-Q e = λ t. record {
+    P = b .P;
+    Q = sym (ap (λ (l : List (List ℕ)). l ++ drop (seen left b) (b .Q)) e ∙ take-append-drop (seen left b) (b .Q)) t;
+    T = b .T;
+  }
+
+  module _ (e : put-Q f (take (seen left b) (b .Q)) ≡ take (seen left b) (b .Q) ++ (f ∷ [])) where
+    pub new-Q : put-Q-before left f (b .Q) ≡ take (seen left b) (b .Q) ++ (f ∷ drop (seen left b) (b .Q))
+    unfolding put-Q-before
+    new-Q =
+        ap (λ (l : List (List ℕ)). l ++ drop (seen left b) (b .Q)) e ∙ append-assoc (take (seen left b) (b .Q)) (f ∷ []) (drop (seen left b) (b .Q))
+
+    pub parted-new-Q : all (put-into-Q left f b) ≡ b .P ++ take (seen left b) (b .Q) ++ (f ∷ (drop (seen left b) (b .Q) ++ b .T))
+    parted-new-Q =
+        ap (λ (l : List (List ℕ)). b .P ++ (l ++ b .T)) new-Q
+        ∙ ap (λ (l : List (List ℕ)). b .P ++ l) (append-assoc (take (seen left b) (b .Q)) (f ∷ drop (seen left b) (b .Q)) (b .T))
+        ∙ sym (append-assoc (b .P) (take (seen left b) (b .Q)) (f ∷ (drop (seen left b) (b .Q) ++ b .T)))
+
+    pub length-new-Q : length (put-Q-before left f (b .Q)) ≡ length (b .Q) + 1
+    length-new-Q =
+        ap length new-Q
+        ∙ omega (arith, length-append (take (seen left b) (b .Q)) (f ∷ drop (seen left b) (b .Q)), length-append (take (seen left b) (b .Q)) (drop (seen left b) (b .Q)), ap length (take-append-drop (seen left b) (b .Q)))
+
+    pub storable-new-Q : All-storable (b .Q) → Storable f → All-storable (put-Q-before left f (b .Q))
+    storable-new-Q h k =
+        subst All-storable (sym new-Q)
+        (storable-append (take (seen left b) (b .Q)) (f ∷ drop (seen left b) (b .Q)) (storable-take (seen left b) (b .Q) h) (k, storable-drop (seen left b) (b .Q) h))
+
+-- ── a member of P moved to the front of T ──
+pub parted-closed : (b : Stored) (i : ℕ) (f : List ℕ) → getD (b .P) i [] ≡ f → all (closed i b) ≡ remove i (b .P) ++ b .Q ++ (f ∷ b .T)
+parted-closed b i f e =
+    sym (append-assoc (remove i (b .P)) (b .Q) (getD (b .P) i [] ∷ b .T)) ∙ ap (λ (g : List ℕ). remove i (b .P) ++ b .Q ++ (g ∷ b .T)) e
+
+-- What the member of P took is free when it is out.
+pub freed-room : {v v₁ : List Rec} {most : ℕ} {b : Stored} {bs ss : List Stored} (H : Held v most (with-open b bs ss)) (i : ℕ) (H₁ : Held v₁ most (with-open (without-P i b) bs ss))
+    → i < length (b .P) → (f : List ℕ) → getD (b .P) i [] ≡ f → length f / 2 + 1 ≤ length (H₁ .free)
+freed-room {v} {v₁} {most} {b} {bs} {ss} H i H₁ h f e =
+    let g : length (getD (b .P) i []) ≡ length f = ap length e in
+    let xs : List (List ℕ) = take i (b .P) in
+    let ys : List (List ℕ) = drop (suc i) (b .P) ++ (b .Q ++ b .T) in
+    omega (arith, room-is H, room-is H₁, ap (place (at-of bs)) (parted-at-P b i h), ap (place (at-of bs)) (parted-without-P b i), place-one (at-of bs) xs (getD (b .P) i []) ys, place-add (at-of bs) xs ys)

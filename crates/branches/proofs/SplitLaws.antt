@@ -1,0 +1,318 @@
+-- The branch that stays open at a split: where the parts of the one set aside lie, what the copies leave, and what is held then.
+use mathlib.Core.Path.{_≡_, refl, sym, ap, _∙_}
+use mathlib.Core.Bool.{true, false}
+use mathlib.Core.List.{List, [], _∷_, _++_, append-assoc}
+use Prim.Native.Nat.{ℕ, zero, suc, _+_, _-_, _/_, _≤_, _<_}
+use native.Mathlib.Omega.{arith}
+use borrow.Author.Tests.{le-leb, lt-leb}
+use lib.ListN.{length, take, drop, getD, set, length-append, length-drop, take-append-drop}
+use lib.Seq.{take-at, drop-append-le, drop-append-add, length-take-le, paste, set-split}
+use Rattle.records.specs.Records.{Rec, mk, nul, moved}
+use Rattle.stored.specs.Stored.{poly-records, polys-records, skip-to, Storable}
+use Rattle.stored.specs.laws.Stored.{skip-to-polys-records, polys-records-append, polys-records-snoc, length-poly-records, length-le-polys-records}
+use Rattle.branches.specs.Area.{Stored, Held, Leaves, stack, branch-records, systems-records, with-open, size, kept-open, All-storable}
+use Rattle.branches.proofs.PieceLaws.{chain, top-left, last-part}
+use Rattle.branches.proofs.TurnLaws.{start, finish, own, within}
+
+-- ── storable ──
+all-append : (fs gs : List (List ℕ)) → All-storable fs → All-storable gs → All-storable (fs ++ gs)
+all-append [] gs h k = k
+all-append (f ∷ fs) gs h k = (h .0, all-append fs gs (h .1) k)
+
+all-take : (i : ℕ) (fs : List (List ℕ)) → All-storable fs → All-storable (take i fs)
+all-take zero fs h = tt
+all-take (suc i) [] h = tt
+all-take (suc i) (f ∷ fs) h = (h .0, all-take i fs (h .1))
+
+all-drop : (i : ℕ) (fs : List (List ℕ)) → All-storable fs → All-storable (drop i fs)
+all-drop zero fs h = h
+all-drop (suc i) [] h = tt
+all-drop (suc i) (f ∷ fs) h = all-drop i fs (h .1)
+
+-- ── the parts of P ──
+abbrev pub front-P : ℕ → Stored → List Rec
+front-P i c = polys-records (take i (c .P))
+
+abbrev pub back-P : ℕ → ℕ → Stored → List Rec
+back-P i n c = polys-records (take (n - i) (drop i (c .P)))
+
+abbrev pub new-P : ℕ → ℕ → Stored → List Rec
+new-P i n c = polys-records (drop (n - i) (drop i (c .P)))
+
+P-in-parts : (i n : ℕ) (c : Stored) → polys-records (c .P) ≡ front-P i c ++ (back-P i n c ++ new-P i n c)
+P-in-parts i n c =
+    ap polys-records (sym (take-append-drop i (c .P))) ∙ polys-records-append (take i (c .P)) (drop i (c .P))
+    ∙ ap (λ (l : List Rec). front-P i c ++ l) (ap polys-records (sym (take-append-drop (n - i) (drop i (c .P)))) ∙ polys-records-append (take (n - i) (drop i (c .P))) (drop (n - i) (drop i (c .P))))
+
+-- The records of the branch that is built.
+kept-records : (i n under : ℕ) (f initial : List ℕ) (c : Stored) (r : Rec)
+    → r ≡ mk (length (kept-open i n f initial c .P)) (length (kept-open i n f initial c .Q)) (length (c .T)) under
+    → (r ∷ []) ++ front-P i c ++ poly-records f ++ back-P i n c ++ polys-records (c .Q) ++ poly-records initial ++ polys-records (c .T) ≡ branch-records under (kept-open i n f initial c)
+unfolding polys-records
+kept-records i n under f initial c r e =
+    let inP : polys-records (take i (c .P) ++ (f ∷ take (n - i) (drop i (c .P)))) ≡ front-P i c ++ (poly-records f ++ back-P i n c) =
+    polys-records-append (take i (c .P)) (f ∷ take (n - i) (drop i (c .P))) in
+    let inQ : polys-records (c .Q ++ (initial ∷ [])) ≡ polys-records (c .Q) ++ poly-records initial = polys-records-snoc (c .Q) initial in
+    simp append-assoc (sym ((λ t. sym e t ∷ (inP t ++ (inQ t ++ polys-records (c .T)))) ∙ simp append-assoc))
+
+length-kept : (i n under : ℕ) (f initial : List ℕ) (c : Stored)
+    → length (branch-records under (kept-open i n f initial c)) ≡ 1 + length (front-P i c) + (length f / 2 + 1) + length (back-P i n c) + length (polys-records (c .Q)) + (length initial / 2 + 1) + length (polys-records (c .T))
+length-kept i n under f initial c =
+    let R1 = front-P i c in
+    let R2 = back-P i n c in
+    let RQ = polys-records (c .Q) in
+    let RT = polys-records (c .T) in
+    let r : Rec = mk (length (kept-open i n f initial c .P)) (length (kept-open i n f initial c .Q)) (length (c .T)) under in
+    ap length (sym (kept-records i n under f initial c r refl))
+    ∙ omega (arith, length-append ((r ∷ []) ++ R1 ++ poly-records f ++ R2 ++ RQ ++ poly-records initial) RT, length-append ((r ∷ []) ++ R1 ++ poly-records f ++ R2 ++ RQ) (poly-records initial), length-append ((r ∷ []) ++ R1 ++ poly-records f ++ R2) RQ, length-append ((r ∷ []) ++ R1 ++ poly-records f) R2, length-append ((r ∷ []) ++ R1) (poly-records f), length-append (r ∷ []) R1, length-poly-records f, length-poly-records initial)
+
+-- ── where the parts lie ──
+-- The numbers that the code reads, with so many free records.
+pub record Placed (c : Stored) (bs : List Stored) (i n free at end top p q t front back in-q in-t : ℕ) : Type 0 where
+  pub at-is : at ≡ start bs
+  pub end-is : end ≡ finish c bs
+  pub top-is : top ≡ finish c bs + free
+  pub p-is : p ≡ length (c .P)
+  pub q-is : q ≡ length (c .Q)
+  pub t-is : t ≡ length (c .T)
+  pub front-is : front ≡ start bs + 1 + length (front-P i c)
+  pub back-is : back ≡ front + length (back-P i n c)
+  pub in-q-is : in-q ≡ back + length (new-P i n c)
+  pub in-t-is : in-t ≡ in-q + length (polys-records (c .Q))
+  pub ends : end ≡ in-t + length (polys-records (c .T))
+  pub few : (n ≤ length (front-P i c) + length (back-P i n c)) × (q ≤ length (polys-records (c .Q)))
+
+-- They lie in this order, in a work area with so many records, and there are few members.
+pub record Ordered (n at end top q front back in-q in-t room : ℕ) : Type 0 where
+  pub front-of : at + 1 ≤ front
+  pub back-of : front ≤ back
+  pub Q-of : back ≤ in-q
+  pub T-of : in-q ≤ in-t
+  pub end-of : in-t ≤ end
+  pub top-of : end ≤ top
+  pub room-of : top ≤ room
+  pub most-of : top ≤ 65536
+  pub few-P : n + (at + 1) ≤ back
+  pub few-Q : q + in-q ≤ in-t
+
+pub front-end : {n at end top q front back in-q in-t room : ℕ} → Ordered n at end top q front back in-q in-t room → (at ≤ end) × (front ≤ end) × (in-q ≤ end)
+front-end o = (omega (arith, o), omega (arith, o), omega (arith, o))
+
+module _ {v : List Rec} {most : ℕ} {c : Stored} {bs ss : List Stored} (H : Held v most (with-open c bs ss)) (i n : ℕ) (h : (i ≤ n) × (n ≤ length (c .P))) where
+  abbrev used : List Rec
+  used = mk (start bs) (finish c bs) (finish c bs + length (H .free)) (length ss) ∷ stack (c ∷ bs) .0
+
+  abbrev to-P : List Rec
+  to-P = (mk (start bs) (finish c bs) (finish c bs + length (H .free)) (length ss) ∷ stack bs .0) ++ (own c bs ∷ [])
+
+  in-order : used ≡ to-P ++ (front-P i c ++ (back-P i n c ++ (new-P i n c ++ (polys-records (c .Q) ++ polys-records (c .T)))))
+  in-order =
+      ap (λ (l : List Rec). mk (start bs) (finish c bs) (finish c bs + length (H .free)) (length ss) ∷ (stack bs .0 ++ (own c bs ∷ (l ++ (polys-records (c .Q) ++ polys-records (c .T))))))
+      (P-in-parts i n c)
+      ∙ simp append-assoc
+
+  length-to-P : length to-P ≡ start bs + 1
+  length-to-P = omega (arith, length-append (mk (start bs) (finish c bs) (finish c bs + length (H .free)) (length ss) ∷ stack bs .0) (own c bs ∷ []))
+
+  whole : v ≡ used ++ (H .free ++ (systems-records ss ++ H .beyond))
+  whole = H .is
+
+  length-front : length (take i (c .P)) ≡ i
+  length-front = length-take-le i (c .P) (omega arith)
+
+  length-back : length (take (n - i) (drop i (c .P))) ≡ n - i
+  length-back = length-take-le (n - i) (drop i (c .P)) (omega (arith, length-drop i (c .P)))
+
+  skipped : (A post : List Rec) (fs : List (List ℕ)) (x k : ℕ) → used ≡ A ++ (polys-records fs ++ post) → length A ≡ x → length fs ≡ k
+      → skip-to v x k ≡ x + length (polys-records fs)
+  skipped A post fs x k e l lk =
+      let rest : List Rec = H .free ++ (systems-records ss ++ H .beyond) in
+      ap (skip-to v x) (sym lk)
+      ∙ skip-to-polys-records v A x fs (post ++ rest) l (whole ∙ ap (λ (u : List Rec). u ++ rest) e ∙ simp append-assoc)
+
+  pub to-front : (x : ℕ) → x ≡ start bs → skip-to v (x + 1) i ≡ x + 1 + length (front-P i c)
+  to-front x e =
+      skipped to-P (back-P i n c ++ (new-P i n c ++ (polys-records (c .Q) ++ polys-records (c .T)))) (take i (c .P)) (x + 1) i in-order (omega (arith, length-to-P)) length-front
+
+  pub to-back : (x : ℕ) → x ≡ start bs + 1 + length (front-P i c) → skip-to v x (n - i) ≡ x + length (back-P i n c)
+  to-back x e =
+      skipped (to-P ++ front-P i c) (new-P i n c ++ (polys-records (c .Q) ++ polys-records (c .T))) (take (n - i) (drop i (c .P))) x (n - i)
+      (in-order ∙ sym (append-assoc to-P (front-P i c) (back-P i n c ++ (new-P i n c ++ (polys-records (c .Q) ++ polys-records (c .T))))))
+      (omega (arith, length-to-P, length-append to-P (front-P i c))) length-back
+
+  pub to-Q : (x p : ℕ) → p ≡ length (c .P) → x ≡ start bs + 1 + length (front-P i c) + length (back-P i n c) → skip-to v x (p - n) ≡ x + length (new-P i n c)
+  to-Q x p ep e =
+      skipped (to-P ++ front-P i c ++ back-P i n c) (polys-records (c .Q) ++ polys-records (c .T)) (drop (n - i) (drop i (c .P))) x (p - n)
+      (in-order ∙ sym (append-assoc (to-P ++ front-P i c) (back-P i n c) (new-P i n c ++ (polys-records (c .Q) ++ polys-records (c .T))) ∙ append-assoc to-P (front-P i c) (back-P i n c ++ (new-P i n c ++ (polys-records (c .Q) ++ polys-records (c .T))))))
+      (omega (arith, length-to-P, length-append to-P (front-P i c), length-append (to-P ++ front-P i c) (back-P i n c)))
+      (omega (arith, length-drop i (c .P), length-drop (n - i) (drop i (c .P))))
+
+  abbrev to-new : List Rec
+  to-new = to-P ++ front-P i c ++ back-P i n c ++ new-P i n c
+
+  length-to-new : length to-new ≡ start bs + 1 + length (front-P i c) + length (back-P i n c) + length (new-P i n c)
+  length-to-new =
+      omega (arith, length-to-P, length-append to-P (front-P i c), length-append (to-P ++ front-P i c) (back-P i n c), length-append (to-P ++ front-P i c ++ back-P i n c) (new-P i n c))
+
+  Q-in-order : used ≡ to-new ++ (polys-records (c .Q) ++ polys-records (c .T))
+  Q-in-order = in-order ∙ regroup to-P (front-P i c) (back-P i n c) (new-P i n c) (polys-records (c .Q) ++ polys-records (c .T))
+    where
+      regroup : (a b d e f : List Rec) → a ++ (b ++ (d ++ (e ++ f))) ≡ a ++ b ++ d ++ e ++ f
+      regroup a b d e f = simp append-assoc
+
+  pub to-T : (x q : ℕ) → q ≡ length (c .Q) → x ≡ start bs + 1 + length (front-P i c) + length (back-P i n c) + length (new-P i n c)
+      → skip-to v x q ≡ x + length (polys-records (c .Q))
+  to-T x q eq e = skipped to-new (polys-records (c .T)) (c .Q) x q Q-in-order (omega (arith, length-to-new)) (sym eq)
+
+  pub length-parts : finish c bs
+      ≡ start bs + 1 + length (front-P i c) + length (back-P i n c) + length (new-P i n c) + length (polys-records (c .Q)) + length (polys-records (c .T))
+  length-parts =
+      omega (arith, ap length Q-in-order, length-to-new, length-append to-new (polys-records (c .Q) ++ polys-records (c .T)), length-append (polys-records (c .Q)) (polys-records (c .T)))
+
+  pub few-members : (n ≤ length (front-P i c) + length (back-P i n c)) × (length (c .Q) ≤ length (polys-records (c .Q)))
+  few-members =
+      (omega (arith, length-front, length-back, length-le-polys-records (take i (c .P)), length-le-polys-records (take (n - i) (drop i (c .P)))), length-le-polys-records (c .Q))
+
+  members-P : (f : List ℕ) → n + 1 ≡ length (take i (c .P) ++ (f ∷ take (n - i) (drop i (c .P))))
+  members-P f = omega (arith, length-append (take i (c .P)) (f ∷ take (n - i) (drop i (c .P))), length-front, length-back)
+
+  -- ── what is held then ──
+  module _ (f initial : List ℕ) {at end top p q t front back in-q in-t : ℕ} (G : Placed c bs i n (length (H .free)) at end top p q t front back in-q in-t) where
+    pub ordered : (room : ℕ) → length v ≡ room → Ordered n at end top q front back in-q in-t room
+    ordered room e =
+        record {
+          front-of = omega (arith, G .at-is, G .front-is);
+          back-of = omega (arith, G .back-is);
+          Q-of = omega (arith, G .in-q-is);
+          T-of = omega (arith, G .in-t-is);
+          end-of = omega (arith, G .ends);
+          top-of = omega (arith, G .end-is, G .top-is);
+          room-of = omega (arith, within H, G .top-is);
+          most-of = omega (arith, H .fits, H .few, G .top-is);
+          few-P = omega (arith, G .few, G .at-is, G .front-is, G .back-is);
+          few-Q = omega (arith, G .few, G .in-t-is);
+        }
+
+    abbrev needed : ℕ
+    needed = 1 + (back - (at + 1)) + (length f / 2 + 1) + (in-t - in-q) + (length initial / 2 + 1) + (end - in-t)
+
+    length-needed : length (branch-records (start bs) (kept-open i n f initial c)) ≡ needed
+    length-needed = omega (arith, length-kept i n (start bs) f initial c, G)
+
+    size-kept : size (with-open (kept-open i n f initial c) (c ∷ bs) ss) ≡ finish c bs + needed + length (systems-records ss)
+    unfolding size
+    size-kept = omega (arith, length-needed, length-append (stack (c ∷ bs) .0) (branch-records (start bs) (kept-open i n f initial c)))
+
+    members-Q : q + 1 ≡ length (c .Q ++ (initial ∷ []))
+    members-Q = omega (arith, length-append (c .Q) (initial ∷ []), G .q-is)
+
+    pub no-room : top - end < needed → Leaves most (with-open (kept-open i n f initial c) (c ∷ bs) ss) false v
+    no-room less =
+        record {
+          answer = sym (lt-leb (size (with-open (kept-open i n f initial c) (c ∷ bs) ss)) most (omega (arith, size-kept, H .fits, G)));
+          held = λ e. absurd (let z : _≡_ {A = ℕ} 0 1 = cc in omega arith);
+        }
+
+    length-used : length used ≡ end
+    length-used = omega (arith, G .end-is)
+
+    record-put : end < length v → (r : Rec) (v₁ : List Rec) → v₁ ≡ set v end r → v₁ ≡ used ++ ((r ∷ []) ++ drop 1 (H .free ++ (systems-records ss ++ H .beyond)))
+    record-put room r v₁ e₁ =
+        let after : List Rec = H .free ++ (systems-records ss ++ H .beyond) in
+        let next : suc end ≡ length used + 1 = omega (arith, length-used) in
+        e₁ ∙ set-split v end r room
+        ∙ (λ j. (ap (take end) whole ∙ take-at used after end length-used) j ++ (r ∷ ((λ x. drop (next x) (whole x)) ∙ drop-append-add used after 1) j))
+
+    first-block : (used ≡ to-P ++ (front-P i c ++ (back-P i n c ++ (new-P i n c ++ (polys-records (c .Q) ++ polys-records (c .T)))))) × (length to-P ≡ at + 1) × (length (front-P i c) ≡ front - (at + 1))
+    first-block = (in-order, omega (arith, length-to-P, G .at-is), omega (arith, G .at-is, G .front-is))
+
+    second-block : (used ≡ to-P ++ front-P i c ++ (back-P i n c ++ (new-P i n c ++ (polys-records (c .Q) ++ polys-records (c .T))))) × (length (to-P ++ front-P i c) ≡ front) × (length (back-P i n c) ≡ back - front)
+    second-block = (
+      in-order ∙ sym (append-assoc to-P (front-P i c) (back-P i n c ++ (new-P i n c ++ (polys-records (c .Q) ++ polys-records (c .T))))),
+      omega (arith, length-to-P, length-append to-P (front-P i c), G .front-is),
+      omega (arith, G .back-is),
+    )
+
+    Q-block : (used ≡ to-new ++ (polys-records (c .Q) ++ polys-records (c .T))) × (length to-new ≡ in-q) × (length (polys-records (c .Q)) ≡ in-t - in-q)
+    Q-block = (Q-in-order, omega (arith, length-to-new, G .front-is, G .back-is, G .in-q-is), omega (arith, G .in-t-is))
+
+    T-block : (used ≡ to-new ++ polys-records (c .Q) ++ (polys-records (c .T) ++ [])) × (length (to-new ++ polys-records (c .Q)) ≡ in-t) × (length (polys-records (c .T)) ≡ end - in-t)
+    T-block = (
+      Q-in-order ∙ last-part to-new (polys-records (c .Q)) (polys-records (c .T)),
+      omega (arith, length-append to-new (polys-records (c .Q)), Q-block .1, G .in-t-is),
+      omega (arith, G .ends),
+    )
+
+    abbrev pieces : ℕ
+    pieces = 1 + (front - (at + 1)) + (length f / 2 + 1) + (back - front) + (in-t - in-q) + (length initial / 2 + 1) + (end - in-t)
+
+    pieces-needed : pieces ≡ needed
+    pieces-needed = let a : (front - (at + 1)) + (back - front) ≡ back - (at + 1) = omega (arith, G .at-is, G .front-is, G .back-is) in omega arith
+
+    fits-in : needed ≤ top - end → pieces ≤ length (H .free)
+    fits-in room = let a : top - end ≡ length (H .free) = omega (arith, G .end-is, G .top-is) in omega (arith, pieces-needed)
+
+    finish-kept : end + pieces ≡ finish (kept-open i n f initial c) (c ∷ bs)
+    finish-kept =
+        omega (arith, pieces-needed, length-needed, length-append (stack (c ∷ bs) .0) (branch-records (start bs) (kept-open i n f initial c)), G .end-is)
+
+    top-kept : needed ≤ top - end → top ≡ finish (kept-open i n f initial c) (c ∷ bs) + length (drop pieces (H .free))
+    top-kept room = top-left pieces end (finish (kept-open i n f initial c) (c ∷ bs)) top (H .free) finish-kept (fits-in room) (G .top-is ∙ ap (λ (x : ℕ). x + length (H .free)) (sym (G .end-is)))
+
+    end-inside : needed ≤ top - end → end < length v
+    end-inside room = let fits = fits-in room in omega (arith, within H, G .end-is)
+
+    pub kept : needed ≤ top - end → Storable f → Storable initial → (v₁ v₂ v₃ v₄ v₅ v₆ v₇ v₈ : List Rec) (a₁ a₂ a₃ a₄ a₅ a₆ k : ℕ)
+        → v₁ ≡ set v end (mk (n + 1) (q + 1) t at)
+        → (a₁ ≡ end + 1 + (front - (at + 1))) × (v₂ ≡ moved v₁ (at + 1) (front - (at + 1)) (end + 1))
+        → (a₂ ≡ a₁ + (length f / 2 + 1)) × (v₃ ≡ paste v₂ a₁ (poly-records f) (length f / 2 + 1))
+        → (a₃ ≡ a₂ + (back - front)) × (v₄ ≡ moved v₃ front (back - front) a₂)
+        → (a₄ ≡ a₃ + (in-t - in-q)) × (v₅ ≡ moved v₄ in-q (in-t - in-q) a₃)
+        → (a₅ ≡ a₄ + (length initial / 2 + 1)) × (v₆ ≡ paste v₅ a₄ (poly-records initial) (length initial / 2 + 1))
+        → (a₆ ≡ a₅ + (end - in-t)) × (v₇ ≡ moved v₆ in-t (end - in-t) a₅)
+        → k ≡ getD v₇ 0 nul .w3 → v₈ ≡ set v₇ 0 (mk end a₆ top k)
+        → Leaves most (with-open (kept-open i n f initial c) (c ∷ bs) ss) true v₈
+    kept room sf si v₁ v₂ v₃ v₄ v₅ v₆ v₇ v₈ a₁ a₂ a₃ a₄ a₅ a₆ k e₁ e₂ e₃ e₄ e₅ e₆ e₇ ek e₈ =
+        let behind : List Rec = systems-records ss ++ H .beyond in
+        let after : List Rec = H .free ++ behind in
+        let R1 = front-P i c in
+        let R2 = back-P i n c in
+        let RQ = polys-records (c .Q) in
+        let RT = polys-records (c .T) in
+        let new = kept-open i n f initial c in
+        let r : Rec = mk (n + 1) (q + 1) t at in
+        let built : (r ∷ []) ++ R1 ++ poly-records f ++ R2 ++ RQ ++ poly-records initial ++ RT ≡ branch-records (start bs) new =
+        kept-records i n (start bs) f initial c r (λ j. mk (members-P f j) (members-Q j) (G .t-is j) (G .at-is j)) in
+        let K : ℕ = 1 + (front - (at + 1)) + (length f / 2 + 1) + (back - front) + (in-t - in-q) + (length initial / 2 + 1) + (end - in-t) in
+        let done = chain used after r R1 (poly-records f) R2 RQ (poly-records initial) RT to-P (R2 ++ (new-P i n c ++ (RQ ++ RT))) (to-P ++ R1) (new-P i n c ++ (RQ ++ RT))
+        to-new RT (to-new ++ RQ) [] v₁ v₂ v₃ v₄ v₅ v₆ v₇ end (at + 1) front in-q in-t (front - (at + 1)) (length f / 2 + 1) (back - front) (in-t - in-q) (length initial / 2 + 1)
+        (end - in-t) a₁ a₂ a₃ a₄ a₅ a₆ length-used (record-put (end-inside room) r v₁ e₁) first-block (length-poly-records f) second-block Q-block (length-poly-records initial) T-block e₂ e₃ e₄ e₅ e₆ e₇ in
+        let free' : List Rec = drop K (H .free) in
+        let shrunk : drop K after ≡ free' ++ behind = drop-append-le K (H .free) behind (fits-in room) in
+        let systems : k ≡ length ss = ek ∙ ap (λ (u : List Rec). getD u 0 nul .w3) (done .0) in
+        let new-end : a₆ ≡ finish new (c ∷ bs) = done .1 ∙ finish-kept in
+        let new-top : top ≡ finish new (c ∷ bs) + length free' = top-kept room in
+        record {
+          answer = sym (le-leb (size (with-open new (c ∷ bs) ss)) most (omega (arith, size-kept, H .fits, G .end-is, G .top-is)));
+          held = λ e.
+              record {
+                free = free';
+                beyond = H .beyond;
+                is =
+                    e₈ ∙ (λ j. set (done .0 j) 0 (mk (G .end-is j) (new-end j) (new-top j) (systems j)))
+                    ∙ (λ j. mk (finish c bs) (finish new (c ∷ bs)) (finish new (c ∷ bs) + length free') (length ss) ∷ (stack (c ∷ bs) .0 ++ (built j ++ shrunk j)))
+                    ∙ ap (λ (u : List Rec). mk (finish c bs) (finish new (c ∷ bs)) (finish new (c ∷ bs) + length free') (length ss) ∷ u)
+                    (sym (append-assoc (stack (c ∷ bs) .0) (branch-records (start bs) new) (free' ++ behind)));
+                fits = ap (λ (x : ℕ). x + length (systems-records ss)) (sym new-top ∙ G .top-is) ∙ H .fits;
+                few = H .few;
+                storable = (
+                  (
+                    all-append (take i (c .P)) (f ∷ take (n - i) (drop i (c .P))) (all-take i (c .P) (H .storable .0 .0)) (sf, all-take (n - i) (drop i (c .P)) (all-drop i (c .P) (H .storable .0 .0))),
+                    all-append (c .Q) (initial ∷ []) (H .storable .0 .1) (si, tt),
+                    H .storable .0 .2,
+                    H .storable .0,
+                  ),
+                  H .storable .1,
+                );
+              };
+        }

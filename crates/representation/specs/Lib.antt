@@ -1,0 +1,2 @@
+pub mod Represent
+pub mod laws

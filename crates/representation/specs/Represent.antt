@@ -1,0 +1,50 @@
+-- The state of the rules that the work area holds: each list of pairs of words is the polynomial of its terms, and the systems stand in the
+-- order in which they were listed.
+use mathlib.Core.Path.{_≡_}
+use mathlib.Core.List.{List, [], _∷_, map, reverse}
+use Prim.Native.Nat.{ℕ, _<_}
+use lib.ListN.{getD}
+use Rattle.polynomials.specs.Packed.{terms}
+use Rattle.polynomials.specs.Working.{Holds}
+use Rattle.tables.specs.Read.{System}
+use Rattle.rules.specs.Branch.{Branch}
+use Rattle.rules.specs.Room.{State}
+use Rattle.branches.specs.Area.{Stored, Area}
+
+abbrev pub branch-of : Stored → Branch
+branch-of b = record { P = map terms (b .P); Q = map terms (b .Q); T = map terms (b .T) }
+
+-- A listed branch: "(T, Q) goes to the end of the list of systems, Q as its U".
+abbrev pub system-of : Stored → System
+system-of b = record { T = map terms (b .T); U = map terms (b .Q) }
+
+-- The newest system stands first in the work area and last in the list.
+abbrev pub state-of : Area → State
+state-of a = record { branches = map branch-of (a .branches); systems = reverse (map system-of (a .systems)) }
+
+-- A stored polynomial: canonical modulo p, at most 256 terms, words of 64 bits.
+pub record Sound (p : ℕ) (s : List ℕ) : Type 0 where
+  pub holds : Holds p s
+  pub small : (i : ℕ) → getD s i 0 < 18446744073709551616
+
+abbrev pub All-sound : ℕ → List (List ℕ) → Type 0
+All-sound p [] = Unit {0}
+All-sound p (f ∷ fs) = Sound p f × All-sound p fs
+
+pub record Branch-sound (p : ℕ) (b : Stored) : Type 0 where
+  pub in-P : All-sound p (b .P)
+  pub in-Q : All-sound p (b .Q)
+  pub in-T : All-sound p (b .T)
+
+abbrev pub Branches-sound : ℕ → List Stored → Type 0
+Branches-sound p [] = Unit {0}
+Branches-sound p (b ∷ bs) = Branch-sound p b × Branches-sound p bs
+
+pub record Area-sound (p : ℕ) (a : Area) : Type 0 where
+  pub branches : Branches-sound p (a .branches)
+  pub systems : Branches-sound p (a .systems)
+
+-- The listed branches have an empty P: it is no part of a system.
+abbrev pub All-listed : List Stored → Type 0
+All-listed [] = Unit {0}
+All-listed (b ∷ bs) = (b .P ≡ []) × All-listed bs

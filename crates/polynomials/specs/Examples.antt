@@ -1,6 +1,7 @@
 -- The definitions by computation, on polynomials that the jobs of document 01 go through.
 use mathlib.Core.Path.{_≡_, refl}
 use mathlib.Core.List.{List, [], _∷_}
+use mathlib.Core.Bool.{true, false}
 use Prim.Native.Nat.{ℕ}
 use lib.Dec.{eqb, leb}
 use Rattle.residues.specs.Residue.{inverse, inverse-from}
@@ -37,6 +38,7 @@ use Rattle.polynomials.specs.Bounds.{
   bounded-remainder,
 }
 use Rattle.polynomials.specs.Packed.{bytes, exponents, terms}
+use Rattle.polynomials.specs.Working.{falls, is-canonical, is-held}
 
 -- c·v1^a·v2^b
 abbrev t : ℕ → ℕ → ℕ → Term
@@ -111,3 +113,20 @@ words-of-v1-v2 = refl
 h-as-pairs-of-words : terms (1 ∷ 257 ∷ 6 ∷ 0 ∷ []) ≡ h
 unfolding terms bytes
 h-as-pairs-of-words = refl
+
+-- g in pairs of words, modulo 7 and modulo 5; v1 + v1^2; a coefficient without its monomial.
+g-is-held : is-held 7 (1 ∷ 2 ∷ 1 ∷ 1 ∷ 5 ∷ 0 ∷ []) ≡ true
+unfolding is-held is-canonical falls terms bytes order
+g-is-held = refl
+
+five-is-no-residue-modulo-5 : is-held 5 (1 ∷ 2 ∷ 1 ∷ 1 ∷ 5 ∷ 0 ∷ []) ≡ false
+unfolding is-held is-canonical falls terms bytes order
+five-is-no-residue-modulo-5 = refl
+
+rising-terms-are-not-held : is-held 7 (1 ∷ 1 ∷ 1 ∷ 2 ∷ []) ≡ false
+unfolding is-held is-canonical falls terms bytes order
+rising-terms-are-not-held = refl
+
+half-a-pair-is-not-held : is-held 7 (1 ∷ []) ≡ false
+unfolding is-held is-canonical falls terms bytes order
+half-a-pair-is-not-held = refl

@@ -1,9 +1,11 @@
 -- Working polynomials: pairs of 64-bit words in a lent slice, a term's coefficient and then its monomial. What contracts say of such a slice.
 use mathlib.Core.Path.{_≡_}
 use mathlib.Core.List.{List, [], _∷_}
-use Prim.Native.Nat.{ℕ, _*_, _%_, _≤_, _<_}
+use mathlib.Core.Bool.{Bool, true, false, _&&_}
+use Prim.Native.Nat.{ℕ, _*_, _%_, _≤_, Ordering·lt, Ordering·eq, Ordering·gt}
+use lib.Dec.{eqb, leb, ltb}
 use lib.ListN.{length, take, drop, getD}
-use Rattle.polynomials.specs.Poly.{Poly}
+use Rattle.polynomials.specs.Poly.{Exponents, Poly, order}
 use Rattle.polynomials.specs.Canonical.{Canonical, All}
 use Rattle.polynomials.specs.Division.{degree, initial, rest}
 use Rattle.polynomials.specs.Packed.{terms}
@@ -20,6 +22,20 @@ pub record Holds (p : ℕ) (s : List ℕ) : Type 0 where
   pub pairs : Pairs s
   pub few : length s ≤ 512
   pub canonical : Canonical p (terms s)
+
+-- Whether the first term of f, where there is one, is below the monomial e.
+unfoldable pub falls : Exponents → Poly → Bool
+falls e [] = true
+falls e (t ∷ f) = elim (order (t .exps) e) [ Ordering·lt ↦ true | Ordering·eq ↦ false | Ordering·gt ↦ false ]
+
+-- Whether the terms strictly fall, with coefficients 1 to p − 1.
+unfoldable pub is-canonical : ℕ → Poly → Bool
+is-canonical p [] = true
+is-canonical p (t ∷ f) = leb 1 (t .coef) && (ltb (t .coef) p && (falls (t .exps) f && is-canonical p f))
+
+-- Whether the words hold such a polynomial, as a test: true exactly where `Holds` (`laws.Held`).
+unfoldable pub is-held : ℕ → List ℕ → Bool
+is-held p s = eqb (length s % 2) 0 && (leb (length s) 512 && is-canonical p (terms s))
 
 -- The first n words hold f. What stands behind them is left free.
 pub record Written (f : Poly) (n : ℕ) (s : List ℕ) : Type 0 where

@@ -17,3 +17,4 @@ pub mod Parts
 pub mod Product
 pub mod Bounded
 pub mod Answers
+pub mod Held

@@ -22,7 +22,8 @@ use Rattle.tables.specs.Solve.{is-point, is-root, all-zero, none-zero, s
 use Rattle.tables.specs.Walk.{Readable, all-match}
 use Rattle.tables.specs.laws.Chains.{term-read}
 use Rattle.tables.specs.laws.Linked.{good-same, left, Member, linked-member, linked-end, linked-less, TermChain, terms-linked, HeadChain, heads-linked}
-use Rattle.tables.specs.laws.Accepted.{modulus-prime, some-record, table-read}
+use Rattle.residues.specs.laws.Prime.{modulus-prime}
+use Rattle.tables.specs.laws.Accepted.{some-record, table-read}
 use Rattle.tables.specs.laws.Solved.{PointOf, point-is}
 
 pub not-point : (p n : ℕ) (x : List ℕ) → ¬ PointOf p n x → false ≡ is-point p n x

@@ -1,3 +1,4 @@
 pub mod ExponentLaws
 pub mod PartLaws
 pub mod ValueLaws
+pub mod HeldLaws

@@ -1,4 +1,4 @@
-// The parts of a polynomial: degrees, leading variable, initial and rest; and equality.
+// The parts of a polynomial: degrees, leading variable, initial and rest; equality; and whether words hold a polynomial.
 ghost use mathlib.Core.Path.{_≡_};
 ghost use Prim.Native.Nat.{ℕ, _+_, _≤_, _<_};
 ghost use lib.ListN.{length, getD};
@@ -7,8 +7,34 @@ ghost use Rattle.polynomials.specs.Bounds.{at-most, degrees-over};
 ghost use Rattle.polynomials.specs.Canonical.{Canonical};
 ghost use Rattle.polynomials.specs.Division.{degree, leader, initial, rest};
 ghost use Rattle.polynomials.specs.Packed.{terms, bytes};
-ghost use Rattle.polynomials.specs.Working.{Pairs, Written, Split};
+ghost use Rattle.polynomials.specs.Working.{Pairs, Written, Split, is-held};
 use crate::monomial;
+
+// Whether f holds a polynomial: at most 256 terms that strictly fall, with coefficients 1 to p - 1.
+pub fn is_polynomial(p: u64, f: &[u64]) -> bool
+    ensures { λ r. ⌜ r ≡ is-held p (now (f .entry)) ⌝ }
+{
+    if f.len() % 2 == 1 {
+        return false;
+    }
+    if 512 < f.len() {
+        return false;
+    }
+    let mut i = 0;
+    while i < f.len() {
+        if f[i] == 0 {
+            return false;
+        }
+        if p <= f[i] {
+            return false;
+        }
+        if i + 2 < f.len() && f[i + 1] <= f[i + 3] {
+            return false;
+        }
+        i += 2;
+    }
+    true
+}
 
 // Whether two polynomials are equal.
 pub fn equal(f: &[u64], g: &[u64]) -> bool

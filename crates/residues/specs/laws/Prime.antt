@@ -1,13 +1,13 @@
 -- The test `is-prime` is true exactly for primes. A number that none up to its root divides is prime.
 use mathlib.Core.Path.{_≡_, sym, _∙_, ap, subst}
 use mathlib.Core.Logic.{_≢_, inl, inr}
-use mathlib.Core.Bool.{Bool, true, false}
+use mathlib.Core.Bool.{Bool, true, false, and-eq-true-iff}
 use Prim.Native.Nat.{ℕ, zero, suc, _+_, _-_, _*_, _/_, _%_, _≤_, _<_}
 use native.Mathlib.Nat.{mod-add-div, mul-mod-left, mul-le-mul, mul-le-mul-left, mul-le-mul-right, eq-or-lt-of-le, lt-of-mul-lt-mul-left, le-of-lt, lt-of-not-le}
 use native.Mathlib.Decide.{decLe}
 use native.Mathlib.Omega.{arith}
-use lib.Dec.{T, leb, eqb, eqb→eq, eqb-refl, leb→le, le→leb}
-use borrow.Author.Tests.{lt-ltb, le-ltb}
+use lib.Dec.{T, leb, ltb, eqb, eqb→eq, eqb-refl, leb→le, le→leb}
+use borrow.Author.Tests.{lt-ltb, le-ltb, ltb-true}
 use Rattle.residues.specs.Prime.{Prime, no-divisor-from, is-prime, is-modulus}
 use Rattle.residues.specs.laws.Booleans.{and-T, and-l, and-r, true-of, false-of}
 
@@ -83,3 +83,10 @@ modulus-below p r h e = rw (lt-ltb p 2147483648 h) e
 pub modulus-above : (p : ℕ) → 2147483648 ≤ p → false ≡ is-modulus p
 unfolding is-modulus
 modulus-above p h = rw (le-ltb p 2147483648 h)
+
+-- What reading asks of p.
+pub modulus-prime : (p : ℕ) → is-modulus p ≡ true → Prime p × (p < 2147483648)
+unfolding is-modulus
+modulus-prime p h =
+    let k = and-eq-true-iff (ltb p 2147483648) (is-prime p) .0 h in
+    (is-prime-sound p (subst T (sym (k .1)) tt), ltb-true p 2147483648 (k .0))

@@ -9,7 +9,7 @@ use lib.Dec.{T, eqb, leb, ltb}
 use lib.ListN.{length, getD, drop}
 use lib.Seq.{getD-drop}
 use Rattle.residues.specs.Prime.{Prime, is-prime, is-modulus}
-use Rattle.residues.specs.laws.Prime.{is-prime-sound}
+use Rattle.residues.specs.laws.Prime.{modulus-prime}
 use Rattle.polynomials.specs.Poly.{Exponents, Term, Poly, order}
 use Rattle.polynomials.specs.Canonical.{Under, Canonical, All}
 use Rattle.polynomials.specs.Packed.{bytes, exponents}
@@ -133,12 +133,6 @@ unfolding is-whole
 some-record w h =
     let k = and-eq-true-iff (eqb (length w % 4) 0) (leb 1 (records w) && leb (records w) 65536) .0 h in
     leb-true 1 (records w) (and-eq-true-iff (leb 1 (records w)) (leb (records w) 65536) .0 (k .1) .0)
-
-pub modulus-prime : (p : ℕ) → is-modulus p ≡ true → Prime p × (p < 2147483648)
-unfolding is-modulus
-modulus-prime p h =
-    let k = and-eq-true-iff (ltb p 2147483648) (is-prime p) .0 h in
-    (is-prime-sound p (subst T (sym (k .1)) tt), ltb-true p 2147483648 (k .0))
 
 readable-numbers : (w : List ℕ) (p n : ℕ) → Readable w p n → AdmissibleNumbers p n
 readable-numbers w p n r =

@@ -1,12 +1,12 @@
 // Monomials: eight exponents packed in 64 bits, v1's in the lowest byte.
 ghost use mathlib.Core.Path.{_≡_};
 ghost use Prim.Native.Nat.{_+_, _*_, _/_, _%_, _<_};
-ghost use lib.Dec.{ltb};
+ghost use lib.Dec.{isLe};
 ghost use lib.ListN.{getD};
 ghost use Rattle.polynomials.specs.Packed.{bytes, exponents};
 ghost use Rattle.polynomials.specs.Bounds.{at-most, some-over};
 ghost use Rattle.polynomials.specs.Division.{highest};
-ghost use Rattle.polynomials.specs.Poly.{join};
+ghost use Rattle.polynomials.specs.Poly.{join, order};
 
 // The exponent of v(k+1).
 pub fn exponent(m: u64, k: u32) -> u64
@@ -35,6 +35,13 @@ pub fn low_word(m: u64) -> u32
     ensures { λ r. ⌜ r ≡ m % 4294967296 ⌝ }
 {
     (m % 4294967296) as u32
+}
+
+// Whether a is not above b: the order of monomials is that of numbers.
+pub fn at_most(a: u64, b: u64) -> bool
+    ensures { λ r. ⌜ r ≡ isLe (order (bytes 8 a) (bytes 8 b)) ⌝ }
+{
+    a <= b
 }
 
 // The leading variable: k for vk, 0 for none. It is how many bytes m takes.

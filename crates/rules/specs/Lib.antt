@@ -9,5 +9,6 @@ pub mod Writable
 pub mod laws
 pub mod Solutions
 pub mod Claims
+pub mod Promise
 pub mod Jobs
 pub mod Ahead

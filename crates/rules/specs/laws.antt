@@ -16,3 +16,4 @@ pub mod AdmissibleRun
 pub mod WithinRoom
 pub mod WrittenAgain
 pub mod Least
+pub mod Promised

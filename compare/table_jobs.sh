@@ -8,7 +8,7 @@ rust=target/compare/release/table_jobs
 room=$(mktemp -d)
 trap 'rm -rf "$room"' EXIT
 
-{ "$rust" fixed; "$rust" random 1 300; } >"$room/jobs"
+{ "$rust" fixed; "$rust" random 1 300; "$rust" too-long; } >"$room/jobs"
 cmp "$room/jobs" crates/table_jobs/stdin
 "$rust" answers <"$room/jobs" | cmp - crates/table_jobs/stdout
 

@@ -82,8 +82,9 @@ fn main() {
     match args.iter().map(String::as_str).collect::<Vec<_>>()[..] {
         ["fixed"] => write(&tried(fixed::jobs())),
         ["large"] => write(&tried(fixed::large())),
+        ["too-long"] => write(&tried(fixed::large())[..1]),
         ["random", seed, count] => write(&random::jobs(seed.parse().unwrap(), count.parse().unwrap())),
         ["answers"] => print_answers(),
-        _ => panic!("fixed, large, random SEED COUNT, or answers"),
+        _ => panic!("fixed, large, too-long, random SEED COUNT, or answers"),
     }
 }

@@ -1,0 +1,186 @@
+-- What the survey chose is the rule that fits, and a pivot is led by its variable.
+use mathlib.Core.Path.{_≡_, refl, sym, ap, ap₂, subst, _∙_}
+use mathlib.Core.Logic.{_≢_}
+use mathlib.Core.Bool.{Bool, true, false, _||_, _&&_}
+use mathlib.Core.List.{List, [], _∷_, map, reverse}
+use Prim.Native.Nat.{ℕ, zero, suc, _+_, _-_, _≤_, _<_, max, Ordering·lt, Ordering·eq}
+use native.Mathlib.Omega.{arith}
+use lib.Dec.{eqb}
+use borrow.Author.Tests.{eq-eqb}
+use lib.ListN.{length, getD}
+use lib.Seq.{ext-getD}
+use Rattle.polynomials.specs.Poly.{Exponents, Poly, order}
+use Rattle.polynomials.specs.Canonical.{Canonical}
+use Rattle.polynomials.specs.Division.{leader}
+use Rattle.polynomials.specs.Packed.{terms}
+use Rattle.polynomials.specs.laws.Free.{Free}
+use Rattle.polynomials.specs.laws.Order.{order-refl}
+use Rattle.polynomials.specs.laws.Parts.{above-leader, leader-places}
+use Rattle.polynomials.specs.laws.Places.{Places, places-terms}
+use Rattle.rules.specs.Branch as rules
+use Rattle.rules.specs.Branch.{Branch, Chosen, some-one, some-zero, is-one, all-zeros, highest-leader, pivot}
+use Rattle.rules.specs.Rule.{Rule, drop, list, rule-with, rule-of, rule-of-P}
+use Rattle.rules.specs.Step.{Stepped, next, step, apply}
+use Rattle.rules.specs.Room.{Limits}
+use Rattle.rules.specs.Writable.{Each}
+use Rattle.rules.specs.laws.Lists.{At}
+use Rattle.rules.specs.laws.Pivot.{pivot-stands, pivot-leads}
+use Rattle.branches.specs.Area.{Stored, Area, with-open}
+use Rattle.survey.specs.Survey.{choice, choice-of-P}
+use Rattle.survey.specs.declared.Choice.{Choice}
+use Rattle.survey.specs.declared.Choice.the-variants.{Drop, List as Lists, Pivot}
+use Rattle.representation.specs.Represent.{Sound, All-sound, branch-of, system-of, state-of}
+use Rattle.representation.specs.laws.Monics.{Monic, All-monic}
+use Rattle.representation.specs.laws.Steps.{chosen, chosen-at, drop-state, list-state}
+use Rattle.steps.specs.Ready.{Ready}
+use Rattle.steps.specs.Pending.{Leads}
+
+all-zeros-of : (e : Exponents) → ((j : ℕ) → getD e j 0 ≡ 0) → all-zeros e ≡ true
+unfolding all-zeros
+all-zeros-of [] h = refl
+all-zeros-of (n ∷ e) h = ap₂ _&&_ (eq-eqb n 0 (h 0)) (all-zeros-of e (λ j. h (suc j)))
+
+-- A monic polynomial without a leading variable is 1.
+constant-is-one : (p n : ℕ) (f : Poly) → Canonical p f → Places n f → Monic f → f ≢ [] → leader f ≡ 0 → is-one f ≡ true
+unfolding is-one
+constant-is-one p n [] c u m z h = absurd (z refl)
+constant-is-one p n (t ∷ []) c u m z h = ap₂ _&&_ (eq-eqb (t .coef) 1 m) (all-zeros-of (t .exps) (λ j. above-leader (t ∷ []) j (omega arith) .0))
+constant-is-one p n (t ∷ (v ∷ f)) c u m z h = absurd (clash (c .2 .0))
+  where
+    free : (j : ℕ) → Free j (t ∷ (v ∷ f))
+    free j = above-leader (t ∷ (v ∷ f)) j (omega arith)
+
+    same : v .exps ≡ t .exps
+    same = ext-getD 0 (v .exps) (t .exps) (u .1 .0 ∙ sym (u .0)) (λ i l. free i .1 .0 ∙ sym (free i .0))
+
+    clash : order (v .exps) (t .exps) ≡ Ordering·lt → ⊥
+    clash q =
+        let e : order (v .exps) (t .exps) ≡ Ordering·eq = subst (λ a. order (v .exps) a ≡ Ordering·eq) same (order-refl (v .exps)) in
+        let z : _≡_ {A = ℕ} 0 1 = cc in omega arith
+
+-- ── the highest leading variable ──
+highest-small : (fs : List (List ℕ)) → highest-leader (map terms fs) ≤ 8
+unfolding highest-leader
+highest-small [] = omega arith
+highest-small (f ∷ fs) = omega (arith, leader-places 8 (terms f) (places-terms f), highest-small fs)
+
+words-none : (p : ℕ) (f : List ℕ) → Sound p f → terms f ≡ [] → f ≡ []
+unfolding terms
+words-none p [] s e = refl
+words-none p (x ∷ []) s e = absurd (omega (arith, s .holds .pairs))
+words-none p (x ∷ (y ∷ f)) s e = let z : _≡_ {A = ℕ} 0 1 = cc in absurd (omega arith)
+
+some-leader : (p : ℕ) (f : List ℕ) (fs : List (List ℕ)) → Sound p f → Monic (terms f) → f ≢ [] → some-one (map terms (f ∷ fs)) ≡ false → 1 ≤ highest-leader (map terms (f ∷ fs))
+unfolding highest-leader some-one
+some-leader p f fs s m z e = go (leader (terms f)) refl
+  where
+    go : (n : ℕ) → leader (terms f) ≡ n → 1 ≤ max (leader (terms f)) (highest-leader (map terms fs))
+    go zero q =
+        let o = constant-is-one p 8 (terms f) (s .holds .canonical) (places-terms f) m (λ y. z (words-none p f s y)) q in
+        let c : true ≡ false = ap (λ b. b || some-one (map terms fs)) (sym o) ∙ e in
+        let y : _≡_ {A = ℕ} 0 1 = cc in absurd (omega arith)
+    go (suc n) q = omega arith
+
+or-left : (x y : Bool) → (x || y) ≡ false → x ≡ false
+or-left true y e = e
+or-left false y e = refl
+
+at-inside : (i : ℕ) (f : Poly) (fs : List (List ℕ)) → At i f (map terms fs) → i < length fs
+at-inside i f [] a = absurd a
+at-inside zero f (g ∷ fs) a = omega arith
+at-inside (suc i) f (g ∷ fs) a = omega (arith, at-inside i f fs a)
+
+-- ── the rule ──
+abbrev choice-by : Branch → Bool → Choice
+choice-by b o = elim o [ true ↦ Drop | false ↦ choice-of-P (b .P) ]
+
+abbrev rule-by : Branch → Bool → Rule
+rule-by b o = elim o [ true ↦ drop | false ↦ rule-of-P (b .P) b ]
+
+no : {A : Type 0} → _≡_ {A = ℕ} 0 1 → A
+no z = absurd (omega arith)
+
+pub chosen-drop : (b : Branch) → choice b ≡ Drop → rule-of b ≡ drop
+unfolding choice rule-of
+chosen-drop b e = go (some-one (b .P) || some-zero (b .Q)) (b .P) e
+  where
+    go : (o : Bool) (P : List Poly) → (elim o as (λ o. Choice) [ true ↦ Drop | false ↦ choice-of-P P ]) ≡ Drop → (elim o as (λ o. Rule) [ true ↦ drop | false ↦ rule-of-P P b ]) ≡ drop
+    go true P e = refl
+    go false [] e = no cc
+    go false (f ∷ fs) e = no cc
+
+pub chosen-list : (b : Branch) → choice b ≡ Lists → (rule-of b ≡ list) × (b .P ≡ [])
+unfolding choice rule-of
+chosen-list b e = go (some-one (b .P) || some-zero (b .Q)) (b .P) e
+  where
+    go : (o : Bool) (P : List Poly) → (elim o as (λ o. Choice) [ true ↦ Drop | false ↦ choice-of-P P ]) ≡ Lists → ((elim o as (λ o. Rule) [ true ↦ drop | false ↦ rule-of-P P b ]) ≡ list) × (P ≡ [])
+    go true P e = no cc
+    go false [] e = (refl, refl)
+    go false (f ∷ fs) e = no cc
+
+module _ (p k i : ℕ) where
+  abbrev Chosen-pivot : Stored → Type 0
+  Chosen-pivot b = (rule-of (branch-of b) ≡ rule-with k (chosen b i) (branch-of b)) × Leads k i b
+
+  pub chosen-pivot : (P Q T : List (List ℕ)) → All-sound p P → All-monic P → Each (λ f. f ≢ []) P → choice (branch-of (record { P = P; Q = Q; T = T })) ≡ Pivot k i
+      → Chosen-pivot (record { P = P; Q = Q; T = T })
+  unfolding choice rule-of
+  chosen-pivot [] Q T s m z e = no (go (some-one [] || some-zero (map terms Q)) e)
+    where
+      go : (o : Bool) → (elim o as (λ o. Choice) [ true ↦ Drop | false ↦ Lists ]) ≡ Pivot k i → _≡_ {A = ℕ} 0 1
+      go true e = cc
+      go false e = cc
+  chosen-pivot (f ∷ fs) Q T s m z e = go (some-one (map terms (f ∷ fs)) || some-zero (map terms Q)) refl e
+    where
+      b : Stored
+      b = record { P = f ∷ fs; Q = Q; T = T }
+
+      h : ℕ
+      h = highest-leader (map terms (f ∷ fs))
+
+      c : Chosen
+      c = pivot (h - 1) (terms f) (map terms fs)
+
+      go : (o : Bool) → (some-one (map terms (f ∷ fs)) || some-zero (map terms Q)) ≡ o → (elim o as (λ o. Choice) [ true ↦ Drop | false ↦ Pivot (h - 1) (c .place) ]) ≡ Pivot k i
+          → ((elim o as (λ o. Rule) [ true ↦ drop | false ↦ rule-with (h - 1) c (branch-of b) ]) ≡ rule-with k (chosen b i) (branch-of b)) × Leads k i b
+      go true q e = no cc
+      go false q e =
+          let ek : h - 1 ≡ k = cc in
+          let ei : c .place ≡ i = cc in
+          let stands = pivot-stands (h - 1) (terms f) (map terms fs) in
+          let at : c ≡ chosen b (c .place) = chosen-at b c stands in
+          let low = some-leader p f fs (s .0) (m .0) (z .0) (or-left (some-one (map terms (f ∷ fs))) (some-zero (map terms Q)) q) in
+          let high = highest-small (f ∷ fs) in
+          let inside = at-inside (c .place) (c .poly) (f ∷ fs) stands in
+          let led : leader (terms (getD (f ∷ fs) i [])) ≡ h = ap (λ (i : ℕ). leader (terms (getD (f ∷ fs) i []))) (sym ei) ∙ ap (λ (d : Chosen). leader (d .poly)) (sym at) ∙ pivot-leads (terms f) (map terms fs) in
+          (ap (λ (d : Chosen). rule-with (h - 1) d (branch-of b)) at ∙ ap₂ (λ (k i : ℕ). rule-with k (chosen b i) (branch-of b)) ek ei, (omega (arith, ek, low, high), omega (arith, inside, ei), omega (arith, led, ek, low)))
+
+-- ── rules 1 and 2 ──
+module _ (l : Limits) (p : ℕ) (b : Stored) (bs ss : List Stored) where
+  abbrev stepped : Rule → Stepped
+  stepped r = apply l p (map branch-of bs) (reverse (map system-of ss)) r (branch-of b)
+
+  pub step-by : (r : Rule) → rule-of (branch-of b) ≡ r → step l p (branch-of b) (map branch-of bs) (reverse (map system-of ss)) ≡ stepped r
+  unfolding step
+  step-by r e = ap stepped e
+
+  module _ (R : Ready p (with-open b bs ss)) where
+    pub ready-dropped : Ready p (record { branches = bs; systems = ss })
+    ready-dropped = record {
+      sound = record { branches = R .sound .branches .1; systems = R .sound .systems };
+      monic = R .monic .1;
+      nonzero = R .nonzero .1;
+      listed = R .listed;
+    }
+
+    pub ready-listed : b .P ≡ [] → Ready p (record { branches = bs; systems = b ∷ ss })
+    ready-listed e = record {
+      sound = record { branches = R .sound .branches .1; systems = (R .sound .branches .0, R .sound .systems) };
+      monic = R .monic .1;
+      nonzero = R .nonzero .1;
+      listed = (e, R .listed);
+    }
+
+pub map-none : (P : List (List ℕ)) → map terms P ≡ [] → P ≡ []
+map-none [] e = refl
+map-none (f ∷ fs) e = no cc

@@ -1,0 +1,29 @@
+-- The rounds of a division, one at a time: what n rounds from R on form, as the code meets each round.
+use mathlib.Core.Path.{_≡_, refl, sym, ap, subst, _∙_}
+use mathlib.Core.Bool.{Bool, true, false}
+use mathlib.Core.List.{List}
+use Prim.Native.Nat.{ℕ, zero, suc, _+_, _≤_, _<_}
+use native.Mathlib.Omega.{arith}
+use lib.Dec.{leb}
+use borrow.Author.Tests.{le-leb, lt-leb}
+use Rattle.residues.specs.Prime.{Prime}
+use Rattle.polynomials.specs.Poly.{Poly}
+use Rattle.polynomials.specs.Division.{degree, round}
+use Rattle.polynomials.specs.Bounds.{Bounds, Bounded, within, degree-passed, terms-passed, and-then, bounded-round, bounded-remainder}
+use Rattle.polynomials.specs.laws.Bounded.{round-formed}
+
+module _ (s : Bounds) (p k d : ℕ) (T R : Poly) where
+  abbrev by-test : ℕ → Bool → Bounded
+  by-test n o = elim o [ true ↦ and-then (bounded-round s p k d T R) (bounded-remainder s p k d T n) | false ↦ within R ]
+
+  -- R is the remainder.
+  pub remainder-done : (n : ℕ) → degree k R < d → bounded-remainder s p k d T n R ≡ within R
+  unfolding bounded-remainder
+  remainder-done zero h = refl
+  remainder-done (suc n) h = ap (by-test n) (lt-leb d (degree k R) h)
+
+  -- Another round.
+  pub remainder-again : (n : ℕ) → degree k R < n → d ≤ degree k R → (m : ℕ) × (n ≡ suc m) × (bounded-remainder s p k d T n R ≡ and-then (bounded-round s p k d T R) (bounded-remainder s p k d T m))
+  unfolding bounded-remainder
+  remainder-again zero l h = absurd (omega arith)
+  remainder-again (suc n) l h = (n, refl, ap (by-test n) (le-leb d (degree k R) h))

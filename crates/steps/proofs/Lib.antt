@@ -1,0 +1,10 @@
+pub mod ChoiceLaws
+pub mod DivisionLaws
+pub mod MadeLaws
+pub mod MemberLaws
+pub mod PivotLaws
+pub mod PrepareLaws
+pub mod RestLaws
+pub mod SplitLaws
+pub mod TakeLaws
+pub mod Unique

@@ -1,0 +1,48 @@
+-- A polynomial in the first words of a slice, made monic in place.
+use mathlib.Core.Path.{_≡_, sym, ap, subst, _∙_}
+use mathlib.Core.List.{List, [], _∷_, _++_}
+use Prim.Native.Nat.{ℕ, zero, suc, _%_, _≤_, _<_}
+use native.Mathlib.Omega.{arith}
+use lib.ListN.{length, getD, take, drop, length-append}
+use lib.Seq.{length-take-le, take-at}
+use Rattle.residues.specs.Prime.{Prime}
+use Rattle.polynomials.specs.Poly.{monic}
+use Rattle.polynomials.specs.Canonical.{Canonical}
+use Rattle.polynomials.specs.Packed.{terms}
+use Rattle.polynomials.specs.Working.{Holds}
+use Rattle.polynomials.specs.laws.Canonical.{canonical-monic}
+use Rattle.representation.specs.Represent.{Sound}
+
+pub small-take : (n : ℕ) (s : List ℕ) (m : ℕ) → 1 ≤ m → ((i : ℕ) → getD s i 0 < m) → (i : ℕ) → getD (take n s) i 0 < m
+small-take zero s m l h i = omega arith
+small-take (suc n) [] m l h i = omega arith
+small-take (suc n) (x ∷ s) m l h zero = h 0
+small-take (suc n) (x ∷ s) m l h (suc i) = small-take n s m l (λ j. h (suc j)) i
+
+-- The first n words of r were made monic: m stands in their place.
+module _ (p n : ℕ) (r m : List ℕ) (prime : Prime p) (l : n ≤ length r) (h : Holds p (take n r)) (k : length m ≡ length (take n r))
+    (e : terms m ≡ monic p (terms (take n r))) where
+  long : length m ≡ n
+  long = k ∙ length-take-le n r l
+
+  made : take n (m ++ drop n r) ≡ m
+  made = take-at m (drop n r) n long
+
+  pub made-length : n ≡ length (take n (m ++ drop n r))
+  made-length = sym (ap length made ∙ long)
+
+  pub made-within : n ≤ length (m ++ drop n r)
+  made-within = omega (arith, long, length-append m (drop n r))
+
+  pub made-monic : terms (take n (m ++ drop n r)) ≡ monic p (terms (take n r))
+  made-monic = ap terms made ∙ e
+
+  pub made-sound : ((i : ℕ) → getD (m ++ drop n r) i 0 < 18446744073709551616) → Sound p (take n (m ++ drop n r))
+  made-sound small = record {
+    holds = record {
+      pairs = ap (λ (f : List ℕ). length f % 2) made ∙ ap (λ (i : ℕ). i % 2) k ∙ h .pairs;
+      few = omega (arith, ap length made, k, h .few);
+      canonical = subst (Canonical p) (sym made-monic) (canonical-monic p (terms (take n r)) (omega (arith, prime .two≤)));
+    };
+    small = small-take n (m ++ drop n r) 18446744073709551616 (omega arith) small;
+  }

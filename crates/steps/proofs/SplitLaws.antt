@@ -1,0 +1,71 @@
+-- Rule 3 done, or stopped for want of room.
+use mathlib.Core.Path.{_≡_, refl, sym, ap, subst, _∙_}
+use mathlib.Core.Logic.{_≢_}
+use mathlib.Core.Bool.{Bool, true, false, _||_}
+use mathlib.Core.List.{List, [], _∷_, map, reverse}
+use Prim.Native.Nat.{ℕ, _+_, _-_, _≤_}
+use native.Mathlib.Omega.{arith}
+use lib.Dec.{leb}
+use lib.ListN.{length, getD}
+use Rattle.residues.specs.Prime.{Prime}
+use Rattle.polynomials.specs.Poly.{monic}
+use Rattle.polynomials.specs.Division.{leader, initial, rest}
+use Rattle.polynomials.specs.Packed.{terms}
+use Rattle.polynomials.specs.laws.Parts.{canonical-rest, initial-nonzero}
+use Rattle.polynomials.specs.laws.Places.{places-terms}
+use Rattle.tables.specs.declared.Reason.the-variants.{Room}
+use Rattle.rules.specs.Rule.{Rule, split, rule-with}
+use Rattle.rules.specs.Step.{Stepped, next, stopped, apply}
+use Rattle.rules.specs.Writable.{Each}
+use Rattle.records.specs.Records.{Rec}
+use Rattle.branches.specs.Words.{put-P, is-zero, remove}
+use Rattle.branches.specs.Area.{Stored, Area, Held, Leaves, size, with-open, split-area}
+use Rattle.representation.specs.Represent.{Sound, branch-of, system-of, state-of}
+use Rattle.representation.specs.laws.Lists.{sound-at, each-remove, each-put-P}
+use Rattle.representation.specs.laws.Sounds.{split-area-sound}
+use Rattle.representation.specs.laws.Monics.{Monic, initial-monic, stored-initial-own, stored-monic, remove-monic, put-P-monic, monic-at}
+use Rattle.representation.specs.laws.Steps.{chosen, if-fits, apply-split}
+use Rattle.steps.specs.Ready.{Ready, limits-in}
+use Rattle.steps.specs.Pending.{Leads}
+
+-- Zero is not put.
+pub put-P-nonzero : (f : List ℕ) (fs : List (List ℕ)) → Each (λ g. g ≢ []) fs → Each (λ g. g ≢ []) (put-P f fs)
+unfolding put-P is-zero
+put-P-nonzero [] fs h = h
+put-P-nonzero (x ∷ f) fs h = each-put-P (λ g. g ≢ []) (x ∷ f) fs (λ e. let z : _≡_ {A = ℕ} 0 1 = cc in omega arith) h
+
+module _ (p k i : ℕ) (prime : Prime p) (b : Stored) (bs ss : List Stored) (R : Ready p (with-open b bs ss)) (L : Leads k i b) (ini rst : List ℕ) (s : Sound p ini)
+    (of-ini : terms ini ≡ initial k (terms (getD (b .P) i []))) (u₀ : Sound p rst) (of-rst : terms rst ≡ monic p (rest k (terms (getD (b .P) i [])))) where
+  here : Sound p (getD (b .P) i [])
+  here = sound-at p i (b .P) (R .sound .branches .0 .in-P)
+
+  ini-monic : Monic (terms ini)
+  ini-monic = subst Monic (sym of-ini) (initial-monic p k 8 (terms (getD (b .P) i [])) (here .holds .canonical) (places-terms (getD (b .P) i [])) (L .2) (monic-at i (b .P) (R .monic .0)))
+
+  rst-monic : Monic (terms rst)
+  rst-monic = stored-monic p rst (rest k (terms (getD (b .P) i []))) prime (canonical-rest p k (terms (getD (b .P) i [])) (here .holds .canonical)) of-rst
+
+  ready-split : Ready p (split-area i ini rst b bs ss)
+  ready-split = record {
+    sound = split-area-sound p b (R .sound .branches .0) i ini rst s u₀ bs ss (R .sound .branches .1) (R .sound .systems);
+    monic = (R .monic .0, (put-P-monic rst (put-P ini (remove i (b .P))) rst-monic (put-P-monic ini (remove i (b .P)) ini-monic (remove-monic i (b .P) (R .monic .0))), R .monic .1));
+    nonzero = (R .nonzero .0, (put-P-nonzero rst (put-P ini (remove i (b .P))) (put-P-nonzero ini (remove i (b .P)) (each-remove (λ f. f ≢ []) i (b .P) (R .nonzero .0))), R .nonzero .1));
+    listed = R .listed;
+  }
+
+  module _ (v₀ : List Rec) (most : ℕ) (H : Held v₀ most (with-open b bs ss)) (q : Bool) (v : List Rec) (u : Leaves most (split-area i ini rst b bs ss) q v)
+      (rule : rule-with k (chosen b i) (branch-of b) ≡ split k (chosen b i)) where
+    abbrev S : Stepped
+    S = apply (limits-in most) p (map branch-of bs) (reverse (map system-of ss)) (rule-with k (chosen b i) (branch-of b)) (branch-of b)
+
+    splits : S ≡ if-fits q (next (state-of (split-area i ini rst b bs ss)))
+    splits =
+        ap (λ (r : Rule). apply (limits-in most) p (map branch-of bs) (reverse (map system-of ss)) r (branch-of b)) rule
+        ∙ apply-split (limits-in most) p b bs ss (R .sound .branches .0) k i ini rst s u₀ of-ini (stored-initial-own p k (getD (b .P) i []) here (L .2) (monic-at i (b .P) (R .monic .0))) of-rst most refl (omega (arith, H .fits)) (R .listed)
+        ∙ ap (λ (o : Bool). if-fits o (next (state-of (split-area i ini rst b bs ss)))) (sym (u .answer))
+
+    pub split-next : q ≡ true → (a : Area) × (S ≡ next (state-of a)) × Held v most a × Ready p a
+    split-next e = (split-area i ini rst b bs ss, splits ∙ ap (λ (o : Bool). if-fits o (next (state-of (split-area i ini rst b bs ss)))) e, u .held e, ready-split)
+
+    pub split-stop : q ≡ false → S ≡ stopped Room
+    split-stop e = splits ∙ ap (λ (o : Bool). if-fits o (next (state-of (split-area i ini rst b bs ss)))) e

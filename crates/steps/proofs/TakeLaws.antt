@@ -1,0 +1,53 @@
+-- Taking the next member out and putting its remainder in, by the list that it stands in.
+use mathlib.Core.Path.{_≡_, sym, subst}
+use mathlib.Core.Bool.{Bool, true, false}
+use mathlib.Core.List.{List, []}
+use Prim.Native.Nat.{ℕ, _-_, _≤_}
+use lib.ListN.{length, getD, take}
+use Rattle.polynomials.specs.Poly.{monic}
+use Rattle.polynomials.specs.Packed.{terms}
+use Rattle.records.specs.Records.{Rec}
+use Rattle.branches.specs.Area.{Stored, Held, Leaves, with-open, put-into-P, put-into-Q, without-P, without-Q}
+use Rattle.representation.specs.Represent.{Sound}
+use Rattle.steps.specs.Pending.{Has-left, Has-behind, next-member, taken-out, put-in}
+
+-- n words of r are the next member, which is out of the area.
+abbrev pub Took : Bool → ℕ → ℕ → Stored → List Stored → List Stored → ℕ → List ℕ → List Rec → ℕ → Type 0
+Took closing place left b bs ss n r v most =
+    (n ≡ length (next-member closing place left b)) × (take n r ≡ next-member closing place left b) × Held v most (with-open (taken-out closing place left b) bs ss)
+
+module _ {closing : Bool} (place left : ℕ) (b : Stored) where
+  pub has-Q : closing ≡ true → Has-left closing place left b → Has-left true place left b
+  has-Q e h = subst (λ q. Has-left q place left b) e h
+
+  pub has-P : closing ≡ false → Has-left closing place left b → Has-left false place left b
+  has-P e h = subst (λ q. Has-left q place left b) e h
+
+  module _ (bs ss : List Stored) (n : ℕ) (r : List ℕ) (v : List Rec) (most : ℕ) where
+    pub took-Q : closing ≡ true → (k : ℕ) → k ≡ length (b .Q) → (n ≡ length (getD (b .Q) (k - left) [])) × (take n r ≡ getD (b .Q) (k - left) [])
+        → Held v most (with-open (without-Q (k - left) b) bs ss) → Took closing place left b bs ss n r v most
+    took-Q e k q l h =
+        subst (λ q. Took q place left b bs ss n r v most) (sym e) (
+        subst (λ (k : ℕ). (n ≡ length (getD (b .Q) (k - left) [])) × (take n r ≡ getD (b .Q) (k - left) []) × Held v most (with-open (without-Q (k - left) b) bs ss)) q (l .0, l .1, h)
+        )
+
+    pub took-P : closing ≡ false → (n ≡ length (getD (b .P) place [])) × (take n r ≡ getD (b .P) place [])
+        → Held v most (with-open (without-P place b) bs ss) → Took closing place left b bs ss n r v most
+    took-P e l h = subst (λ q. Took q place left b bs ss n r v most) (sym e) (l .0, l .1, h)
+
+-- ── what is put ──
+-- What was put is the monic polynomial of the first n words of r.
+abbrev pub Put : ℕ → Bool → ℕ → List ℕ → Stored → List Stored → List Stored → Bool → List Rec → ℕ → Type 0
+Put p closing left s b bs ss k v most =
+    (f : List ℕ) × Sound p f × (terms f ≡ monic p (terms s)) × Leaves most (with-open (put-in closing left f b) bs ss) k v
+
+module _ {closing : Bool} (left : ℕ) (b : Stored) where
+  pub behind : closing ≡ true → Has-behind closing left b → left ≤ length (b .Q)
+  behind e h = subst (λ q. Has-behind q left b) e h
+
+  module _ (p : ℕ) (s : List ℕ) (bs ss : List Stored) (k : Bool) (v : List Rec) (most : ℕ) (f : List ℕ) (h : Sound p f) (e : terms f ≡ monic p (terms s)) where
+    pub put-Q : closing ≡ true → Leaves most (with-open (put-into-Q left f b) bs ss) k v → Put p closing left s b bs ss k v most
+    put-Q q u = (f, h, e, subst (λ q. Leaves most (with-open (put-in q left f b) bs ss) k v) (sym q) u)
+
+    pub put-P : closing ≡ false → Leaves most (with-open (put-into-P f b) bs ss) k v → Put p closing left s b bs ss k v most
+    put-P q u = (f, h, e, subst (λ q. Leaves most (with-open (put-in q left f b) bs ss) k v) (sym q) u)

@@ -1,0 +1,227 @@
+// A step of the run in the work area: the rule that fits is found and applied, but for the divisions of rules 4 and 5, of which each member is taken
+// out and its remainder put back.
+ghost use mathlib.Core.Path.{_≡_};
+ghost use mathlib.Core.Bool.{false, _||_};
+ghost use mathlib.Core.List.{List, [], map, reverse};
+ghost use Prim.Native.Nat.{ℕ, _+_, _≤_, _<_};
+ghost use lib.ListN.{length, getD, take};
+ghost use Rattle.polynomials.specs.Poly.{monic};
+ghost use Rattle.polynomials.specs.Packed.{terms};
+ghost use Rattle.polynomials.specs.Working.{Holds};
+ghost use Rattle.records.specs.Records.{view};
+ghost use Rattle.branches.specs.Words.{is-one};
+ghost use Rattle.branches.specs.Area.{Stored, Area, Held, Leaves, Opened, capacity, with-open, split-area};
+ghost use Rattle.stored.specs.Stored.{Storable, member};
+ghost use Rattle.polynomials.specs.Division.{degree, leader, initial, rest};
+ghost use Rattle.rules.specs.Branch.{other};
+ghost use Rattle.rules.specs.Rule.{rule-with};
+ghost use Rattle.rules.specs.Step.{apply, step};
+ghost use Rattle.representation.specs.laws.Steps.{chosen};
+ghost use Rattle.survey.specs.Survey.{All-hold};
+ghost use Rattle.representation.specs.Represent.{Sound, branch-of, system-of};
+ghost use Rattle.steps.specs.Ready.{Ready, Modulus, limits-in};
+ghost use Rattle.steps.specs.Pending.{Has-left, Has-behind, next-member, taken-out, put-in, division-of, aimed, Leads, Prepares};
+use branches::open;
+use branches::split;
+use branches::turn;
+use survey::Choice;
+use survey::Other;
+use tables::Reason;
+use terms::parts;
+
+// What a rule leaves to be divided by the pivot, whose words and whose initial's are so many: at rule 5 the last `left` members of Q, and at rule 4
+// the member of P at `place`, with `left` 1.
+pub struct Division {
+    pub k: u32,
+    pub degree: u64,
+    pub pivot: usize,
+    pub initial: usize,
+    pub closing: bool,
+    pub place: usize,
+    pub left: usize,
+}
+
+// What a step has done when its rule has been found.
+pub enum Prepared {
+    Done,
+    Members(Division),
+    Stop(Reason),
+}
+
+// How many members Q has.
+fn count_q(w: &[u32]) -> usize
+    requires { ⌜ Opened (view (now w)) (capacity (now w)) ⌝ }
+    ensures { λ r. ⌜ ((b : Stored) (bs ss : List Stored) → Held (view (now (w .entry))) (capacity (now (w .entry))) (with-open b bs ss) → r ≡ length (b .Q)) ⌝ }
+{
+    let at = records::get0(w, 0) as usize;
+    records::get1(w, at) as usize
+}
+
+// Takes the next member to be divided out of the area and loads it into r: the member of P at `place`, or the first of the last `left` of Q. How many words.
+pub fn take(w: &mut [u32], closing: bool, place: usize, left: usize, r: &mut [u64]) -> usize
+    requires { ⌜ Opened (view (now w)) (capacity (now w)) ⌝ }
+    requires { ⌜ ((b : Stored) (bs ss : List Stored) → Held (view (now w)) (capacity (now w)) (with-open b bs ss) → Has-left closing place left b) ⌝ }
+    requires { ⌜ 512 ≤ length (now r) ⌝ }
+    ensures { λ n. ⌜ ((b : Stored) (bs ss : List Stored) → Held (view (now (w .entry))) (capacity (now (w .entry))) (with-open b bs ss)
+        → (n ≡ length (next-member closing place left b)) × (take n (now (r .exit)) ≡ next-member closing place left b)
+        × Held (view (now (w .exit))) (capacity (now (w .entry))) (with-open (taken-out closing place left b) bs ss)) ⌝ }
+{
+    if closing {
+        let j = count_q(w) - left;
+        let n = open::load_q(w, j, r);
+        open::remove_q(w, j);
+        return n;
+    }
+    let n = open::load_p(w, place, r);
+    open::remove_p(w, place);
+    n
+}
+
+// Makes the first n words of r monic and puts them into P, or into Q before its last `left` members; whether there is room.
+pub fn put_back(w: &mut [u32], p: u64, closing: bool, left: usize, r: &mut [u64], n: usize) -> bool
+    requires { ⌜ Opened (view (now w)) (capacity (now w)) × Modulus p ⌝ }
+    requires { ⌜ ((b : Stored) (bs ss : List Stored) → Held (view (now w)) (capacity (now w)) (with-open b bs ss) → Has-behind closing left b) ⌝ }
+    requires { ⌜ (n ≤ length (now r)) × Holds p (take n (now r)) ⌝ }
+    ensures { λ k. ⌜ ((b : Stored) (bs ss : List Stored) → Held (view (now (w .entry))) (capacity (now (w .entry))) (with-open b bs ss)
+        → (f : List ℕ) × Sound p f × (terms f ≡ monic p (terms (take n (now (r .entry)))))
+        × Leaves (capacity (now (w .entry))) (with-open (put-in closing left f b) bs ss) k (view (now (w .exit)))) ⌝ }
+{
+    sums::monic(p, &mut r[..n]);
+    if closing {
+        return open::put_q(w, left, &r[..n]);
+    }
+    open::put_p(w, &r[..n])
+}
+
+// Rule 4 or 5 for the pivot t, which stands in P at `place`: at rule 5 it goes to T.
+fn prepare_division(w: &mut [u32], k: u32, place: usize, t: &[u64], initial: usize) -> Division
+    requires { ⌜ Opened (view (now w)) (capacity (now w)) × (k < 8) × Storable (now t) ⌝ }
+    requires { ⌜ ((b : Stored) (bs ss : List Stored) → Held (view (now w)) (capacity (now w)) (with-open b bs ss) → (p : ℕ) × All-hold p (b .P)) ⌝ }
+    requires { ⌜ ((b : Stored) (bs ss : List Stored) → Held (view (now w)) (capacity (now w)) (with-open b bs ss) → (place < length (b .P)) × (getD (b .P) place [] ≡ now t)) ⌝ }
+    ensures { λ d. ⌜ ((b : Stored) (bs ss : List Stored) → Held (view (now (w .entry))) (capacity (now (w .entry))) (with-open b bs ss)
+        → (d ≡ division-of (other k place (branch-of b .P)) k (degree k (terms (now (t .entry)))) (length (now (t .entry))) initial b)
+        × Held (view (now (w .exit))) (capacity (now (w .entry))) (with-open (aimed (other k place (branch-of b .P)) place b) bs ss)) ⌝ }
+{
+    let degree = parts::degree(t, k);
+    let pivot = t.len();
+    match survey::find_other(w, k, place) {
+        Other::At(j) => {
+            return Division {
+                k: k,
+                degree: degree,
+                pivot: pivot,
+                initial: initial,
+                closing: false,
+                place: j,
+                left: 1,
+            };
+        }
+        Other::None => {
+            open::close(w, place, t);
+            let q = count_q(w);
+            return Division {
+                k: k,
+                degree: degree,
+                pivot: pivot,
+                initial: initial,
+                closing: true,
+                place: 0,
+                left: q,
+            };
+        }
+    }
+}
+
+// Whether f is 1 or in Q.
+fn is_settled(w: &[u32], f: &[u64]) -> bool
+    requires { ⌜ Opened (view (now w)) (capacity (now w)) ⌝ }
+    requires { ⌜ Storable (now f) ⌝ }
+    ensures { λ r. ⌜ ((b : Stored) (bs ss : List Stored) → Held (view (now (w .entry))) (capacity (now (w .entry))) (with-open b bs ss)
+        → r ≡ (is-one (now (f .entry)) || member (now (f .entry)) (b .Q))) ⌝ }
+{
+    if f.len() == 2 && f[0] == 1 && f[1] == 0 {
+        return true;
+    }
+    open::find_q(w, f)
+}
+
+// Rule 3 for the pivot t, which stands in P at `place`, and its initial i. Whether there is room.
+fn apply_split(
+    w: &mut [u32],
+    p: u64,
+    k: u32,
+    place: usize,
+    t: &[u64],
+    i: &[u64],
+    r: &mut [u64],
+) -> bool
+    requires { ⌜ Opened (view (now w)) (capacity (now w)) × Modulus p × (512 ≤ length (now r)) ⌝ }
+    requires { ⌜ Sound p (now t) × (leader (terms (now t)) ≡ k + 1) ⌝ }
+    requires { ⌜ Sound p (now i) × (terms (now i) ≡ initial k (terms (now t))) ⌝ }
+    requires { ⌜ ((b : Stored) (bs ss : List Stored) → Held (view (now w)) (capacity (now w)) (with-open b bs ss)
+        → (place < length (b .P)) × (getD (b .P) place [] ≡ now t) × (is-one (now i) ≡ false) × (member (now i) (b .Q) ≡ false)) ⌝ }
+    ensures { λ q. ⌜ ((b : Stored) (bs ss : List Stored) → Held (view (now (w .entry))) (capacity (now (w .entry))) (with-open b bs ss)
+        → (f : List ℕ) × Sound p f × (terms f ≡ monic p (rest k (terms (now (t .entry)))))
+        × Leaves (capacity (now (w .entry))) (split-area place (now (i .entry)) f b bs ss) q (view (now (w .exit)))) ⌝ }
+{
+    let m = i.len();
+    let l = t.len() - m;
+    sums::copy(t, m, r, 0);
+    sums::monic(p, &mut r[..l]);
+    split::split(w, place, t, i, &r[..l])
+}
+
+// Rules 3 to 5 for the pivot in v(k+1), which stands in P at `place`: it and its initial are loaded into t and i.
+fn with_pivot(
+    w: &mut [u32],
+    p: u64,
+    k: u32,
+    place: usize,
+    t: &mut [u64],
+    i: &mut [u64],
+    r: &mut [u64],
+) -> Prepared
+    requires { ⌜ Modulus p × ((b : Stored) × (bs : List Stored) × (ss : List Stored) × Held (view (now w)) (capacity (now w)) (with-open b bs ss)
+        × Ready p (with-open b bs ss) × Leads k place b) ⌝ }
+    requires { ⌜ (512 ≤ length (now t)) × (512 ≤ length (now i)) × (512 ≤ length (now r)) ⌝ }
+    ensures { λ q. ⌜ ((b : Stored) (bs ss : List Stored) → Held (view (now (w .entry))) (capacity (now (w .entry))) (with-open b bs ss)
+        → Ready p (with-open b bs ss) → Leads k place b
+        → Prepares (limits-in (capacity (now (w .entry)))) p
+        (apply (limits-in (capacity (now (w .entry)))) p (map branch-of bs) (reverse (map system-of ss)) (rule-with k (chosen b place) (branch-of b)) (branch-of b))
+        q (now (t .exit)) (now (i .exit)) (view (now (w .exit))) (capacity (now (w .entry))) bs ss) ⌝ }
+{
+    let n = open::load_p(w, place, t);
+    let m = parts::initial(&t[..n], k, i);
+    if is_settled(w, &i[..m]) {
+        let d = prepare_division(w, k, place, &t[..n], m);
+        return Prepared::Members(d);
+    }
+    if apply_split(w, p, k, place, &t[..n], &i[..m], r) {
+        return Prepared::Done;
+    }
+    Prepared::Stop(Reason::Room)
+}
+
+// Finds the rule that fits and applies it, but for the divisions of rules 4 and 5.
+pub fn prepare(w: &mut [u32], p: u64, t: &mut [u64], i: &mut [u64], r: &mut [u64]) -> Prepared
+    requires { ⌜ Modulus p × ((b : Stored) × (bs : List Stored) × (ss : List Stored) × Held (view (now w)) (capacity (now w)) (with-open b bs ss) × Ready p (with-open b bs ss)) ⌝ }
+    requires { ⌜ (512 ≤ length (now t)) × (512 ≤ length (now i)) × (512 ≤ length (now r)) ⌝ }
+    ensures { λ q. ⌜ ((b : Stored) (bs ss : List Stored) → Held (view (now (w .entry))) (capacity (now (w .entry))) (with-open b bs ss) → Ready p (with-open b bs ss)
+        → Prepares (limits-in (capacity (now (w .entry)))) p
+        (step (limits-in (capacity (now (w .entry)))) p (branch-of b) (map branch-of bs) (reverse (map system-of ss)))
+        q (now (t .exit)) (now (i .exit)) (view (now (w .exit))) (capacity (now (w .entry))) bs ss) ⌝ }
+{
+    match survey::choose(w) {
+        Choice::Drop => {
+            turn::drop(w);
+            return Prepared::Done;
+        }
+        Choice::List => {
+            turn::list(w);
+            return Prepared::Done;
+        }
+        Choice::Pivot(k, place) => {
+            return with_pivot(w, p, k, place, t, i, r);
+        }
+    }
+}

@@ -1,0 +1,188 @@
+-- `put_heads` meets its contract. The loop's invariant: the polynomials from index i on, put into the branch that the work area holds, make
+-- the whole branch. The measure is the count of records that index i can still reach.
+use mathlib.Core.Path.{_≡_, sym, _∙_, subst}
+use mathlib.Core.Bool.{Bool}
+use mathlib.Core.List.{List, []}
+use Prim.Native.Nat.{ℕ, _<_}
+use native.Mathlib.Omega.{arith}
+use borrow.Author.Needs.{needs}
+use borrow.Author.Tests.{not-true, not-false}
+use lib.ListN.{length, take}
+use lib.Seq.{length-take-le}
+use Rattle.records.specs.Records.{view}
+use Rattle.polynomials.specs.Poly.{Poly}
+use Rattle.tables.specs.Words.{records}
+use Rattle.tables.specs.Read.{good, read-heads}
+use Rattle.tables.specs.laws.Linked.{left}
+use Rattle.tables.specs.laws.Accepted.{some-record}
+use Rattle.rules.specs.Branch.{Branch}
+use Rattle.branches.specs.Area.{capacity, with-open, Held}
+use Rattle.branches.proofs.AsideLaws.{same-capacity}
+use Rattle.representation.specs.laws.Sounds.{sound-storable}
+use Rattle.loading.specs.Started.{Loaded, put-heads, Alone}
+use Rattle.loading.proofs.MonicLaws.{readable-modulus}
+use Rattle.loading.proofs.FillLaws.{Puts, PutLeft, put-first, put-end, put-inside, put-read, put-less, put-fails, put-next}
+use Rattle.loading.proofs.put_heads.Statement.{statement}
+use Rattle.loading.proofs.put_heads.Tie as tie
+
+abbrev Left : List ℕ → ℕ → ℕ → ℕ → List ℕ → Bool → List ℕ → ℕ → Type 0
+Left table p n first work₀ q work i =
+    (fs : List Poly) (c : Branch) → read-heads table p n (records table) 0 first ≡ good fs → Alone p (capacity work₀) c (view work₀)
+    → PutLeft table p n q (capacity work₀) (put-heads q p fs c) i (view work)
+
+abbrev Inv-loop : tie.InvT-loop
+Inv-loop table p n first work₀ r₀ in-q i₀ work r i =
+    (length work ≡ length work₀) × (length r ≡ length r₀) × Left table p n first work₀ in-q work i
+
+abbrev μ-loop : tie.MeasureT-loop
+μ-loop table p n first work₀ r₀ in-q i₀ work r i = left (records table) i
+
+loop-holds : tie.Need-loop-holds Inv-loop μ-loop
+loop-holds c =
+    let s = c .before .before .before in
+    let a = s .args in
+    (omega arith, omega arith, λ fs b e x. put-first (a .table .now) (a .p) (a .n) (a .in-q) (capacity (a .work .now)) (a .first) (view (a .work .now)) fs b (some-record (a .table .now) (s .pre .0 .0 .whole)) e x)
+
+-- In a turn: the start, and what is left to put, for the chain and the branch that the contract's `requires` tells of.
+abbrev start : tie.In-loop Inv-loop μ-loop → tie.Start Inv-loop μ-loop
+start c = c .before .before .before .before .before
+
+whole : tie.In-loop Inv-loop μ-loop → Branch
+whole c = let s = start c in put-heads (s .args .in-q) (s .args .p) (s .pre .0 .1 .0) (s .pre .1 .0 .0)
+
+here : (c : tie.In-loop Inv-loop μ-loop) → let a = start c .args in let l = c .before .loop in
+    PutLeft (a .table .now) (a .p) (a .n) (a .in-q) (capacity (a .work .now)) (whole c) (l .i) (view (l .work))
+unfolding whole
+here c = let s = start c in c .before .loop .inv .2 (s .pre .0 .1 .0) (s .pre .1 .0 .0) (s .pre .0 .1 .1) (s .pre .1 .0 .1)
+
+inside : (c : tie.In-loop Inv-loop μ-loop) → c .before .loop .i < records (start c .args .table .now)
+inside c =
+    let a = start c .args in
+    let l = c .before .loop in
+    put-inside (a .table .now) (a .p) (a .n) (a .in-q) (capacity (a .work .now)) (whole c) (l .i) (view (l .work)) (here c) (c .loop-test .taken)
+
+load-monic-requires : tie.Need-load-monic-requires Inv-loop μ-loop
+load-monic-requires c κs =
+    let d = c .before in
+    let s = start d in
+    let a = s .args in
+    let l = d .before .loop in (
+      (s .pre .0 .0, inside d, put-read (a .table .now) (a .p) (a .n) (a .in-q) (capacity (a .work .now)) (whole d) (l .i) (view (l .work)) (here d) (d .loop-test .taken)),
+      omega (arith, l .inv .1, s .pre .1 .1),
+    )
+
+-- What was loaded.
+abbrev words : tie.After-load-monic Inv-loop μ-loop → List ℕ
+words c = c .load-monic .last .1 .1 .1 .1 .0
+
+loaded : (c : tie.After-load-monic Inv-loop μ-loop) → let d = c .before .before in let a = start d .args in let l = d .before .loop in
+    Loaded (a .p) (put-read (a .table .now) (a .p) (a .n) (a .in-q) (capacity (a .work .now)) (whole d) (l .i) (view (l .work)) (here d) (d .loop-test .taken) .0) (c .load-monic .result) (words c)
+loaded c =
+    let d = c .before .before in
+    let a = start d .args in
+    let l = d .before .loop in
+    let f = put-read (a .table .now) (a .p) (a .n) (a .in-q) (capacity (a .work .now)) (whole d) (l .i) (view (l .work)) (here d) (d .loop-test .taken) in
+    c .load-monic .ensures (f .0) (f .1)
+
+slice-reshare-prefix-put-one : tie.Need-slice-reshare-prefix-put-one Inv-loop μ-loop
+slice-reshare-prefix-put-one c = loaded (c .before .before .before) .within
+
+slice-aggregate-put-one : tie.Need-slice-aggregate-put-one Inv-loop μ-loop
+slice-aggregate-put-one c = let d = c .before .before .before .before in sym (length-take-le (d .load-monic .result) (words d) (loaded d .within))
+
+put-one-requires : tie.Need-put-one-requires Inv-loop μ-loop
+put-one-requires c κs =
+    let d = c .before .before .before .before in
+    let s = start (d .before .before) in
+    let a = s .args in
+    let l = d .before .before .before .loop in
+    let x = here (d .before .before) .alone in
+    let M = readable-modulus (s .pre .0 .0) in (
+      (x .stored, [], [], subst (λ (m : ℕ). Held (view (l .work)) m (with-open (x .stored) [] [])) (same-capacity (a .work .now) (l .work) (sym (l .inv .0))) (x .held)),
+      sound-storable (a .p) (omega (arith, M .below)) (take (d .load-monic .result) (words d)) (loaded d .sound),
+    )
+
+-- What `put_one` says, in the room that there was at entry.
+puts : (c : tie.After-put-one Inv-loop μ-loop) → let d = c .before .before .before .before .before in let a = start (d .before .before) .args in let l = d .before .before .before .loop in
+    Puts (view (l .work)) (capacity (a .work .now)) (a .in-q) (take (d .load-monic .result) (words d)) (c .put-one .result) (view (c .put-one .last .0))
+puts c =
+    let d = c .before .before .before .before .before in
+    let a = start (d .before .before) .args in
+    let l = d .before .before .before .loop in
+    subst (λ (m : ℕ). Puts (view (l .work)) m (a .in-q) (take (d .load-monic .result) (words d)) (c .put-one .result) (view (c .put-one .last .0)))
+    (same-capacity (l .work) (a .work .now) (l .inv .0)) (c .put-one .ensures)
+
+same-length : tie.Need-same-length Inv-loop μ-loop
+same-length c = search needs
+
+same-length-2 : tie.Need-same-length-2 Inv-loop μ-loop
+same-length-2 c = search needs
+
+returns : tie.Need-returns Inv-loop μ-loop
+returns c fs b e x =
+    let k = c .before .before .before in
+    let d = k .before .before .before .before .before in
+    let a = start (d .before .before) .args in
+    let l = d .before .before .before .loop in
+    put-fails (a .table .now) (a .p) (a .n) (a .in-q) (capacity (a .work .now)) (put-heads (a .in-q) (a .p) fs b) (l .i) (view (l .work)) (l .inv .2 fs b e x) (d .before .before .loop-test .taken)
+    (d .load-monic .result) (words d) (d .load-monic .ensures) (k .put-one .result) (view (k .put-one .last .0)) (puts k) (not-true (k .put-one .result) (c .if1 .taken))
+
+word-requires : tie.Need-word-requires Inv-loop μ-loop
+word-requires c κs = (inside (c .before .before .before .before .before .before .before .before .before .before), omega arith)
+
+cast-i : tie.Need-cast-i Inv-loop μ-loop
+cast-i c = search needs
+
+loop-less : tie.Need-loop-less Inv-loop μ-loop
+loop-less c =
+    let d = c .before .before .before .before .before .before .before .before .before .before .before in
+    let a = start d .args in
+    let l = d .before .loop in
+    rw (c .word .ensures) (put-less (a .table .now) (a .p) (a .n) (a .in-q) (capacity (a .work .now)) (whole d) (l .i) (view (l .work)) (here d) (d .loop-test .taken))
+
+loop-again : tie.Need-loop-again Inv-loop μ-loop
+loop-again c =
+    let k = c .before .before .before .before in
+    let d = k .before .before .before .before .before in
+    let a = start (d .before .before) .args in
+    let l = d .before .before .before .loop in (
+      k .put-one .kept .0 ∙ l .inv .0,
+      d .load-monic .kept .1 .1 .1 .1 .0 ∙ l .inv .1,
+      λ fs b e x. rw (c .word .ensures)
+          (put-next (a .table .now) (a .p) (a .n) (a .in-q) (capacity (a .work .now)) (put-heads (a .in-q) (a .p) fs b) (l .i) (view (l .work)) (l .inv .2 fs b e x) (d .before .before .loop-test .taken)
+          (d .load-monic .result) (words d) (d .load-monic .ensures) (k .put-one .result) (view (k .put-one .last .0)) (puts k) (not-false (k .put-one .result) (c .before .if1 .left))),
+    )
+
+same-length-3 : tie.Need-same-length-3 Inv-loop μ-loop
+same-length-3 c = search needs
+
+same-length-4 : tie.Need-same-length-4 Inv-loop μ-loop
+same-length-4 c = search needs
+
+returns-2 : tie.Need-returns-2 Inv-loop μ-loop
+returns-2 c fs b e x =
+    let a = c .before .before .before .before .before .args in
+    let l = c .before .loop in
+    put-end (a .table .now) (a .p) (a .n) (a .in-q) (capacity (a .work .now)) (put-heads (a .in-q) (a .p) fs b) (l .i) (view (l .work)) (l .inv .2 fs b e x) (c .loop-test .left)
+
+pub put-heads-spec : {M : Type 1} → statement M
+put-heads-spec =
+    tie.close
+    (tie.spec
+    Inv-loop
+    μ-loop
+    loop-holds
+    load-monic-requires
+    slice-reshare-prefix-put-one
+    slice-aggregate-put-one
+    put-one-requires
+    same-length
+    same-length-2
+    returns
+    word-requires
+    cast-i
+    loop-less
+    loop-again
+    same-length-3
+    same-length-4
+    returns-2)

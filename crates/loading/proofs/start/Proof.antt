@@ -1,0 +1,151 @@
+-- `start` meets its contract: an empty branch, then P's chain, then Q's. All is said in the room that there was at entry.
+use mathlib.Core.Path.{_≡_, sym, _∙_, subst}
+use mathlib.Core.Bool.{Bool, true}
+use Prim.Native.Nat.{ℕ, _≤_}
+use native.Mathlib.Omega.{arith}
+use borrow.Author.Needs.{needs}
+use borrow.Author.Tests.{not-true, not-false}
+use lib.ListN.{length}
+use Rattle.records.specs.Records.{view}
+use Rattle.tables.specs.Words.{word}
+use Rattle.tables.specs.Read.{Input, good, read-table}
+use Rattle.tables.specs.laws.Chains.{readable-words}
+use Rattle.branches.specs.Area.{capacity}
+use Rattle.branches.proofs.AsideLaws.{same-capacity}
+use Rattle.loading.specs.Started.{put-heads, Alone, Filled}
+use Rattle.loading.proofs.StartLaws.{Chains, chains, no-polynomial, alone-empty, with-zeros, start-none, start-fails, start-put}
+use Rattle.loading.proofs.start.Statement.{statement}
+use Rattle.loading.proofs.start.Tie as tie
+
+-- The chains of the table that the contract's `requires` tells of.
+told : (s : tie.Start) → Chains (s .args .table .now) (s .pre .0 .0)
+told s = chains (s .args .table .now) (s .pre .0 .0) (s .pre .0 .1)
+
+header : (s : tie.Start) → 4 ≤ length (s .args .table .now)
+header s = readable-words (told s .readable)
+
+-- ── after `begin` ──
+abbrev start : tie.After-begin → tie.Start
+start c = c .before .before .before .before .before .before .before .before
+
+abbrev p : tie.Start → ℕ
+p s = word (s .args .table .now) 0 0
+
+room : (c : tie.After-begin) → capacity (c .begin .last .0) ≡ capacity (start c .args .work .now)
+room c = same-capacity (c .begin .last .0) (start c .args .work .now) (c .begin .kept .0)
+
+some : (c : tie.After-begin) → 1 ≤ capacity (start c .args .work .now)
+some c = let h = c .before .before .before .before .if1 .left in omega arith
+
+begun : (c : tie.After-begin) → Alone (p (start c)) (capacity (start c .args .work .now)) no-polynomial (view (c .begin .last .0))
+begun c = alone-empty (c .begin .ensures)
+
+-- ── after P's chain ──
+put : (c : tie.After-put-heads) (t : Input) → read-table (start (c .before .before .before .before .before .before) .args .table .now) ≡ good t
+    → Filled (p (start (c .before .before .before .before .before .before))) (capacity (start (c .before .before .before .before .before .before) .args .work .now)) (with-zeros (p (start (c .before .before .before .before .before .before))) t) (c .put-heads .result) (view (c .put-heads .last .1 .1 .1 .1 .0))
+put c t e =
+    let d = c .before .before .before .before .before .before in
+    let s = start d in
+    subst (λ (m : ℕ). Alone (p s) m no-polynomial (view (d .begin .last .0)) → Filled (p s) m (with-zeros (p s) t) (c .put-heads .result) (view (c .put-heads .last .1 .1 .1 .1 .0)))
+    (room d) (c .put-heads .ensures (t .P) no-polynomial (chains (s .args .table .now) t e .zeros)) (begun d)
+
+room-2 : (c : tie.After-put-heads) → capacity (c .put-heads .last .1 .1 .1 .1 .0) ≡ capacity (start (c .before .before .before .before .before .before) .args .work .now)
+room-2 c =
+    let d = c .before .before .before .before .before .before in
+    same-capacity (c .put-heads .last .1 .1 .1 .1 .0) (start d .args .work .now) (c .put-heads .kept .1 .1 .1 .1 .0 ∙ d .begin .kept .0)
+
+returns : tie.Need-returns
+returns c t e =
+    let a = c .before .before .before .before .args in
+    start-none t (capacity (a .work .now)) (view (a .work .now)) (t .modulus) (let h = c .if1 .taken in omega arith)
+
+shared-slice-read-p : tie.Need-shared-slice-read-p
+shared-slice-read-p c = omega (arith, header (c .before .before .before .before .before))
+
+shared-slice-read-n : tie.Need-shared-slice-read-n
+shared-slice-read-n c = omega (arith, header (c .before .before .before .before .before .before))
+
+begin-requires : tie.Need-begin-requires
+begin-requires c κs = search needs
+
+shared-slice-read-put-heads : tie.Need-shared-slice-read-put-heads
+shared-slice-read-put-heads c = omega (arith, header (c .before .before .before .before .before .before .before .before .before .before .before))
+
+put-heads-requires : tie.Need-put-heads-requires
+put-heads-requires c κs =
+    let d = c .before .before .before .before .before in
+    let s = start d in
+    let t = s .pre .0 .0 in
+    ((told s .readable, (t .P, told s .zeros)), ((no-polynomial, subst (λ (m : ℕ). Alone (p s) m no-polynomial (view (d .begin .last .0))) (sym (room d)) (begun d)), s .pre .1))
+
+same-length : tie.Need-same-length
+same-length c = search needs
+
+same-length-2 : tie.Need-same-length-2
+same-length-2 c = search needs
+
+returns-2 : tie.Need-returns-2
+returns-2 c t e =
+    let k = c .before .before .before .before .before in
+    let d = k .before .before .before .before .before .before in
+    let s = start d in
+    let v = view (k .put-heads .last .1 .1 .1 .1 .0) in
+    start-fails t (capacity (s .args .work .now)) v (p s) (chains (s .args .table .now) t e .modulus) (some d)
+    (subst (λ (b : Bool). Filled (p s) (capacity (s .args .work .now)) (with-zeros (p s) t) b v) (not-true (k .put-heads .result) (c .if2 .taken)) (put k t e))
+
+shared-slice-read-put-heads-2 : tie.Need-shared-slice-read-put-heads-2
+shared-slice-read-put-heads-2 c = omega (arith, header (c .before .before .before .before .before .before .before .before .before .before .before .before .before .before .before .before .before .before .before .before))
+
+-- Where P's chain found room.
+zeros-in : (c : tie.Else2) (t : Input) → read-table (start (c .before .before .before .before .before .before .before .before .before .before .before) .args .table .now) ≡ good t
+    → Alone (p (start (c .before .before .before .before .before .before .before .before .before .before .before))) (capacity (start (c .before .before .before .before .before .before .before .before .before .before .before) .args .work .now)) (with-zeros (p (start (c .before .before .before .before .before .before .before .before .before .before .before))) t) (view (c .before .before .before .before .before .put-heads .last .1 .1 .1 .1 .0))
+zeros-in c t e = put (c .before .before .before .before .before) t e .alone (not-false (c .before .before .before .before .before .put-heads .result) (c .if2 .left))
+
+put-heads-requires-2 : tie.Need-put-heads-requires-2
+put-heads-requires-2 c κs =
+    let f = c .before .before .before in
+    let k = f .before .before .before .before .before in
+    let s = start (k .before .before .before .before .before .before) in
+    let t = s .pre .0 .0 in (
+      (told s .readable, (t .Q, told s .nonzeros)),
+      (
+        (with-zeros (p s) t, subst (λ (m : ℕ). Alone (p s) m (with-zeros (p s) t) (view (k .put-heads .last .1 .1 .1 .1 .0))) (sym (room-2 k)) (zeros-in f t (s .pre .0 .1))),
+        omega (arith, k .put-heads .kept .1 .1 .1 .1 .1 .0, s .pre .1),
+      ),
+    )
+
+same-length-3 : tie.Need-same-length-3
+same-length-3 c = search needs
+
+same-length-4 : tie.Need-same-length-4
+same-length-4 c = search needs
+
+returns-3 : tie.Need-returns-3
+returns-3 c t e =
+    let n = c .before .before .before .before in
+    let f = n .before .before .before .before in
+    let k = f .before .before .before .before .before in
+    let s = start (k .before .before .before .before .before .before) in
+    let v = view (n .put-heads2 .last .1 .1 .1 .1 .0) in
+    start-put t (capacity (s .args .work .now)) v (p s) (chains (s .args .table .now) t e .modulus) (some (k .before .before .before .before .before .before)) (n .put-heads2 .result)
+    (subst (λ (m : ℕ). Alone (p s) m (with-zeros (p s) t) (view (k .put-heads .last .1 .1 .1 .1 .0)) → Filled (p s) m (put-heads true (p s) (t .Q) (with-zeros (p s) t)) (n .put-heads2 .result) v)
+    (room-2 k) (n .put-heads2 .ensures (t .Q) (with-zeros (p s) t) (chains (s .args .table .now) t e .nonzeros)) (zeros-in f t e))
+
+pub start-spec : {M : Type 1} → statement M
+start-spec =
+    tie.close
+    (tie.spec
+    returns
+    shared-slice-read-p
+    shared-slice-read-n
+    begin-requires
+    shared-slice-read-put-heads
+    put-heads-requires
+    same-length
+    same-length-2
+    returns-2
+    shared-slice-read-put-heads-2
+    put-heads-requires-2
+    same-length-3
+    same-length-4
+    returns-3)

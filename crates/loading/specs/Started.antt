@@ -1,0 +1,56 @@
+-- The first branch, put in the work area polynomial by polynomial.
+use mathlib.Core.Path.{_≡_}
+use mathlib.Core.Logic.{_≢_}
+use mathlib.Core.Bool.{Bool, true, false}
+use mathlib.Core.List.{List, []}
+use Prim.Native.Nat.{ℕ, _+_, _≤_}
+use lib.Dec.{leb}
+use lib.ListN.{take, length}
+use Rattle.polynomials.specs.Poly.{Poly, monic}
+use Rattle.polynomials.specs.Packed.{terms}
+use Rattle.tables.specs.declared.Reason.the-variants.{Room}
+use Rattle.rules.specs.Branch.{Branch, put-P, put-Q, put-all}
+use Rattle.rules.specs.Room.{branch-size}
+use Rattle.rules.specs.Step.{Stepped, next, stopped}
+use Rattle.rules.specs.Writable.{Each}
+use Rattle.records.specs.Records.{Rec}
+use Rattle.branches.specs.Area.{Stored, Area, Held, with-open, put-into-P, put-into-Q}
+use Rattle.representation.specs.Represent.{Sound, Branch-sound, branch-of, state-of}
+use Rattle.representation.specs.laws.Monics.{All-monic, Monic}
+use Rattle.steps.specs.Ready.{Ready}
+
+-- The first m words hold the monic polynomial of f.
+pub record Loaded (p : ℕ) (f : Poly) (m : ℕ) (s : List ℕ) : Type 0 where
+  pub within : m ≤ length s
+  pub sound : Sound p (take m s)
+  pub holds : terms (take m s) ≡ monic p f
+  pub monic : Monic (terms (take m s))
+
+-- f put into the open branch: into Q, or into P.
+abbrev pub put-into : Bool → List ℕ → Stored → Stored
+put-into true f b = put-into-Q 0 f b
+put-into false f b = put-into-P f b
+
+-- The polynomials put one after the other.
+abbrev pub put-heads : Bool → ℕ → List Poly → Branch → Branch
+put-heads true p fs b = record { P = b .P; Q = put-all (put-Q p) fs (b .Q); T = b .T }
+put-heads false p fs b = record { P = put-all (put-P p) fs (b .P); Q = b .Q; T = b .T }
+
+-- The work area holds the branch c, and nothing else.
+pub record Alone (p most : ℕ) (c : Branch) (v : List Rec) : Type 0 where
+  pub stored : Stored
+  pub held : Held v most (with-open stored [] [])
+  pub sound : Branch-sound p stored
+  pub monic : All-monic (stored .P)
+  pub nonzero : Each (λ f. f ≢ []) (stored .P)
+  pub is : branch-of stored ≡ c
+
+-- The answer is whether there is room for the branch c and the control record; if so the work area holds c.
+pub record Filled (p most : ℕ) (c : Branch) (r : Bool) (v : List Rec) : Type 0 where
+  pub answer : r ≡ leb (1 + branch-size c) most
+  pub alone : r ≡ true → Alone p most c v
+
+-- The answer is whether the run starts; if so the work area holds its first state.
+abbrev pub Started : Stepped → ℕ → ℕ → Bool → List Rec → Type 0
+Started (next s) p most r v = (r ≡ true) × ((a : Area) × Held v most a × Ready p a × (state-of a ≡ s))
+Started (stopped why) p most r v = (r ≡ false) × (why ≡ Room)

@@ -1,0 +1,137 @@
+-- The invariants of the three loops of `run`, each against what stood where its loop began; and the run, one step at a time.
+use mathlib.Core.Path.{_≡_, refl, sym, ap, subst, _∙_}
+use mathlib.Core.Bool.{Bool, true, false}
+use mathlib.Core.List.{List, [], _∷_, map, reverse}
+use Prim.Native.Nat.{ℕ, zero, suc, _+_, _-_, _≤_, _<_}
+use native.Mathlib.Omega.{arith}
+use native.Mathlib.Nat.{sub-zero}
+use lib.ListN.{length, take}
+use Rattle.polynomials.specs.Poly.{Poly}
+use Rattle.polynomials.specs.Packed.{terms}
+use Rattle.polynomials.specs.Working.{Holds, Forms}
+use Rattle.polynomials.specs.declared.Formed.{Formed}
+use Rattle.polynomials.specs.declared.Formed.the-variants.{OverDegree, OverTerms}
+use Rattle.polynomials.specs.Division.{degree}
+use Rattle.polynomials.specs.Bounds.{standard, Bounded, within, degree-passed, terms-passed, and-then, bounded-round, bounded-remainder}
+use Rattle.polynomials.specs.laws.Answers.{Answered}
+use Rattle.polynomials.specs.laws.Bounded.{round-formed}
+use Rattle.polynomials.specs.laws.Degree.{round-lowers}
+use Rattle.residues.specs.Prime.{Prime}
+use Rattle.steps.proofs.DivisionLaws.{remainder-done, remainder-again}
+use Rattle.tables.specs.declared.Reason.the-variants.{Steps}
+use Rattle.rules.specs.Room.{Limits}
+use Rattle.rules.specs.Step.{Stepped, remainder-by, step}
+use Rattle.rules.specs.Run.{Ended, finished, refused, after-step, run}
+use Rattle.records.specs.Records.{view}
+use Rattle.branches.specs.Area.{Stored, Area, Held, with-open, capacity}
+use Rattle.representation.specs.Represent.{branch-of, system-of, state-of}
+use Rattle.steps.specs.Ready.{Ready, limits-in}
+use Rattle.steps.specs.Pending.{Pivoted, Has-members, rest-of-step}
+
+-- The run from the state held gives the whole run.
+pub record AtRun (p limit : ℕ) (w₀ w : List ℕ) (steps : ℕ) : Type 0 where
+  pub same : length w ≡ length w₀
+  pub within : steps ≤ limit
+  pub some : (a : Area) × Held (view w) (capacity w₀) a × Ready p a
+  pub all :
+      (a₀ : Area) → Held (view w₀) (capacity w₀) a₀ → Ready p a₀
+      → (a : Area) × Held (view w) (capacity w₀) a × Ready p a × (run (limits-in (capacity w₀)) p (limit - steps) steps (state-of a) ≡ run (limits-in (capacity w₀)) p limit 0 (state-of a₀))
+
+-- What is left of the step is the step, by the pivot f in v(k+1).
+pub record AtMembers (p k : ℕ) (f : Poly) (closing : Bool) (place left₀ : ℕ) (w₀ w : List ℕ) (left : ℕ) : Type 0 where
+  pub same : length w ≡ length w₀
+  pub some : (b : Stored) × (bs : List Stored) × (ss : List Stored) × Held (view w) (capacity w₀) (with-open b bs ss) × Ready p (with-open b bs ss) × Has-members closing place left b
+  pub all :
+      (b₀ : Stored) (bs ss : List Stored) → Held (view w₀) (capacity w₀) (with-open b₀ bs ss) → Ready p (with-open b₀ bs ss) → Has-members closing place left₀ b₀
+      → (b : Stored) × Held (view w) (capacity w₀) (with-open b bs ss) × Ready p (with-open b bs ss) × Has-members closing place left b
+      × (rest-of-step (limits-in (capacity w₀)) p closing place left k f b bs ss ≡ rest-of-step (limits-in (capacity w₀)) p closing place left₀ k f b₀ bs ss)
+
+-- What the rounds left form is what all form. The first n words of r are divided.
+pub record AtDivision (p k d : ℕ) (f : Poly) (r₀ : List ℕ) (n₀ : ℕ) (r : List ℕ) (n : ℕ) : Type 0 where
+  pub same : length r ≡ length r₀
+  pub inside : n ≤ length r
+  pub holds : Holds p (take n r)
+  pub rounds :
+      (s₀ : ℕ) → degree k (terms (take n₀ r₀)) < s₀
+      → (s : ℕ) × (degree k (terms (take n r)) < s) × (bounded-remainder standard p k d f s (terms (take n r)) ≡ bounded-remainder standard p k d f s₀ (terms (take n₀ r₀)))
+
+-- ── where a loop begins ──
+pub run-begins : (p limit : ℕ) (w : List ℕ) → (a : Area) × Held (view w) (capacity w) a × Ready p a → AtRun p limit w w 0
+run-begins p limit w h = record {
+  same = refl;
+  within = omega arith;
+  some = h;
+  all = λ a H R. (a, H, R, ap (λ (n : ℕ). run (limits-in (capacity w)) p n 0 (state-of a)) (sub-zero limit));
+}
+
+pub division-begins : (p k d : ℕ) (f : Poly) (r : List ℕ) (n : ℕ) → n ≤ length r → Holds p (take n r) → AtDivision p k d f r n r n
+division-begins p k d f r n l h = record { same = refl; inside = l; holds = h; rounds = λ s q. (s, q, refl) }
+
+-- ── the run ──
+module _ (l : Limits) (p n : ℕ) where
+  pub run-ends : (left : ℕ) (ss : List Stored) → run l p left n (state-of (record { branches = []; systems = ss })) ≡ finished n (reverse (map system-of ss))
+  unfolding run
+  run-ends zero ss = refl
+  run-ends (suc left) ss = refl
+
+  module _ (b : Stored) (bs ss : List Stored) where
+    pub run-used : run l p 0 n (state-of (with-open b bs ss)) ≡ refused n Steps
+    unfolding run
+    run-used = refl
+
+    pub run-steps : (left : ℕ) → run l p (suc left) n (state-of (with-open b bs ss)) ≡ after-step (run l p left (suc n)) n (step l p (branch-of b) (map branch-of bs) (reverse (map system-of ss)))
+    unfolding run
+    run-steps left = refl
+
+-- ── a round ──
+module _ (p k d : ℕ) (f : Poly) (prime : Prime p) (some : 1 ≤ d) (of-degree : degree k f ≡ d) (r₀ : List ℕ) (n₀ : ℕ) (r : List ℕ) (n : ℕ)
+    (D : AtDivision p k d f r₀ n₀ r n) (more : d ≤ degree k (terms (take n r))) (r₁ : List ℕ) (m : ℕ)
+    (A : Answered p (bounded-round standard p k d f (terms (take n r))) m r₁) where
+  pub round-less : degree k (terms (take m r₁)) < degree k (terms (take n r))
+  round-less =
+      subst (λ (h : Poly). degree k h < degree k (terms (take n r))) (sym (round-formed standard p k d f (terms (take n r)) (terms (take m r₁)) (A .is) .same))
+      (round-lowers p (omega (arith, prime .two≤)) k d f (terms (take n r)) some (omega arith) more)
+
+  pub division-goes-on : length r₁ ≡ length r → AtDivision p k d f r₀ n₀ r₁ m
+  division-goes-on e = record {
+    same = e ∙ D .same;
+    inside = A .inside;
+    holds = A .holds;
+    rounds = λ s₀ q.
+        let z = D .rounds s₀ q in
+        let a = remainder-again standard p k d f (terms (take n r)) (z .0) (z .1) more in
+        (a .0, omega (arith, round-less, z .1, a .1), sym (a .2 ∙ ap (λ (B : Bounded). and-then B (bounded-remainder standard p k d f (a .0))) (A .is)) ∙ z .2);
+  }
+
+-- ── where the division ends ──
+-- The bound that a call answers is passed.
+pub formed-degree : (B : Bounded) (r : Formed) (s : List ℕ) → r ≡ OverDegree → Forms B r s → B ≡ degree-passed
+formed-degree (within f) r s q F = absurd (let z : _≡_ {A = ℕ} 0 1 = cc in omega arith)
+formed-degree degree-passed r s q F = refl
+formed-degree terms-passed r s q F = absurd (let z : _≡_ {A = ℕ} 0 1 = cc in omega arith)
+
+pub formed-terms : (B : Bounded) (r : Formed) (s : List ℕ) → r ≡ OverTerms → Forms B r s → B ≡ terms-passed
+formed-terms (within f) r s q F = absurd (let z : _≡_ {A = ℕ} 0 1 = cc in omega arith)
+formed-terms degree-passed r s q F = absurd (let z : _≡_ {A = ℕ} 0 1 = cc in omega arith)
+formed-terms terms-passed r s q F = refl
+
+module _ (p k d : ℕ) (f : Poly) (of-degree : degree k f ≡ d) (r₀ : List ℕ) (n₀ : ℕ) (r : List ℕ) (n : ℕ) (D : AtDivision p k d f r₀ n₀ r n) (most : ℕ) where
+  -- The remainder is what the rounds left form.
+  remainder-left : (s : ℕ) × (degree k (terms (take n r)) < s)
+      × (bounded-remainder standard p k d f s (terms (take n r)) ≡ remainder-by (limits-in most) p k f (terms (take n₀ r₀)))
+  unfolding remainder-by
+  remainder-left =
+      let s₀ = suc (degree k (terms (take n₀ r₀))) in
+      let z = D .rounds s₀ (omega arith) in
+      (z .0, z .1, z .2 ∙ ap (λ (d : ℕ). bounded-remainder standard p k d f s₀ (terms (take n₀ r₀))) (sym of-degree))
+
+  pub division-ends : degree k (terms (take n r)) < d → remainder-by (limits-in most) p k f (terms (take n₀ r₀)) ≡ within (terms (take n r))
+  division-ends h = let z = remainder-left in sym (z .2) ∙ remainder-done standard p k d f (terms (take n r)) (z .0) h
+
+  -- A round passes a bound, and so does the division.
+  pub division-passes : (B : Bounded) → ((g : Poly → Bounded) → and-then B g ≡ B) → d ≤ degree k (terms (take n r)) → bounded-round standard p k d f (terms (take n r)) ≡ B
+      → remainder-by (limits-in most) p k f (terms (take n₀ r₀)) ≡ B
+  division-passes B passes more e =
+      let z = remainder-left in
+      let a = remainder-again standard p k d f (terms (take n r)) (z .0) (z .1) more in
+      sym (z .2) ∙ a .2 ∙ ap (λ (B : Bounded). and-then B (bounded-remainder standard p k d f (a .0))) e ∙ passes (bounded-remainder standard p k d f (a .0))

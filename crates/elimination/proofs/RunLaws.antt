@@ -1,0 +1,192 @@
+-- The run, one step at a time: what the code of a step leaves, against the run from where it began.
+use mathlib.Core.Path.{_≡_, refl, sym, ap, subst, _∙_}
+use mathlib.Core.Bool.{Bool, true, false}
+use mathlib.Core.List.{List, [], _∷_, map, reverse}
+use Prim.Native.Nat.{ℕ, zero, suc, _+_, _-_, _≤_, _<_}
+use native.Mathlib.Omega.{arith}
+use lib.ListN.{length, getD, take, length-reverse, length-map}
+use Rattle.polynomials.specs.Packed.{terms}
+use Rattle.tables.specs.declared.Reason.{Reason}
+use Rattle.tables.specs.declared.Reason.the-variants.{Steps}
+use Rattle.rules.specs.Room.{State}
+use Rattle.rules.specs.Step.{Stepped, next, stopped, step}
+use Rattle.rules.specs.Run.{Ended, finished, refused, after-step, run}
+use Rattle.records.specs.Records.{Rec, room, view, nul}
+use Rattle.records.proofs.Rows.{length-view}
+use Rattle.branches.specs.Area.{Stored, Area, Held, has-branch, with-open, capacity}
+use Rattle.representation.specs.Represent.{branch-of, system-of, state-of}
+use Rattle.steps.specs.declared.Division.{Division}
+use Rattle.steps.specs.declared.Prepared.{Prepared}
+use Rattle.steps.specs.declared.Prepared.the-variants.{Done, Members, Stop}
+use Rattle.steps.specs.Ready.{Ready, limits-in}
+use Rattle.steps.specs.Pending.{Comes, Prepares, Has-members, rest-of-step}
+use Rattle.elimination.specs.declared.Answer.{Answer}
+use Rattle.elimination.specs.declared.Outcome.the-variants.{Systems, Refused}
+use Rattle.elimination.specs.Answer.{Ran}
+use Rattle.elimination.proofs.Invariants.{AtRun, AtMembers, run-ends, run-used, run-steps}
+use Rattle.elimination.proofs.MembersLaws.{Comes-to, capacity-same, members-begin, members-end}
+
+-- The step of the open branch b in a work area with so many records.
+abbrev pub step-in : ℕ → ℕ → Stored → List Stored → List Stored → Stepped
+step-in most p b bs ss = step (limits-in most) p (branch-of b) (map branch-of bs) (reverse (map system-of ss))
+
+-- The step from every state held by w leaves a state that v holds; or it stops.
+abbrev pub Goes-to : ℕ → ℕ → List ℕ → List ℕ → Type 0
+Goes-to most p w v =
+    (b : Stored) (bs ss : List Stored) → Held (view w) most (with-open b bs ss) → Ready p (with-open b bs ss)
+    → (a : Area) × (step-in most p b bs ss ≡ next (state-of a)) × Held (view v) most a × Ready p a
+
+abbrev pub Stops : ℕ → ℕ → List ℕ → Reason → Type 0
+Stops most p w why = (b : Stored) (bs ss : List Stored) → Held (view w) most (with-open b bs ss) → Ready p (with-open b bs ss) → step-in most p b bs ss ≡ stopped why
+
+-- ── what was prepared ──
+module _ (p : ℕ) (w : List ℕ) (q : Prepared) (t i v : List ℕ)
+    (prepared : (b : Stored) (bs ss : List Stored) → Held (view w) (capacity w) (with-open b bs ss) → Ready p (with-open b bs ss)
+    → Prepares (limits-in (capacity w)) p (step-in (capacity w) p b bs ss) q t i (view v) (capacity w) bs ss) where
+  pub prepared-done : q ≡ Done → Goes-to (capacity w) p w v
+  prepared-done e b bs ss H R = subst (λ (q : Prepared). Prepares (limits-in (capacity w)) p (step-in (capacity w) p b bs ss) q t i (view v) (capacity w) bs ss) e (prepared b bs ss H R)
+
+  pub prepared-stop : (why : Reason) → q ≡ Stop why → Stops (capacity w) p w why
+  prepared-stop why e b bs ss H R = subst (λ (q : Prepared). Prepares (limits-in (capacity w)) p (step-in (capacity w) p b bs ss) q t i (view v) (capacity w) bs ss) e (prepared b bs ss H R)
+
+  module _ (d : Division) (e : q ≡ Members d) where
+    pub prepared-members : (b : Stored) (bs ss : List Stored) → Held (view w) (capacity w) (with-open b bs ss) → Ready p (with-open b bs ss)
+        → (b' : Stored) × Comes (limits-in (capacity w)) p (step-in (capacity w) p b bs ss) d t i (view v) (capacity w) b' bs ss
+    prepared-members b bs ss H R = subst (λ (q : Prepared). Prepares (limits-in (capacity w)) p (step-in (capacity w) p b bs ss) q t i (view v) (capacity w) bs ss) e (prepared b bs ss H R)
+
+    module _ (kept : length v ≡ length w) where
+      cap : capacity v ≡ capacity w
+      cap = capacity-same v w kept
+
+      pub members-first : (b : Stored) (bs ss : List Stored) → Held (view w) (capacity w) (with-open b bs ss) → Ready p (with-open b bs ss)
+          → AtMembers p (d .k) (terms (take (d .pivot) t)) (d .closing) (d .place) (d .left) v v (d .left)
+      members-first b bs ss H R =
+          let s = prepared-members b bs ss H R in
+          let C = s .1 in
+          members-begin p (d .k) (terms (take (d .pivot) t)) (d .closing) (d .place) (d .left) v (s .0) bs ss (subst (λ (m : ℕ). Held (view v) m (with-open (s .0) bs ss)) (sym cap) (C .held)) (C .ready) (C .has)
+
+      pub members-done : (u : List ℕ) (left : ℕ) → AtMembers p (d .k) (terms (take (d .pivot) t)) (d .closing) (d .place) (d .left) v u left → left ≡ 0 → Goes-to (capacity w) p w u
+      members-done u left A z b bs ss H R =
+          let s = prepared-members b bs ss H R in
+          let C = s .1 in
+          let x = subst (λ (m : ℕ). (b₀ : Stored) (bs ss : List Stored) → Held (view v) m (with-open b₀ bs ss) → Ready p (with-open b₀ bs ss) → Has-members (d .closing) (d .place) (d .left) b₀
+          → (b : Stored) × Held (view u) m (with-open b bs ss) × Ready p (with-open b bs ss) × Has-members (d .closing) (d .place) left b
+          × (rest-of-step (limits-in m) p (d .closing) (d .place) left (d .k) (terms (take (d .pivot) t)) b bs ss ≡ rest-of-step (limits-in m) p (d .closing) (d .place) (d .left) (d .k) (terms (take (d .pivot) t)) b₀ bs ss)) cap (A .all)
+          (s .0) bs ss (C .held) (C .ready) (C .has) in
+          (with-open (x .0) bs ss, C .goes ∙ sym (x .4) ∙ members-end (limits-in (capacity w)) p (d .k) (terms (take (d .pivot) t)) (d .place) (x .0) bs ss (d .closing) left z, x .1, x .2)
+
+      pub members-stop : (why : Reason) → Comes-to p (d .k) (terms (take (d .pivot) t)) (d .closing) (d .place) (d .left) v (stopped why) → Stops (capacity w) p w why
+      members-stop why A b bs ss H R =
+          let s = prepared-members b bs ss H R in
+          let C = s .1 in
+          C .goes
+          ∙ subst (λ (m : ℕ). (b₀ : Stored) (bs ss : List Stored) → Held (view v) m (with-open b₀ bs ss) → Ready p (with-open b₀ bs ss) → Has-members (d .closing) (d .place) (d .left) b₀
+          → rest-of-step (limits-in m) p (d .closing) (d .place) (d .left) (d .k) (terms (take (d .pivot) t)) b₀ bs ss ≡ stopped why) cap A (s .0) bs ss (C .held) (C .ready) (C .has)
+
+-- ── the run ──
+opened : (a : Area) → has-branch a ≡ true → (b : Stored) × (bs : List Stored) × (a ≡ with-open b bs (a .systems))
+opened a e = go (a .branches) e
+  where
+    go : (cs : List Stored) → has-branch (record { branches = cs; systems = a .systems }) ≡ true → (b : Stored) × (bs : List Stored) × (_≡_ {A = Area} (record { branches = cs; systems = a .systems }) (with-open b bs (a .systems)))
+    go [] e = absurd (let z : _≡_ {A = ℕ} 0 1 = cc in omega arith)
+    go (b ∷ bs) e = (b, bs, refl)
+
+closed : (a : Area) → has-branch a ≡ false → a ≡ record { branches = []; systems = a .systems }
+closed a e = go (a .branches) e
+  where
+    go : (cs : List Stored) → has-branch (record { branches = cs; systems = a .systems }) ≡ false → _≡_ {A = Area} (record { branches = cs; systems = a .systems }) (record { branches = []; systems = a .systems })
+    go [] e = refl
+    go (b ∷ bs) e = absurd (let z : _≡_ {A = ℕ} 0 1 = cc in omega arith)
+
+module _ (p limit : ℕ) (w₀ w : List ℕ) (steps : ℕ) (A : AtRun p limit w₀ w steps) where
+  same-capacity : capacity w ≡ capacity w₀
+  same-capacity = capacity-same w w₀ (A .same)
+
+  pub run-holds-some : (a : Area) × Held (view w) (capacity w) a
+  run-holds-some = let s = A .some in (s .0, subst (λ (m : ℕ). Held (view w) m (s .0)) (sym same-capacity) (s .1))
+
+  pub run-has-control : 0 < room w
+  run-has-control = let s = A .some in omega (arith, length-view w, ap length (s .1 .is))
+
+  -- What the answer is from every state that was held where the run began.
+  abbrev Answers : Answer → List ℕ → Type 0
+  Answers q v = (a : Area) → Held (view w₀) (capacity w₀) a → Ready p a → Ran (run (limits-in (capacity w₀)) p limit 0 (state-of a)) p q (view v) (capacity w₀)
+
+  -- ── no branch is left ──
+  module _ (none : (a : Area) → Held (view w) (capacity w) a → has-branch a ≡ false) where
+    pub run-finished : (n : ℕ) → n ≡ getD (view w) 0 nul .w3 → Answers (record { steps = steps; outcome = Systems n }) w
+    run-finished n e a₀ H₀ R₀ =
+        let s = A .all a₀ H₀ R₀ in
+        let c = closed (s .0) (none (s .0) (subst (λ (m : ℕ). Held (view w) m (s .0)) (sym same-capacity) (s .1))) in
+        let ss = s .0 .systems in
+        let ends : run (limits-in (capacity w₀)) p limit 0 (state-of a₀) ≡ finished steps (reverse (map system-of ss)) =
+        sym (s .3) ∙ ap (λ (a : Area). run (limits-in (capacity w₀)) p (limit - steps) steps (state-of a)) c ∙ run-ends (limits-in (capacity w₀)) p steps (limit - steps) ss in
+        let count : n ≡ length (reverse (map system-of ss)) = e ∙ ap (λ (v : List Rec). getD v 0 nul .w3) (s .1 .is) ∙ sym (length-reverse (map system-of ss) ∙ length-map ss system-of) in
+        subst (λ (E : Ended). Ran E p (record { steps = steps; outcome = Systems n }) (view w) (capacity w₀)) (sym ends) (
+        record {
+          answer = ap (λ (n : ℕ). record { steps = steps; outcome = Systems n }) count;
+          left = (ss, subst (Held (view w) (capacity w₀)) c (s .1), subst (Ready p) c (s .2), refl);
+        }
+        )
+
+  -- ── a branch is left ──
+  module _ (some : (a : Area) → Held (view w) (capacity w) a → has-branch a ≡ true) where
+    -- Whatever state the run began with, it comes to one with an open branch.
+    pub run-open : (a₀ : Area) → Held (view w₀) (capacity w₀) a₀ → Ready p a₀
+        → (b : Stored) × (bs : List Stored) × (ss : List Stored) × Held (view w) (capacity w₀) (with-open b bs ss) × Ready p (with-open b bs ss)
+        × (run (limits-in (capacity w₀)) p (limit - steps) steps (state-of (with-open b bs ss)) ≡ run (limits-in (capacity w₀)) p limit 0 (state-of a₀))
+    run-open a₀ H₀ R₀ =
+        let s = A .all a₀ H₀ R₀ in
+        let o = opened (s .0) (some (s .0) (subst (λ (m : ℕ). Held (view w) m (s .0)) (sym same-capacity) (s .1))) in (
+          o .0,
+          o .1,
+          s .0 .systems,
+          subst (Held (view w) (capacity w₀)) (o .2) (s .1),
+          subst (Ready p) (o .2) (s .2),
+          subst (λ (a : Area). run (limits-in (capacity w₀)) p (limit - steps) steps (state-of a) ≡ run (limits-in (capacity w₀)) p limit 0 (state-of a₀)) (o .2) (s .3),
+        )
+
+    pub run-open-some : (b : Stored) × (bs : List Stored) × (ss : List Stored) × Held (view w) (capacity w) (with-open b bs ss) × Ready p (with-open b bs ss)
+    run-open-some =
+        let s = A .some in
+        let h = subst (λ (m : ℕ). Held (view w) m (s .0)) (sym same-capacity) (s .1) in
+        let o = opened (s .0) (some (s .0) h) in
+        (o .0, o .1, s .0 .systems, subst (Held (view w) (capacity w)) (o .2) h, subst (Ready p) (o .2) (s .2))
+
+    pub run-no-steps : (v : List ℕ) → limit ≤ steps → Answers (record { steps = steps; outcome = Refused Steps 0 }) v
+    run-no-steps v h a₀ H₀ R₀ =
+        let s = run-open a₀ H₀ R₀ in
+        let z : limit - steps ≡ 0 = omega (arith, h) in
+        let ends : refused steps Steps ≡ run (limits-in (capacity w₀)) p limit 0 (state-of a₀) =
+        sym (ap (λ (n : ℕ). run (limits-in (capacity w₀)) p n steps (state-of (with-open (s .0) (s .1) (s .2)))) z ∙ run-used (limits-in (capacity w₀)) p steps (s .0) (s .1) (s .2)) ∙ s .5 in
+        subst (λ (E : Ended). Ran E p (record { steps = steps; outcome = Refused Steps 0 }) (view v) (capacity w₀)) ends (record { answer = refl; left = tt })
+
+    module _ (more : steps < limit) where
+      -- The run by its next step.
+      by-step : (b : Stored) (bs ss : List Stored)
+          → run (limits-in (capacity w₀)) p (limit - steps) steps (state-of (with-open b bs ss)) ≡ after-step (run (limits-in (capacity w₀)) p (limit - suc steps) (suc steps)) steps (step-in (capacity w₀) p b bs ss)
+      by-step b bs ss =
+          let z : limit - steps ≡ suc (limit - suc steps) = omega (arith, more) in
+          ap (λ (n : ℕ). run (limits-in (capacity w₀)) p n steps (state-of (with-open b bs ss))) z ∙ run-steps (limits-in (capacity w₀)) p steps b bs ss (limit - suc steps)
+
+      pub run-stopped : (why : Reason) (v : List ℕ) → Stops (capacity w) p w why → Answers (record { steps = steps; outcome = Refused why 0 }) v
+      run-stopped why v S a₀ H₀ R₀ =
+          let s = run-open a₀ H₀ R₀ in
+          let e = subst (λ (m : ℕ). Stops m p w why) same-capacity S (s .0) (s .1) (s .2) (s .3) (s .4) in
+          let ends : refused steps why ≡ run (limits-in (capacity w₀)) p limit 0 (state-of a₀) =
+          sym (by-step (s .0) (s .1) (s .2) ∙ ap (after-step (run (limits-in (capacity w₀)) p (limit - suc steps) (suc steps)) steps) e) ∙ s .5 in
+          subst (λ (E : Ended). Ran E p (record { steps = steps; outcome = Refused why 0 }) (view v) (capacity w₀)) ends (record { answer = refl; left = tt })
+
+      pub run-goes-on : (v : List ℕ) → length v ≡ length w → Goes-to (capacity w) p w v → AtRun p limit w₀ v (suc steps)
+      run-goes-on v kept G = record {
+        same = kept ∙ A .same;
+        within = omega (arith, more);
+        some =
+            let s = run-open-some in
+            let x = G (s .0) (s .1) (s .2) (s .3) (s .4) in
+            (x .0, subst (λ (m : ℕ). Held (view v) m (x .0)) same-capacity (x .2), x .3);
+        all = λ a₀ H₀ R₀.
+            let s = run-open a₀ H₀ R₀ in
+            let x = subst (λ (m : ℕ). Goes-to m p w v) same-capacity G (s .0) (s .1) (s .2) (s .3) (s .4) in
+            (x .0, x .2, x .3, sym (by-step (s .0) (s .1) (s .2) ∙ ap (after-step (run (limits-in (capacity w₀)) p (limit - suc steps) (suc steps)) steps) (x .1)) ∙ s .5);
+      }

@@ -1,0 +1,88 @@
+-- Elimination whole: a table refused in reading, a start that finds no room, and the run of a start that finds it.
+use mathlib.Core.Path.{_≡_, refl, sym, ap, subst}
+use mathlib.Core.Bool.{Bool, true, false}
+use mathlib.Core.List.{List}
+use Prim.Native.Nat.{ℕ, _/_}
+use native.Mathlib.Omega.{arith}
+use lib.ListN.{length}
+use Rattle.records.specs.Records.{Rec}
+use Rattle.tables.specs.Read.{Read, Input, good, read-table}
+use Rattle.tables.specs.Read as tables
+use Rattle.tables.specs.Solve.{reading}
+use Rattle.tables.specs.declared.Reason.{Reason}
+use Rattle.tables.specs.declared.Reason.the-variants.{Room}
+use Rattle.tables.specs.declared.ReadOutcome.the-variants.{Accepted, Refused as ReadRefused}
+use Rattle.rules.specs.Room.{Limits, State}
+use Rattle.rules.specs.Step.{Stepped, next, stopped}
+use Rattle.rules.specs.Run.{Ended, after-step, run, start, run-of}
+use Rattle.rules.specs.Eliminate.{Eliminated, turned-back, delivered, eliminated, limits-of}
+use Rattle.branches.specs.Area.{Area, Held, capacity}
+use Rattle.representation.specs.Represent.{state-of}
+use Rattle.elimination.specs.declared.Answer.{Answer}
+use Rattle.elimination.specs.declared.Outcome.the-variants.{Refused}
+use Rattle.steps.specs.Ready.{Ready, limits-in}
+use Rattle.elimination.specs.Answer.{Ran}
+use Rattle.loading.specs.Started.{Started}
+use Rattle.elimination.specs.Delivered.{Delivered}
+use Rattle.loading.proofs.StartLaws.{limits-are}
+
+-- ── reading ──
+pub refused-read : (r : Read Input) {why : Reason} {at : ℕ} → reading r .outcome ≡ ReadRefused why at → r ≡ tables.refused why at
+refused-read (good t) e = absurd (let z : _≡_ {A = ℕ} 0 1 = cc in omega arith)
+refused-read (tables.refused why at) e = cc
+
+pub accepted-read : (r : Read Input) → reading r .outcome ≡ Accepted → (t : Input) × (r ≡ good t)
+accepted-read (good t) e = (t, refl)
+accepted-read (tables.refused why at) e = absurd (let z : _≡_ {A = ℕ} 0 1 = cc in omega arith)
+
+module _ (w : List ℕ) (work output limit : ℕ) where
+  abbrev by-reading : Read Input → Eliminated
+  by-reading r = elim r [ good t ↦ delivered (output / 4) t (run-of (limits-of work) limit t) | tables.refused why at ↦ turned-back 0 why at ]
+
+  pub eliminated-refused : {why : Reason} {at : ℕ} → read-table w ≡ tables.refused why at → eliminated w work output limit ≡ turned-back 0 why at
+  unfolding eliminated
+  eliminated-refused e = ap by-reading e
+
+  pub eliminated-accepted : {t : Input} → read-table w ≡ good t → eliminated w work output limit ≡ delivered (output / 4) t (run-of (limits-of work) limit t)
+  unfolding eliminated
+  eliminated-accepted e = ap by-reading e
+
+-- ── the start ──
+not-started : (s : Stepped) (k : State → Ended) (p most : ℕ) {r : Bool} (v : List Rec) (t : Input) (room : ℕ) (out : List ℕ) → Started s p most r v → r ≡ false
+    → Delivered (delivered room t (after-step k 0 s)) (record { steps = 0; outcome = Refused Room 0 }) out out
+not-started (next s) k p most v t room out x e =
+    let y = x .0 in absurd (let z : _≡_ {A = ℕ} 0 1 = cc in omega arith)
+not-started (stopped why) k p most v t room out x e =
+    record { answer = ap (λ (w : Reason). record { steps = 0; outcome = Refused w 0 }) (sym (x .1)); output = refl }
+
+first-state : (s : Stepped) {p most : ℕ} {r : Bool} {v : List Rec} → Started s p most r v → r ≡ true → (a : Area) × Held v most a × Ready p a × (s ≡ next (state-of a))
+first-state (next s) x e = let a = x .1 in (a .0, a .1, a .2, ap next (sym (a .3)))
+first-state (stopped why) x e = let y = x .0 in absurd (let z : _≡_ {A = ℕ} 0 1 = cc in omega arith)
+
+module _ (t : Input) (most limit : ℕ) {r : Bool} (v : List Rec) (x : Started (start (limits-in most) t) (t .modulus) most r v) where
+  pub no-room : (room : ℕ) (out : List ℕ) → r ≡ false
+      → Delivered (delivered room t (run-of (limits-in most) limit t)) (record { steps = 0; outcome = Refused Room 0 }) out out
+  unfolding run-of
+  no-room room out e = not-started (start (limits-in most) t) (run (limits-in most) (t .modulus) limit 0) (t .modulus) most v t room out x e
+
+  -- The state that the run begins with, said of the room and the modulus that it is given.
+  pub begins : {p most₁ : ℕ} → r ≡ true → t .modulus ≡ p → most₁ ≡ most → (a : Area) × Held v most₁ a × Ready p a
+  begins e q m =
+      let a = first-state (start (limits-in most) t) x e in
+      (a .0, subst (λ (n : ℕ). Held v n (a .0)) (sym m) (a .1), subst (λ (n : ℕ). Ready n (a .0)) q (a .2))
+
+  pub run-is : {p most₁ : ℕ} {q : Answer} {u : List Rec} → r ≡ true → t .modulus ≡ p → most₁ ≡ most
+      → ((a : Area) → Held v most₁ a → Ready p a → Ran (run (limits-in most₁) p limit 0 (state-of a)) p q u most₁)
+      → Ran (run-of (limits-in most) limit t) (t .modulus) q u most
+  unfolding run-of
+  run-is {p = p} {q = q} {u = u} e same m k =
+      let a = first-state (start (limits-in most) t) x e in
+      let there = subst (λ (n : ℕ). (a : Area) → Held v n a → Ready p a → Ran (run (limits-in n) p limit 0 (state-of a)) p q u n) m k in
+      let here = subst (λ (n : ℕ). (a : Area) → Held v most a → Ready n a → Ran (run (limits-in most) n limit 0 (state-of a)) n q u most) (sym same) there in
+      subst (λ (s : Stepped). Ran (after-step (run (limits-in most) (t .modulus) limit 0) 0 s) (t .modulus) q u most) (sym (a .3)) (here (a .0) (a .1) (a .2))
+
+-- Said of the words of the work area.
+pub in-words : (w : List ℕ) (room limit : ℕ) (t : Input) {r : Answer} {before after : List ℕ} → Delivered (delivered room t (run-of (limits-in (capacity w)) limit t)) r before after
+    → Delivered (delivered room t (run-of (limits-of (length w)) limit t)) r before after
+in-words w room limit t {r = r} {before = before} {after = after} d =
+    subst (λ (l : Limits). Delivered (delivered room t (run-of l limit t)) r before after) (sym (limits-are w)) d

@@ -1,0 +1,80 @@
+// Elimination of a table, whole: the run in the lent work area, and the written list.
+pub mod deliver;
+pub mod run;
+
+ghost use mathlib.Core.Path.{_≡_};
+ghost use Prim.Native.Nat.{_/_};
+ghost use lib.ListN.{length, replicate};
+ghost use Rattle.tables.specs.Read.{Input, good, read-table};
+ghost use Rattle.rules.specs.Run.{run-of};
+ghost use Rattle.rules.specs.Eliminate.{delivered, eliminated, limits-of, output-after};
+ghost use Rattle.elimination.specs.Answer.{answer-of};
+ghost use Rattle.elimination.specs.Delivered.{Delivered};
+use tables::ReadOutcome;
+use tables::Reason;
+
+// How an elimination ends: with so many systems, or refused for a reason at a record.
+pub enum Outcome {
+    Systems(u32),
+    Refused(Reason, u32),
+}
+
+// The whole steps finished, and the outcome.
+pub struct Answer {
+    pub steps: u32,
+    pub outcome: Outcome,
+}
+
+// Eliminates an accepted table. The work area may hold anything, before and afterwards.
+fn eliminate_accepted(table: &[u32], work: &mut [u32], output: &mut [u32], limit: u32) -> Answer
+    requires { ⌜ ((t : Input) × (read-table (now table) ≡ good t)) ⌝ }
+    ensures { λ r. ⌜ ((t : Input) → read-table (now (table .entry)) ≡ good t
+        → Delivered (delivered (length (now (output .entry)) / 4) t (run-of (limits-of (length (now (work .entry)))) limit t)) r (now (output .entry)) (now (output .exit))) ⌝ }
+{
+    let mut pivot = [0u64; 512];
+    let mut initial = [0u64; 512];
+    let mut divided = [0u64; 1024];
+    let mut x = [0u64; 2048];
+    let mut y = [0u64; 2048];
+    let mut z = [0u64; 2048];
+    if !loading::start(table, work, &mut divided) {
+        return Answer {
+            steps: 0,
+            outcome: Outcome::Refused(Reason::Room, 0),
+        };
+    }
+    let p = table[0] as u64;
+    let ran = run::run(
+        work,
+        p,
+        limit,
+        &mut pivot,
+        &mut initial,
+        &mut divided,
+        &mut x,
+        &mut y,
+        &mut z,
+    );
+    deliver::deliver(table, work, output, ran)
+}
+
+// Eliminates the table: on success the list of systems stands in the first words of the output. The work area may hold anything, and is zero
+// afterwards. Stack: about 120 KiB; 256 KiB more for a product of over 2,800 term products, 1.1 MiB for one of over 15,000.
+pub fn eliminate(table: &[u32], work: &mut [u32], output: &mut [u32], limit: u32) -> Answer
+    ensures { λ r. ⌜ r ≡ answer-of (eliminated (now (table .entry)) (length (now (work .entry))) (length (now (output .entry))) limit) ⌝ }
+    ensures { λ _. ⌜ now (output .exit) ≡ output-after (eliminated (now (table .entry)) (length (now (work .entry))) (length (now (output .entry))) limit) (now (output .entry)) ⌝ }
+    ensures { λ _. ⌜ now (work .exit) ≡ replicate (length (now (work .entry))) 0 ⌝ }
+{
+    let reading = tables::read::read_table(table);
+    let outcome = reading.outcome;
+    if let ReadOutcome::Refused(why, record) = outcome {
+        records::clear(work);
+        return Answer {
+            steps: 0,
+            outcome: Outcome::Refused(why, record),
+        };
+    }
+    let answer = eliminate_accepted(table, work, output, limit);
+    records::clear(work);
+    answer
+}

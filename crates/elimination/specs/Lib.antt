@@ -1,2 +1,4 @@
 pub mod Answer
 pub mod Delivered
+pub mod Numbers
+pub mod Promise

@@ -9,8 +9,6 @@ use native.Mathlib.Omega.{arith}
 use lib.Dec.{ltb}
 use lib.ListN.{length, take, drop, getD}
 use lib.Seq.{length-take-le, drop-length, paste, length-paste, take-paste, take-all}
-use denote.Enum.Declared.{tagOf}
-use types.Run.{OneOf}
 use borrow.Author.Tests.{ltb-false}
 use Rattle.polynomials.specs.Poly.{Poly, add-multiple, product}
 use Rattle.polynomials.specs.Canonical.{Canonical}
@@ -19,32 +17,41 @@ use Rattle.polynomials.specs.Packed.{bytes, terms, AllFit}
 use Rattle.polynomials.specs.Working.{Pairs, Holds, Written, Forms}
 use Rattle.polynomials.specs.declared.Formed.{Formed}
 use Rattle.polynomials.specs.declared.Formed.the-variants.{Words, OverDegree, OverTerms}
-use Rattle.polynomials.proofs.Formed.{the-type}
+use Rattle.products.specs.Gathers.{room-for, Gathers}
+use Rattle.products.specs.declared.Gathered.{Gathered}
+use Rattle.products.specs.declared.Gathered.the-variants as ended
 pub use Rattle.sums.proofs.MergeLaws.{formed, refused}
 use Rattle.polynomials.specs.laws.Terms.{terms-drop, words-of-terms}
 use Rattle.polynomials.specs.laws.Canonical.{canonical-product}
 use Rattle.polynomials.specs.laws.Product.{product-comm, add-multiple-length, rows-left, row-added, coefficient-below, row-fits}
 
--- ── what a buffer was formed in, and its copy ──
-pub words-formed : (f : Poly) (r : Formed) (n : ℕ) (a : List ℕ) → Forms (tested standard f) r a → r ≡ Words n → Written f n a × (n ≤ 512)
-unfolding tested over
-words-formed f r n a w e = go (ltb 256 (length f)) (ltb-false 256 (length f)) w
+-- ── how a gathering ended ──
+pub words-ended : (f : Poly) (need : ℕ) (r : Gathered) (n : ℕ) (a b : List ℕ) → Gathers f need r a b → r ≡ ended.Words n → Forms (tested standard f) (Words n) a
+words-ended f need r n a b w e = subst (λ r. Gathers f need r a b) e w
+
+-- After a refusal the words are left free.
+pub over-terms-ended : (f : Poly) (need : ℕ) (r : Gathered) (a b x : List ℕ) → Gathers f need r a b → r ≡ ended.OverTerms → Forms (tested standard f) OverTerms x
+unfolding tested
+over-terms-ended f need r a b x w e = go (over (at-most 256) (length f)) (subst (λ r. Gathers f need r a b) e w)
   where
-    go : (b : Bool) → (b ≡ false → length f ≤ 256) → Forms (elim b [ true ↦ terms-passed | false ↦ within f ]) r a → Written f n a × (n ≤ 512)
+    go : (b : Bool) → Forms (elim b [ true ↦ terms-passed | false ↦ within f ]) OverTerms a → Forms (elim b [ true ↦ terms-passed | false ↦ within f ]) OverTerms x
+    go true w = refl
+    go false w = absurd (let z : _≡_ {A = ℕ} 0 1 = cc in omega arith)
+
+pub never-short : (f : Poly) (need : ℕ) (r : Gathered) (a b : List ℕ) → Gathers f need r a b → r ≡ ended.Short → need ≤ length a → need ≤ length b → ⊥
+never-short f need r a b w e ha hb = ⊎-elim (λ (h : length a < need). omega arith) (λ (h : length b < need). omega arith) (subst (λ r. Gathers f need r a b) e w)
+
+-- ── what a buffer was formed in, and its copy ──
+pub words-formed : (f : Poly) (n : ℕ) (a : List ℕ) → Forms (tested standard f) (Words n) a → Written f n a × (n ≤ 512)
+unfolding tested over
+words-formed f n a w = go (ltb 256 (length f)) (ltb-false 256 (length f)) w
+  where
+    go : (b : Bool) → (b ≡ false → length f ≤ 256) → Forms (elim b [ true ↦ terms-passed | false ↦ within f ]) (Words n) a → Written f n a × (n ≤ 512)
     go true h w = absurd (let z : _≡_ {A = ℕ} 0 1 = cc in omega arith)
     go false h w = let q : 2 * length f ≡ n = cc in (subst (λ k. Written f k a) q (w .1), omega (arith, h refl))
 
--- After a refusal the words are left free.
-pub no-words-formed : (f : Poly) (r : Formed) (a x : List ℕ) → Forms (tested standard f) r a → OneOf (1 ∷ (2 ∷ [])) (tagOf the-type r) → Forms (tested standard f) r x
-unfolding tested
-no-words-formed f r a x w others = go (over (at-most 256) (length f)) w
-  where
-    go : (b : Bool) → Forms (elim b [ true ↦ terms-passed | false ↦ within f ]) r a → Forms (elim b [ true ↦ terms-passed | false ↦ within f ]) r x
-    go true w = w
-    go false w = ⊎-elim (λ (h : 0 ≡ 1). absurd (omega arith)) (λ (h : 0 ≡ 2). absurd (omega arith)) (subst (λ r. OneOf (1 ∷ (2 ∷ [])) (tagOf the-type r)) (w .0) others)
-
 -- The words copied to x.
-module _ (f : Poly) (n : ℕ) (a x : List ℕ) (w : Written f n a × (n ≤ 512)) (room : 1024 ≤ length x) where
+module _ (f : Poly) (n : ℕ) (a x : List ℕ) (w : Written f n a × (n ≤ 512)) (room : 512 ≤ length x) where
   taken : length (take n a) ≡ n
   taken = length-take-le n a (w .0 .within)
 
@@ -79,7 +86,7 @@ abbrev pub row : (p : ℕ) (f g : List ℕ) (i j : ℕ) (s : List ℕ) → Poly
 row p f g i j s = add-multiple p (getD f i 0) (bytes 8 (getD f j 0)) (terms g) (terms s)
 
 -- Each row done has brought at most g's words.
-pub record Gathered (p : ℕ) (f g : List ℕ) (i n : ℕ) (x : List ℕ) : Type 0 where
+pub record RowsFrom (p : ℕ) (f g : List ℕ) (i n : ℕ) (x : List ℕ) : Type 0 where
   pub written : Written (product p (terms (drop i f)) (terms g)) n x
   pub done : 2 * n + i * length g ≤ length f * length g
 
@@ -91,7 +98,7 @@ pub record Place (f : List ℕ) (i j k : ℕ) : Type 0 where
   pub next : k ≡ i + 2
 
 module _ (p : ℕ) (f g : List ℕ) (pg : Pairs g) where
-  pub none-gathered : (x : List ℕ) → Gathered p f g (length f) 0 x
+  pub none-gathered : (x : List ℕ) → RowsFrom p f g (length f) 0 x
   unfolding product terms
   none-gathered x = record {
     written = subst (λ s. Written (product p (terms s) (terms g)) 0 x) (sym (drop-length f)) record { within = omega arith; pairs = refl; holds = refl };
@@ -99,7 +106,7 @@ module _ (p : ℕ) (f g : List ℕ) (pg : Pairs g) where
   }
 
   -- The row of that term.
-  module _ (i j k : ℕ) (at : Place f i j k) (n : ℕ) (x : List ℕ) (so-far : Gathered p f g k n x) where
+  module _ (i j k : ℕ) (at : Place f i j k) (n : ℕ) (x : List ℕ) (so-far : RowsFrom p f g k n x) where
     -- What adding it asks.
     pub row-asks : (room : ℕ) → (1 ≤ p) × (p < 2147483648) → Canonical p (terms f) → Canonical p (terms g) → degrees-over (at-most 255) (terms f) (terms g) ≡ false → n + length g ≤ room →
         Adds p (getD f i 0) (getD f j 0) g (take n x) room
@@ -122,7 +129,7 @@ module _ (p : ℕ) (f g : List ℕ) (pg : Pairs g) where
       row-words =
           omega (arith, so-far .written .pairs, w .pairs, words-of-terms g pg, ap length (so-far .written .holds), add-multiple-length p (getD f i 0) (bytes 8 (getD f j 0)) (terms g) (terms (take n x)) .1)
 
-      pub row-gathered : Gathered p f g i m z
+      pub row-gathered : RowsFrom p f g i m z
       row-gathered = record {
         written = subst (λ s. Written s m z) same w;
         done = omega (arith, so-far .done, row-words, ap (λ (k : ℕ). k * length g) (at .next));
@@ -135,7 +142,7 @@ module _ (p : ℕ) (f g : List ℕ) (pg : Pairs g) where
               ∙ sym (row-added f i (at .even) (at .inside) p (terms g))
 
   -- Where what is gathered can't come back to 256 terms, the product has more.
-  pub cannot-return : (i n : ℕ) (x : List ℕ) → i % 2 ≡ 0 → Gathered p f g i n x → 512 + i / 2 * length g < n → 256 < length (product p (terms f) (terms g))
+  pub cannot-return : (i n : ℕ) (x : List ℕ) → i % 2 ≡ 0 → RowsFrom p f g i n x → 512 + i / 2 * length g < n → 256 < length (product p (terms f) (terms g))
   cannot-return i n x even so-far many =
       omega (arith, so-far .written .pairs, words-of-terms g pg, rows-left p (i / 2) (terms f) (terms g), ap (λ s. length (product p s (terms g))) (terms-drop i f even), ap (λ (k : ℕ). i / 2 * k) (words-of-terms g pg))
 
@@ -143,7 +150,7 @@ module _ (p : ℕ) (f g : List ℕ) (pg : Pairs g) where
 pub record Gathering (p : ℕ) (f g x₀ z₀ x z : List ℕ) (i n : ℕ) : Type 0 where
   pub four : i % 4 ≡ 0
   pub inside : i ≤ length f
-  pub rows : Gathered p f g i n x
+  pub rows : RowsFrom p f g i n x
   pub few : n ≤ 512 + i / 2 * length g
   pub same-x : length x ≡ length x₀
   pub same-z : length z ≡ length z₀
@@ -156,7 +163,7 @@ module _ (p : ℕ) (f g : List ℕ) {D : Type 0} (asked : Factors p f g D) where
   right-pairs : Pairs g
   right-pairs = asked .1 .1 .0 .0 .pairs
 
-  empty : Gathered p f g (length f) 0 f
+  empty : RowsFrom p f g (length f) 0 f
   empty = none-gathered p f g right-pairs f
 
   last-place : length f % 4 ≡ 2 → Place f (length f - 2) (length f - 2 + 1) (length f)
@@ -206,9 +213,9 @@ module _ (p : ℕ) (f g : List ℕ) {D : Type 0} (asked : Factors p f g D) where
     doubled : 2 * (i / 2 * length g) ≡ i * length g
     doubled = let halves : 2 * (i / 2) ≡ i = omega (arith, even) in omega (arith, ap (λ (j : ℕ). j * length g) halves)
 
-    -- Both find room.
-    pub room : (r : ℕ) → length f * length g / 4 + 2 * length g + 256 ≤ r → n + 2 * length g ≤ r
-    room r h = omega (arith, v .few, v .rows .done, doubled)
+    -- Where the two do not find room, the words are less than those asked for.
+    pub no-room : (r : ℕ) → r < n + 2 * length g → r < room-for (length f) (length g)
+    no-room r h = omega (arith, v .few, v .rows .done, doubled)
 
     upper-place : Place f (i - 4 + 2) (i - 4 + 3) i
     upper-place = record { even = omega (arith, even, full); inside = omega (arith, full, v .inside); second = omega arith; next = omega (arith, full) }
@@ -226,7 +233,7 @@ module _ (p : ℕ) (f g : List ℕ) {D : Type 0} (asked : Factors p f g D) where
       pub upper-words : m ≤ n + length g
       upper-words = row-words p f g right-pairs (i - 4 + 2) (i - 4 + 3) i upper-place n x (v .rows) m z′ w
 
-      upper-gathered : Gathered p f g (i - 4 + 2) m z′
+      upper-gathered : RowsFrom p f g (i - 4 + 2) m z′
       upper-gathered = row-gathered p f g right-pairs (i - 4 + 2) (i - 4 + 3) i upper-place n x (v .rows) m z′ w
 
       -- the row at i - 4, into x
@@ -236,7 +243,7 @@ module _ (p : ℕ) (f g : List ℕ) {D : Type 0} (asked : Factors p f g D) where
           row-asks p f g right-pairs (i - 4) (i - 4 + 1) (i - 4 + 2) lower-place m z′ upper-gathered r (asked .0) (asked .1 .0 .0 .canonical) (asked .1 .1 .0 .0 .canonical) (asked .1 .1 .0 .1) h
 
       module _ (n′ : ℕ) (x′ : List ℕ) (w′ : Written (row p f g (i - 4) (i - 4 + 1) (take m z′)) n′ x′) where
-        lower-gathered : Gathered p f g (i - 4) n′ x′
+        lower-gathered : RowsFrom p f g (i - 4) n′ x′
         lower-gathered = row-gathered p f g right-pairs (i - 4) (i - 4 + 1) (i - 4 + 2) lower-place m z′ upper-gathered n′ x′ w′
 
         pub again : n′ ≤ 512 + (i - 4) / 2 * length g → length x′ ≡ length x → length z′ ≡ length z → Gathering p f g x₀ z₀ x′ z′ (i - 4) n′
@@ -262,8 +269,12 @@ module _ (p : ℕ) (f g : List ℕ) {D : Type 0} (asked : Factors p f g D) where
 pub small : (a b : ℕ) → a ≤ 512 → b ≤ 512 → a * b ≤ 262144
 small a b h k = mul-le-mul h k
 
-pub buffers-suffice : (f g : ℕ) → f ≤ 512 → g ≤ 512 → f * g / 4 + 2 * g + 256 ≤ 66816
+pub buffers-suffice : (f g : ℕ) → f ≤ 512 → g ≤ 512 → room-for f g ≤ 66816
 buffers-suffice f g h k = omega (arith, small f g h k)
+
+-- The factors may change places.
+pub exchanged : (p : ℕ) → 1 ≤ p → (f g : Poly) (r : Formed) (x : List ℕ) → Forms (tested standard (product p g f)) r x → Forms (tested standard (product p f g)) r x
+exchanged p h f g r x w = subst (λ s. Forms (tested standard s) r x) (product-comm p h g f) w
 
 -- ── the product, tested ──
 nothing-formed : (x : List ℕ) → Forms (within []) (Words 0) x
@@ -301,9 +312,6 @@ module _ (p : ℕ) (f g : List ℕ) (hf : Holds p f) (hg : Holds p g) (nf : leng
   pub over-degree : (x : List ℕ) → degrees-over (at-most 255) (terms f) (terms g) ≡ true → Forms (bounded-product standard p (terms f) (terms g)) OverDegree x
   over-degree x e = subst (λ b. Forms b OverDegree x) (sym (as-tested true e)) refl
 
-  module _ (e : degrees-over (at-most 255) (terms f) (terms g) ≡ false) (r : Formed) (x : List ℕ) where
-    pub by-rows : Forms (tested standard (product p (terms f) (terms g))) r x → Forms (bounded-product standard p (terms f) (terms g)) r x
-    by-rows w = subst (λ b. Forms b r x) (sym (as-tested false e)) w
-
-    pub by-rows-of-g : 1 ≤ p → Forms (tested standard (product p (terms g) (terms f))) r x → Forms (bounded-product standard p (terms f) (terms g)) r x
-    by-rows-of-g h w = by-rows (subst (λ s. Forms (tested standard s) r x) (product-comm p h (terms g) (terms f)) w)
+  pub by-rows : degrees-over (at-most 255) (terms f) (terms g) ≡ false → (r : Formed) (x : List ℕ) →
+      Forms (tested standard (product p (terms f) (terms g))) r x → Forms (bounded-product standard p (terms f) (terms g)) r x
+  by-rows e r x w = subst (λ b. Forms b r x) (sym (as-tested false e)) w

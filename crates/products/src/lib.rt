@@ -10,11 +10,19 @@ ghost use Rattle.polynomials.specs.Poly.{product};
 ghost use Rattle.polynomials.specs.Bounds.{standard, at-most, bounded-product, degrees-over, tested};
 ghost use Rattle.polynomials.specs.Packed.{terms};
 ghost use Rattle.polynomials.specs.Working.{Holds, Forms};
+ghost use Rattle.products.specs.Gathers.{Gathers, room-for};
 use polynomials::Formed;
 use terms::parts;
 
-// f times g, in the first words of x; z is lent besides. Stack: 256 KiB where the product of the term counts passes what x and z
-// hold, 1,1 MiB where it passes 15,000; else none to speak of.
+// How a gathering ends: with so many words, with more than 256 terms certain, or where the lent buffers are too short.
+pub enum Gathered {
+    Words(usize),
+    OverTerms,
+    Short,
+}
+
+// f times g, in the first words of x; z is lent besides. Stack: none to speak of where x and z hold what is gathered; 130 KiB where
+// they don't, 1.1 MiB where that passes 8,192 words.
 pub fn product(p: u64, f: &[u64], g: &[u64], x: &mut [u64], z: &mut [u64]) -> Formed
     requires { ⌜ (1 ≤ p) × (p < 2147483648) ⌝ }
     requires { ⌜ Holds p (now f) ⌝ }
@@ -31,40 +39,40 @@ pub fn product(p: u64, f: &[u64], g: &[u64], x: &mut [u64], z: &mut [u64]) -> Fo
     if parts::degrees_over(f, g) {
         return Formed::OverDegree;
     }
-    if f.len() <= g.len() {
-        return rows(p, f, g, x, z);
-    }
-    rows(p, g, f, x, z)
+    rows(p, f, g, x, z)
 }
 
-// The product by the rows of f, where no degree passes 255.
+// The product by the rows of the shorter factor, where no degree passes 255. That it calls itself keeps LLVM from inlining the large
+// frames of `gather_apart` and `gather_large` here: each call would pay for them.
 fn rows(p: u64, f: &[u64], g: &[u64], x: &mut [u64], z: &mut [u64]) -> Formed
     requires { ⌜ (1 ≤ p) × (p < 2147483648) ⌝ }
     requires { ⌜ Holds p (now f) × (0 < length (now f)) ⌝ }
     requires { ⌜ Holds p (now g) × (degrees-over (at-most 255) (terms (now f)) (terms (now g)) ≡ false) ⌝ }
+    requires { ⌜ 0 < length (now g) ⌝ }
     requires { ⌜ (1024 ≤ length (now x)) × (1024 ≤ length (now z)) ⌝ }
     ensures { λ r. ⌜ Forms (tested standard (product p (terms (now (f .entry))) (terms (now (g .entry))))) r (now (x .exit)) ⌝ }
 {
+    if g.len() < f.len() {
+        return rows(p, g, f, x, z);
+    }
     if f.len() == 2 {
         return Formed::Words(sums::add_multiple(p, f[0], f[1], g, &f[..0], x));
     }
-    let need = f.len() * g.len() / 4 + 2 * g.len() + 256;
-    if need <= x.len() && need <= z.len() {
-        return gather(p, f, g, x, z);
+    let ended = gather(p, f, g, x, z);
+    match ended {
+        Gathered::Words(n) => Formed::Words(n),
+        Gathered::OverTerms => Formed::OverTerms,
+        Gathered::Short => gather_apart(p, f, g, x),
     }
-    if need <= 16384 {
-        return gather_medium(p, f, g, x);
-    }
-    gather_large(p, f, g, x)
 }
 
 // The rows of f added up, from the last on, in x and z by turns: at the end in x.
-fn gather(p: u64, f: &[u64], g: &[u64], x: &mut [u64], z: &mut [u64]) -> Formed
+fn gather(p: u64, f: &[u64], g: &[u64], x: &mut [u64], z: &mut [u64]) -> Gathered
     requires { ⌜ (1 ≤ p) × (p < 2147483648) ⌝ }
     requires { ⌜ Holds p (now f) × (0 < length (now f)) ⌝ }
     requires { ⌜ Holds p (now g) × (degrees-over (at-most 255) (terms (now f)) (terms (now g)) ≡ false) ⌝ }
-    requires { ⌜ (length (now f) * length (now g) / 4 + 2 * length (now g) + 256 ≤ length (now x)) × (length (now f) * length (now g) / 4 + 2 * length (now g) + 256 ≤ length (now z)) ⌝ }
-    ensures { λ r. ⌜ Forms (tested standard (product p (terms (now (f .entry))) (terms (now (g .entry))))) r (now (x .exit)) ⌝ }
+    requires { ⌜ (512 ≤ length (now x)) × (512 ≤ length (now z)) ⌝ }
+    ensures { λ r. ⌜ Gathers (product p (terms (now (f .entry))) (terms (now (g .entry)))) (room-for (length (now (f .entry))) (length (now (g .entry)))) r (now (x .exit)) (now (z .exit)) ⌝ }
 {
     let mut i = f.len();
     let mut n = 0;
@@ -74,45 +82,59 @@ fn gather(p: u64, f: &[u64], g: &[u64], x: &mut [u64], z: &mut [u64]) -> Formed
     }
     while 0 < i {
         i -= 4;
+        if z.len() < n + g.len() {
+            return Gathered::Short;
+        }
         let m = sums::add_multiple(p, f[i + 2], f[i + 3], g, &x[..n], z);
+        if x.len() < m + g.len() {
+            return Gathered::Short;
+        }
         n = sums::add_multiple(p, f[i], f[i + 1], g, &z[..m], x);
         if 512 + i / 2 * g.len() < n {
-            return Formed::OverTerms;
+            return Gathered::OverTerms;
         }
     }
-    Formed::Words(n)
+    Gathered::Words(n)
 }
 
-// `gather` in buffers of its own, for up to 15,000 term products.
-fn gather_medium(p: u64, f: &[u64], g: &[u64], x: &mut [u64]) -> Formed
+// `gather` in buffers of its own.
+fn gather_apart(p: u64, f: &[u64], g: &[u64], x: &mut [u64]) -> Formed
     requires { ⌜ (1 ≤ p) × (p < 2147483648) ⌝ }
     requires { ⌜ Holds p (now f) × (0 < length (now f)) ⌝ }
     requires { ⌜ Holds p (now g) × (degrees-over (at-most 255) (terms (now f)) (terms (now g)) ≡ false) ⌝ }
-    requires { ⌜ (length (now f) * length (now g) / 4 + 2 * length (now g) + 256 ≤ 16384) × (1024 ≤ length (now x)) ⌝ }
+    requires { ⌜ 512 ≤ length (now x) ⌝ }
     ensures { λ r. ⌜ Forms (tested standard (product p (terms (now (f .entry))) (terms (now (g .entry))))) r (now (x .exit)) ⌝ }
 {
-    let mut a = [0u64; 16384];
-    let mut b = [0u64; 16384];
-    let formed = gather(p, f, g, &mut a, &mut b);
-    if let Formed::Words(n) = formed {
-        sums::copy(&a[..n], 0, x, 0);
+    let mut a = [0u64; 8192];
+    let mut b = [0u64; 8192];
+    let ended = gather(p, f, g, &mut a, &mut b);
+    match ended {
+        Gathered::Words(n) => {
+            sums::copy(&a[..n], 0, x, 0);
+            Formed::Words(n)
+        }
+        Gathered::OverTerms => Formed::OverTerms,
+        Gathered::Short => gather_large(p, f, g, x),
     }
-    formed
 }
 
-// `gather` in buffers of its own, for any number of term products.
+// `gather` in buffers that hold whatever is gathered: it is never `Short` here.
 fn gather_large(p: u64, f: &[u64], g: &[u64], x: &mut [u64]) -> Formed
     requires { ⌜ (1 ≤ p) × (p < 2147483648) ⌝ }
     requires { ⌜ Holds p (now f) × (0 < length (now f)) ⌝ }
     requires { ⌜ Holds p (now g) × (degrees-over (at-most 255) (terms (now f)) (terms (now g)) ≡ false) ⌝ }
-    requires { ⌜ 1024 ≤ length (now x) ⌝ }
+    requires { ⌜ 512 ≤ length (now x) ⌝ }
     ensures { λ r. ⌜ Forms (tested standard (product p (terms (now (f .entry))) (terms (now (g .entry))))) r (now (x .exit)) ⌝ }
 {
     let mut a = [0u64; 66816];
     let mut b = [0u64; 66816];
-    let formed = gather(p, f, g, &mut a, &mut b);
-    if let Formed::Words(n) = formed {
-        sums::copy(&a[..n], 0, x, 0);
+    let ended = gather(p, f, g, &mut a, &mut b);
+    match ended {
+        Gathered::Words(n) => {
+            sums::copy(&a[..n], 0, x, 0);
+            Formed::Words(n)
+        }
+        Gathered::OverTerms => Formed::OverTerms,
+        Gathered::Short => Formed::OverTerms,
     }
-    formed
 }

@@ -3,11 +3,11 @@
 use borrow.Author.Needs.{needs}
 use native.Mathlib.Omega.{arith}
 use mathlib.Core.Path.{_≡_, sym, _∙_, ap}
-use mathlib.Core.Logic.{⊎-elim}
+use mathlib.Core.Logic.{⊎-elim, inl, inr}
 use Prim.Native.Nat.{_+_, _-_, _*_, _/_, _≤_}
 use lib.ListN.{length}
 use lib.Seq.{length-take-le}
-use Rattle.products.proofs.ProductLaws.{Gathering, small, first-asks, first-gathering, none-gathering, room, upper-asks, upper-words, lower-asks, again, stopped, gathered}
+use Rattle.products.proofs.ProductLaws.{Gathering, small, first-asks, first-gathering, none-gathering, no-room, upper-asks, upper-words, lower-asks, again, stopped, gathered}
 use Rattle.products.proofs.gather.Statement.{statement}
 use Rattle.products.proofs.gather.Tie as tie
 
@@ -17,24 +17,24 @@ Inv-loop p f g x₀ z₀ i₀ n₀ x z i n = Gathering p f g x₀ z₀ x z i n
 abbrev μ-loop : tie.MeasureT-loop
 μ-loop p f g x₀ z₀ i₀ n₀ x z i n = i
 
--- x is as long as when it was lent; two rows more find room in x and z.
+-- x is as long as when it was lent.
 start-x : (c : tie.Joined1 Inv-loop μ-loop) → length (c .if1 .x) ≡ length (c .before .before .before .before .before .args .x .now)
 start-x c = ⊎-elim (λ w. ap length (w .8) ∙ w .5 .kept .1 .1 .1 .1 .1 .0) (λ w. ap length (w .1)) (c .if1 .came)
 
-room-x : (c : tie.In-loop Inv-loop μ-loop) → c .before .loop .n + 2 * length (c .before .before .before .before .before .before .before .args .g .now) ≤ length (c .before .loop .x)
-room-x c =
-    let s = c .before .before .before .before .before .before .before in
-    omega (arith, room _ _ _ (s .pre) _ _ _ _ _ _ (c .before .loop .inv) (c .loop-test .taken) (length (s .args .x .now)) (s .pre .1 .1 .1 .0), c .before .loop .inv .same-x, start-x (c .before .before))
+same-x : (c : tie.In-loop Inv-loop μ-loop) → length (c .before .loop .x) ≡ length (c .before .before .before .before .before .before .before .args .x .now)
+same-x c = c .before .loop .inv .same-x ∙ start-x (c .before .before)
 
-room-z : (c : tie.In-loop Inv-loop μ-loop) → c .before .loop .n + 2 * length (c .before .before .before .before .before .before .before .args .g .now) ≤ length (c .before .loop .z)
-room-z c =
-    let s = c .before .before .before .before .before .before .before in
-    omega (arith, room _ _ _ (s .pre) _ _ _ _ _ _ (c .before .loop .inv) (c .loop-test .taken) (length (s .args .z .now)) (s .pre .1 .1 .1 .1), c .before .loop .inv .same-z)
-
+-- The sums fit.
 rows-small : (c : tie.In-loop Inv-loop μ-loop) → (c .before .loop .i - 4) / 2 * length (c .before .before .before .before .before .before .before .args .g .now) ≤ 262144
 rows-small c =
     let s = c .before .before .before .before .before .before .before in
     small ((c .before .loop .i - 4) / 2) (length (s .args .g .now)) (omega (arith, c .before .loop .inv .inside, s .pre .1 .0 .0 .few)) (s .pre .1 .1 .0 .0 .few)
+
+words-small : (c : tie.In-loop Inv-loop μ-loop) → c .before .loop .n + 2 * length (c .before .before .before .before .before .before .before .args .g .now) ≤ 263680
+words-small c =
+    let s = c .before .before .before .before .before .before .before in
+    let g = length (s .args .g .now) in
+    omega (arith, small (c .before .loop .i / 2) g (omega (arith, c .before .loop .inv .inside, s .pre .1 .0 .0 .few)) (s .pre .1 .1 .0 .0 .few), s .pre .1 .1 .0 .0 .few, c .before .loop .inv .few)
 
 sub-i : tie.Need-sub-i Inv-loop μ-loop
 sub-i c = search needs
@@ -60,7 +60,7 @@ slice-aggregate-add-multiple c = search needs
 add-multiple-requires : tie.Need-add-multiple-requires Inv-loop μ-loop
 add-multiple-requires c κs =
     let s = c .before .before .before .before .before .before .before .before .before in
-    first-asks _ _ _ (s .pre) (c .before .before .before .before .if1 .taken) _ (omega (arith, s .pre .1 .1 .1))
+    first-asks _ _ _ (s .pre) (c .before .before .before .before .if1 .taken) _ (omega (arith, s .pre .1 .1 .1, s .pre .1 .1 .0 .0 .few))
 
 loop-holds : tie.Need-loop-holds Inv-loop μ-loop
 loop-holds c =
@@ -70,6 +70,20 @@ loop-holds c =
 
 sub-i-2 : tie.Need-sub-i-2 Inv-loop μ-loop
 sub-i-2 c = search needs
+
+add-if2 : tie.Need-add-if2 Inv-loop μ-loop
+add-if2 c = omega (arith, words-small (c .before .before))
+
+same-length : tie.Need-same-length Inv-loop μ-loop
+same-length c = same-x (c .before .before .before)
+
+same-length-2 : tie.Need-same-length-2 Inv-loop μ-loop
+same-length-2 c = search needs
+
+returns : tie.Need-returns Inv-loop μ-loop
+returns c =
+    let t = c .before .before .before in
+    inr (no-room _ _ _ (t .before .before .before .before .before .before .before .pre) _ _ _ _ _ _ (t .before .loop .inv) (t .loop-test .taken) _ (omega (arith, c .if2 .taken)))
 
 add-add-multiple-2 : tie.Need-add-add-multiple-2 Inv-loop μ-loop
 add-add-multiple-2 c = search needs
@@ -93,12 +107,28 @@ slice-reshare-prefix-add-multiple : tie.Need-slice-reshare-prefix-add-multiple I
 slice-reshare-prefix-add-multiple c = search needs
 
 slice-aggregate-add-multiple-2 : tie.Need-slice-aggregate-add-multiple-2 Inv-loop μ-loop
-slice-aggregate-add-multiple-2 c = sym (length-take-le _ _ (c .before .before .before .before .before .loop .inv .rows .written .within))
+slice-aggregate-add-multiple-2 c = sym (length-take-le _ _ (c .before .before .before .before .before .before .before .loop .inv .rows .written .within))
 
 add-multiple-requires-2 : tie.Need-add-multiple-requires-2 Inv-loop μ-loop
 add-multiple-requires-2 c κs =
-    let t = c .before .before .before .before .before in
-    upper-asks _ _ _ (t .before .before .before .before .before .before .before .pre) _ _ _ _ _ _ (t .before .loop .inv) (t .loop-test .taken) _ (omega (arith, room-z t))
+    let t = c .before .before .before .before .before .before .before in
+    upper-asks _ _ _ (t .before .before .before .before .before .before .before .pre) _ _ _ _ _ _ (t .before .loop .inv) (t .loop-test .taken) _ (omega (arith, c .before .before .before .before .if2 .left))
+
+add-if3 : tie.Need-add-if3 Inv-loop μ-loop
+add-if3 c =
+    let t = c .before .before .before .before .before .before .before .before .before .before in
+    omega (arith, words-small t, upper-words _ _ _ (t .before .before .before .before .before .before .before .pre) _ _ _ _ _ _ (t .before .loop .inv) (t .loop-test .taken) _ _ (c .before .before .add-multiple2 .ensures))
+
+same-length-3 : tie.Need-same-length-3 Inv-loop μ-loop
+same-length-3 c = same-x (c .before .before .before .before .before .before .before .before .before .before .before)
+
+same-length-4 : tie.Need-same-length-4 Inv-loop μ-loop
+same-length-4 c = search needs
+
+returns-2 : tie.Need-returns-2 Inv-loop μ-loop
+returns-2 c =
+    let t = c .before .before .before .before .before .before .before .before .before .before .before in
+    inl (no-room _ _ _ (t .before .before .before .before .before .before .before .pre) _ _ _ _ _ _ (t .before .loop .inv) (t .loop-test .taken) _ (omega (arith, c .if3 .taken, upper-words _ _ _ (t .before .before .before .before .before .before .before .pre) _ _ _ _ _ _ (t .before .loop .inv) (t .loop-test .taken) _ _ (c .before .before .before .add-multiple2 .ensures))))
 
 mul-add-multiple-5 : tie.Need-mul-add-multiple-5 Inv-loop μ-loop
 mul-add-multiple-5 c = search needs
@@ -119,51 +149,48 @@ slice-reshare-prefix-add-multiple-2 : tie.Need-slice-reshare-prefix-add-multiple
 slice-reshare-prefix-add-multiple-2 c = search needs
 
 slice-aggregate-add-multiple-3 : tie.Need-slice-aggregate-add-multiple-3 Inv-loop μ-loop
-slice-aggregate-add-multiple-3 c = sym (length-take-le _ _ (c .before .before .before .before .before .add-multiple2 .ensures .within))
+slice-aggregate-add-multiple-3 c = sym (length-take-le _ _ (c .before .before .before .before .before .before .add-multiple2 .ensures .within))
 
 add-multiple-requires-3 : tie.Need-add-multiple-requires-3 Inv-loop μ-loop
 add-multiple-requires-3 c κs =
-    let t = c .before .before .before .before .before .before .before .before .before .before .before .before in
-    let w = c .before .before .before .before .before .before .add-multiple2 .ensures in
-    lower-asks _ _ _ (t .before .before .before .before .before .before .before .pre) _ _ _ _ _ _ (t .before .loop .inv) (t .loop-test .taken) _ _ w _ (omega (arith, upper-words _ _ _ (t .before .before .before .before .before .before .before .pre) _ _ _ _ _ _ (t .before .loop .inv) (t .loop-test .taken) _ _ w, room-x t))
+    let t = c .before .before .before .before .before .before .before .before .before .before .before .before .before .before .before in
+    lower-asks _ _ _ (t .before .before .before .before .before .before .before .pre) _ _ _ _ _ _ (t .before .loop .inv) (t .loop-test .taken) _ _ (c .before .before .before .before .before .before .before .add-multiple2 .ensures) _ (omega (arith, c .before .before .before .before .if3 .left))
 
-mul-if2 : tie.Need-mul-if2 Inv-loop μ-loop
-mul-if2 c = omega (arith, rows-small (c .before .before .before .before .before .before .before .before .before .before .before .before .before .before .before))
+mul-if4 : tie.Need-mul-if4 Inv-loop μ-loop
+mul-if4 c = omega (arith, rows-small (c .before .before .before .before .before .before .before .before .before .before .before .before .before .before .before .before .before .before))
 
-add-if2 : tie.Need-add-if2 Inv-loop μ-loop
-add-if2 c = omega (arith, rows-small (c .before .before .before .before .before .before .before .before .before .before .before .before .before .before .before))
+add-if4 : tie.Need-add-if4 Inv-loop μ-loop
+add-if4 c = omega (arith, rows-small (c .before .before .before .before .before .before .before .before .before .before .before .before .before .before .before .before .before .before))
 
-same-length : tie.Need-same-length Inv-loop μ-loop
-same-length c =
-    let t = c .before .before .before .before .before .before .before .before .before .before .before .before .before .before .before .before in
-    c .before .before .before .add-multiple3 .kept .1 .1 .1 .1 .1 .0 ∙ t .before .loop .inv .same-x ∙ start-x (t .before .before)
+same-length-5 : tie.Need-same-length-5 Inv-loop μ-loop
+same-length-5 c = c .before .before .before .add-multiple3 .kept .1 .1 .1 .1 .1 .0 ∙ same-x (c .before .before .before .before .before .before .before .before .before .before .before .before .before .before .before .before .before .before .before)
 
-same-length-2 : tie.Need-same-length-2 Inv-loop μ-loop
-same-length-2 c = search needs
+same-length-6 : tie.Need-same-length-6 Inv-loop μ-loop
+same-length-6 c = search needs
 
-returns : tie.Need-returns Inv-loop μ-loop
-returns c =
-    let t = c .before .before .before .before .before .before .before .before .before .before .before .before .before .before .before .before in
-    stopped _ _ _ (t .before .before .before .before .before .before .before .pre) _ _ _ _ _ _ (t .before .loop .inv) (t .loop-test .taken) _ _ (c .before .before .before .before .before .before .before .before .before .before .add-multiple2 .ensures) _ _ (c .before .before .before .add-multiple3 .ensures) (c .if2 .taken)
+returns-3 : tie.Need-returns-3 Inv-loop μ-loop
+returns-3 c =
+    let t = c .before .before .before .before .before .before .before .before .before .before .before .before .before .before .before .before .before .before .before in
+    stopped _ _ _ (t .before .before .before .before .before .before .before .pre) _ _ _ _ _ _ (t .before .loop .inv) (t .loop-test .taken) _ _ (c .before .before .before .before .before .before .before .before .before .before .before .add-multiple2 .ensures) _ _ (c .before .before .before .add-multiple3 .ensures) (c .if4 .taken)
 
 loop-less : tie.Need-loop-less Inv-loop μ-loop
 loop-less c = search needs
 
 loop-again : tie.Need-loop-again Inv-loop μ-loop
 loop-again c =
-    let t = c .before .before .before .before .before .before .before .before .before .before .before .before .before .before .before .before in
-    let upper = c .before .before .before .before .before .before .before .before .before .before .add-multiple2 in
+    let t = c .before .before .before .before .before .before .before .before .before .before .before .before .before .before .before .before .before .before .before in
+    let upper = c .before .before .before .before .before .before .before .before .before .before .before .add-multiple2 in
     let lower = c .before .before .before .add-multiple3 in
-    again _ _ _ (t .before .before .before .before .before .before .before .pre) _ _ _ _ _ _ (t .before .loop .inv) (t .loop-test .taken) _ _ (upper .ensures) _ _ (lower .ensures) (c .if2 .left) (lower .kept .1 .1 .1 .1 .1 .0) (upper .kept .1 .1 .1 .1 .1 .0)
+    again _ _ _ (t .before .before .before .before .before .before .before .pre) _ _ _ _ _ _ (t .before .loop .inv) (t .loop-test .taken) _ _ (upper .ensures) _ _ (lower .ensures) (c .if4 .left) (lower .kept .1 .1 .1 .1 .1 .0) (upper .kept .1 .1 .1 .1 .1 .0)
 
-same-length-3 : tie.Need-same-length-3 Inv-loop μ-loop
-same-length-3 c = c .before .loop .inv .same-x ∙ start-x (c .before .before)
+same-length-7 : tie.Need-same-length-7 Inv-loop μ-loop
+same-length-7 c = c .before .loop .inv .same-x ∙ start-x (c .before .before)
 
-same-length-4 : tie.Need-same-length-4 Inv-loop μ-loop
-same-length-4 c = search needs
+same-length-8 : tie.Need-same-length-8 Inv-loop μ-loop
+same-length-8 c = search needs
 
-returns-2 : tie.Need-returns-2 Inv-loop μ-loop
-returns-2 c = gathered _ _ _ (c .before .before .before .before .before .before .before .pre) _ _ _ _ _ _ (c .before .loop .inv) (c .loop-test .left)
+returns-4 : tie.Need-returns-4 Inv-loop μ-loop
+returns-4 c = gathered _ _ _ (c .before .before .before .before .before .before .before .pre) _ _ _ _ _ _ (c .before .loop .inv) (c .loop-test .left)
 
 pub gather-spec : {M : Type 1} → statement M
 gather-spec =
@@ -181,6 +208,10 @@ gather-spec =
     add-multiple-requires
     loop-holds
     sub-i-2
+    add-if2
+    same-length
+    same-length-2
+    returns
     add-add-multiple-2
     mul-add-multiple-3
     shared-slice-read-add-multiple-3
@@ -190,6 +221,10 @@ gather-spec =
     slice-reshare-prefix-add-multiple
     slice-aggregate-add-multiple-2
     add-multiple-requires-2
+    add-if3
+    same-length-3
+    same-length-4
+    returns-2
     mul-add-multiple-5
     shared-slice-read-add-multiple-5
     add-add-multiple-4
@@ -198,13 +233,13 @@ gather-spec =
     slice-reshare-prefix-add-multiple-2
     slice-aggregate-add-multiple-3
     add-multiple-requires-3
-    mul-if2
-    add-if2
-    same-length
-    same-length-2
-    returns
+    mul-if4
+    add-if4
+    same-length-5
+    same-length-6
+    returns-3
     loop-less
     loop-again
-    same-length-3
-    same-length-4
-    returns-2)
+    same-length-7
+    same-length-8
+    returns-4)

@@ -1,8 +1,9 @@
 -- `products::gather_large` meets its contract: what `gather` forms in a local buffer is copied. 66,816 words suffice for any two factors.
 use mathlib.Core.Path.{sym}
+use native.Mathlib.Omega.{arith}
 use borrow.Author.Needs.{needs}
 use lib.Seq.{length-take-le}
-use Rattle.products.proofs.ProductLaws.{buffers-suffice, formed, words-formed, no-words-formed, copy-asks, copied}
+use Rattle.products.proofs.ProductLaws.{buffers-suffice, never-short, formed, words-ended, over-terms-ended, words-formed, copy-asks, copied}
 use Rattle.products.proofs.gather_large.Statement.{statement}
 use Rattle.products.proofs.gather_large.Tie as tie
 
@@ -15,37 +16,50 @@ slice-aggregate-gather-2 c = search needs
 gather-requires : tie.Need-gather-requires
 gather-requires c κs =
     let s = c .before .before .before .before .before in
-    let r = buffers-suffice _ _ (s .pre .1 .0 .0 .few) (s .pre .1 .1 .0 .0 .few) in
-    (s .pre .0, (s .pre .1 .0, (s .pre .1 .1 .0, (r, r))))
+    (s .pre .0, (s .pre .1 .0, (s .pre .1 .1 .0, (omega arith, omega arith))))
 
-enum-known-formed : tie.Need-enum-known-formed
-enum-known-formed c = search needs
+enum-known-ended : tie.Need-enum-known-ended
+enum-known-ended c = search needs
 
 array-share-prefix-a : tie.Need-array-share-prefix-a
 array-share-prefix-a c =
-    let w = words-formed _ _ _ _ (c .before .before .before .before .before .gather .ensures) (c .before .formed .given .1) in
+    let w = words-formed _ _ _ (words-ended _ _ _ _ _ _ (c .before .before .before .before .before .gather .ensures) (c .before .ended .given .1)) in
     w .0 .within
 
 slice-aggregate-copy : tie.Need-slice-aggregate-copy
 slice-aggregate-copy c =
-    let w = words-formed _ _ _ _ (c .before .before .before .before .before .before .gather .ensures) (c .before .before .formed .given .1) in
+    let w = words-formed _ _ _ (words-ended _ _ _ _ _ _ (c .before .before .before .before .before .before .gather .ensures) (c .before .before .ended .given .1)) in
     sym (length-take-le _ _ (w .0 .within))
 
 copy-requires : tie.Need-copy-requires
 copy-requires c κs =
-    let w = words-formed _ _ _ _ (c .before .before .before .before .before .before .before .gather .ensures) (c .before .before .before .formed .given .1) in
-    copy-asks _ _ _ (c .before .before .before .before .before .before .before .before .before .before .before .before .before .args .x .now) w (c .before .before .before .before .before .before .before .before .before .before .before .before .before .pre .1 .1 .1)
+    let w = words-formed _ _ _ (words-ended _ _ _ _ _ _ (c .before .before .before .before .before .before .before .gather .ensures) (c .before .before .before .ended .given .1)) in
+    let s = c .before .before .before .before .before .before .before .before .before .before .before .before .before in
+    copy-asks _ _ _ (s .args .x .now) w (s .pre .1 .1 .1)
+
+enum-told : tie.Need-enum-told
+enum-told c = search needs
+
+enum-told-2 : tie.Need-enum-told-2
+enum-told-2 c = search needs
 
 same-length : tie.Need-same-length
 same-length c = search needs
 
 returns : tie.Need-returns
 returns c =
-    let w = words-formed _ _ _ _ (c .before .before .before .before .before .before .before .before .before .before .gather .ensures) (c .before .before .before .before .before .before .formed .given .1) in
+    let w = words-formed _ _ _ (words-ended _ _ _ _ _ _ (c .before .before .before .before .before .before .before .before .before .before .gather .ensures) (c .before .before .before .before .before .before .ended .given .1)) in
     formed _ _ _ (copied _ _ _ _ w (c .before .before .before .before .before .before .before .before .before .before .before .before .before .before .before .before .pre .1 .1 .1) _ (c .before .before .copy .ensures)) (w .1)
 
 returns-2 : tie.Need-returns-2
-returns-2 c = no-words-formed _ _ _ _ (c .before .before .before .gather .ensures) (c .match .keys2)
+returns-2 c = over-terms-ended _ _ _ _ _ _ (c .before .before .before .before .gather .ensures) (c .enum-told .given .1)
+
+returns-3 : tie.Need-returns-3
+returns-3 c =
+    let s = c .before .before .before .before .before .before .before .before .before .before in
+    let enough = buffers-suffice _ _ (s .pre .1 .0 .0 .few) (s .pre .1 .1 .0 .0 .few) in
+    let g = c .before .before .before .before .gather in
+    absurd (never-short _ _ _ _ _ (g .ensures) (c .enum-told2 .given .1) (omega (arith, enough, g .kept)) (omega (arith, enough, g .kept)))
 
 pub gather-large-spec : {M : Type 1} → statement M
 gather-large-spec =
@@ -54,10 +68,13 @@ gather-large-spec =
     slice-aggregate-gather
     slice-aggregate-gather-2
     gather-requires
-    enum-known-formed
+    enum-known-ended
     array-share-prefix-a
     slice-aggregate-copy
     copy-requires
+    enum-told
+    enum-told-2
     same-length
     returns
-    returns-2)
+    returns-2
+    returns-3)

@@ -2,8 +2,7 @@
 use mathlib.Core.Path.{sym, _∙_}
 use native.Mathlib.Omega.{arith}
 use borrow.Author.Needs.{needs}
-use Rattle.polynomials.specs.laws.Product.{degrees-over-comm}
-use Rattle.products.proofs.ProductLaws.{zero-left, zero-right, over-degree, by-rows, by-rows-of-g}
+use Rattle.products.proofs.ProductLaws.{zero-left, zero-right, over-degree, by-rows}
 use Rattle.products.proofs.product.Statement.{statement}
 use Rattle.products.proofs.product.Tie as tie
 
@@ -24,8 +23,8 @@ returns-3 c =
 
 rows-requires : tie.Need-rows-requires
 rows-requires c κs =
-    let s = c .before .before .before .before .before .before .before .before .before .before .before in
-    (s .pre .0, ((s .pre .1 .0, omega arith), ((s .pre .1 .1 .0, sym (c .before .before .before .before .degrees-over .ensures) ∙ c .before .before .before .if3 .left), s .pre .1 .1 .1)))
+    let s = c .before .before .before .before .before .before .before .before .before .before in
+    (s .pre .0, ((s .pre .1 .0, omega arith), ((s .pre .1 .1 .0, sym (c .before .before .before .degrees-over .ensures) ∙ c .before .before .if3 .left), (omega arith, s .pre .1 .1 .1))))
 
 same-length : tie.Need-same-length
 same-length c = search needs
@@ -35,26 +34,9 @@ same-length-2 c = search needs
 
 returns-4 : tie.Need-returns-4
 returns-4 c =
-    let s = c .before .before .before .before .before .before .before .before .before .before .before .before .before .before .before .before in
-    let e = sym (c .before .before .before .before .before .before .before .before .before .degrees-over .ensures) ∙ c .before .before .before .before .before .before .before .before .if3 .left in
-    by-rows _ _ _ (s .pre .1 .0) (s .pre .1 .1 .0) (c .before .before .before .before .before .before .before .before .before .before .before .if1 .left) (c .before .before .before .before .before .before .before .before .before .before .if2 .left) e _ _ (c .before .before .before .before .rows .ensures)
-
-rows-requires-2 : tie.Need-rows-requires-2
-rows-requires-2 c κs =
-    let s = c .before .before .before .before .before .before .before .before .before .before .before in
-    (s .pre .0, ((s .pre .1 .1 .0, omega arith), ((s .pre .1 .0, degrees-over-comm 255 _ _ ∙ sym (c .before .before .before .before .degrees-over .ensures) ∙ c .before .before .before .if3 .left), s .pre .1 .1 .1)))
-
-same-length-3 : tie.Need-same-length-3
-same-length-3 c = search needs
-
-same-length-4 : tie.Need-same-length-4
-same-length-4 c = search needs
-
-returns-5 : tie.Need-returns-5
-returns-5 c =
-    let s = c .before .before .before .before .before .before .before .before .before .before .before .before .before .before .before .before in
-    let e = sym (c .before .before .before .before .before .before .before .before .before .degrees-over .ensures) ∙ c .before .before .before .before .before .before .before .before .if3 .left in
-    by-rows-of-g _ _ _ (s .pre .1 .0) (s .pre .1 .1 .0) (c .before .before .before .before .before .before .before .before .before .before .before .if1 .left) (c .before .before .before .before .before .before .before .before .before .before .if2 .left) e _ _ (s .pre .0 .0) (c .before .before .before .before .rows2 .ensures)
+    let s = c .before .before .before .before .before .before .before .before .before .before .before .before .before .before .before in
+    let e = sym (c .before .before .before .before .before .before .before .before .degrees-over .ensures) ∙ c .before .before .before .before .before .before .before .if3 .left in
+    by-rows _ _ _ (s .pre .1 .0) (s .pre .1 .1 .0) (c .before .before .before .before .before .before .before .before .before .before .if1 .left) (c .before .before .before .before .before .before .before .before .before .if2 .left) e _ _ (c .before .before .before .before .rows .ensures)
 
 pub product-spec : {M : Type 1} → statement M
 product-spec =
@@ -67,8 +49,4 @@ product-spec =
     rows-requires
     same-length
     same-length-2
-    returns-4
-    rows-requires-2
-    same-length-3
-    same-length-4
-    returns-5)
+    returns-4)

@@ -1,0 +1,151 @@
+-- The proof of the cycle of calls {rows}: `products::rows` meets its contract. The measure is the length of f, which falls where the factors change places.
+-- A single row is the product, else the rows are gathered.
+use mathlib.Core.Path.{_∙_}
+use native.Mathlib.Omega.{arith}
+use borrow.Author.Needs.{needs}
+use Prim.Native.Nat.{ℕ, _<_}
+use lib.ListN.{length}
+use borrow.Fn.Kinds.{In}
+use borrow.Fn.PlainCycle.{Measures, is, falls, and}
+use Rattle.polynomials.specs.laws.Product.{degrees-over-comm}
+use Rattle.products.proofs.ProductLaws.{exchanged, single-asks, single-formed, words-ended, over-terms-ended}
+use Rattle.products.proofs.rows.Reads as rows
+use Rattle.products.proofs.rows.Kinds as rows-kinds
+use Rattle.products.proofs.+rows.Lts-rows as rows-lts
+use Rattle.products.proofs.gather.Reads as gather-reads
+use Rattle.products.proofs.gather_apart.Reads as gather-apart-reads
+use Rattle.sums.proofs.add_multiple.Reads as add-multiple-reads
+use Rattle.products.proofs.+rows.{statement}
+use Rattle.products.proofs.+rows.Tie.{close}
+
+abbrev μ-rows : Measures 4 rows-kinds.ps ℕ
+μ-rows κs a = length (a .1 .0 .now)
+
+-- What `rows` is given at the measure t, what a call of it asks below t, and what is known of all calls.
+abbrev rows-at : ℕ → In 4 rows-kinds.ps
+rows-at t = and 4 rows-kinds.ps (is 4 rows-kinds.ps μ-rows t) rows.Pre
+
+abbrev rows-below : ℕ → In 4 rows-kinds.ps
+rows-below t = and 4 rows-kinds.ps (falls 4 rows-kinds.ps _<_ μ-rows t) rows.Pre
+
+abbrev calls : ℕ → rows-lts.Claims
+calls t = (
+  rows-below t,
+  rows.Post,
+  add-multiple-reads.Asked,
+  add-multiple-reads.Learnt,
+  gather-reads.Asked,
+  gather-reads.Learnt,
+  gather-apart-reads.Asked,
+  gather-apart-reads.Learnt,
+)
+
+rows-rows-requires : (t : ℕ) → rows-lts.Need-rows-requires (calls t) (rows-at t) rows.Post
+rows-rows-requires t c κs =
+    let s = c .before .before .before .before .before .before .before in
+    let asked = s .pre .1 in
+    (omega (arith, s .pre .0, c .before .before .if1 .taken), (asked .0, ((asked .1 .1 .0 .0, asked .1 .1 .1 .0), ((asked .1 .0 .0, degrees-over-comm 255 _ _ ∙ asked .1 .1 .0 .1), (asked .1 .0 .1, asked .1 .1 .1 .1)))))
+
+rows-same-length : (t : ℕ) → rows-lts.Need-same-length (calls t) (rows-at t) rows.Post
+rows-same-length t c = search needs
+
+rows-same-length-2 : (t : ℕ) → rows-lts.Need-same-length-2 (calls t) (rows-at t) rows.Post
+rows-same-length-2 t c = search needs
+
+rows-returns : (t : ℕ) → rows-lts.Need-returns (calls t) (rows-at t) rows.Post
+rows-returns t c = exchanged _ (c .before .before .before .before .before .before .before .before .before .before .before .before .pre .1 .0 .0) _ _ _ _ (c .before .before .before .before .rows .ensures)
+
+rows-shared-slice-read-add-multiple : (t : ℕ) → rows-lts.Need-shared-slice-read-add-multiple (calls t) (rows-at t) rows.Post
+rows-shared-slice-read-add-multiple t c = search needs
+
+rows-shared-slice-read-add-multiple-2 : (t : ℕ) → rows-lts.Need-shared-slice-read-add-multiple-2 (calls t) (rows-at t) rows.Post
+rows-shared-slice-read-add-multiple-2 t c = search needs
+
+rows-slice-aggregate-add-multiple : (t : ℕ) → rows-lts.Need-slice-aggregate-add-multiple (calls t) (rows-at t) rows.Post
+rows-slice-aggregate-add-multiple t c = search needs
+
+rows-add-multiple-requires : (t : ℕ) → rows-lts.Need-add-multiple-requires (calls t) (rows-at t) rows.Post
+rows-add-multiple-requires t c κs =
+    let s = c .before .before .before .before .before .before .before .before .before .before in
+    single-asks _ _ _ (s .pre .1) (c .before .before .before .before .if2 .taken) _ (omega (arith, s .pre .1 .1 .1 .1, s .pre .1 .1 .1 .0 .0 .few))
+
+rows-same-length-3 : (t : ℕ) → rows-lts.Need-same-length-3 (calls t) (rows-at t) rows.Post
+rows-same-length-3 t c = search needs
+
+rows-returns-2 : (t : ℕ) → rows-lts.Need-returns-2 (calls t) (rows-at t) rows.Post
+rows-returns-2 t c = single-formed _ _ _ (c .before .before .before .before .before .before .before .before .before .before .before .before .before .pre .1) (c .before .before .before .before .before .before .before .if2 .taken) _ _ (c .before .before .add-multiple .ensures)
+
+rows-gather-requires : (t : ℕ) → rows-lts.Need-gather-requires (calls t) (rows-at t) rows.Post
+rows-gather-requires t c κs =
+    let asked = c .before .before .before .before .before .before .before .before .pre .1 in
+    (asked .0, (asked .1 .0, (asked .1 .1 .0, (omega (arith, asked .1 .1 .1 .1), omega (arith, asked .1 .1 .1 .1)))))
+
+rows-enum-known-ended : (t : ℕ) → rows-lts.Need-enum-known-ended (calls t) (rows-at t) rows.Post
+rows-enum-known-ended t c = search needs
+
+rows-enum-told : (t : ℕ) → rows-lts.Need-enum-told (calls t) (rows-at t) rows.Post
+rows-enum-told t c = search needs
+
+rows-enum-told-2 : (t : ℕ) → rows-lts.Need-enum-told-2 (calls t) (rows-at t) rows.Post
+rows-enum-told-2 t c = search needs
+
+rows-gather-apart-requires : (t : ℕ) → rows-lts.Need-gather-apart-requires (calls t) (rows-at t) rows.Post
+rows-gather-apart-requires t c κs =
+    let asked = c .before .before .before .before .before .before .before .before .before .before .before .before .before .before .before .before .pre .1 in
+    (asked .0, (asked .1 .0, (asked .1 .1 .0, omega (arith, asked .1 .1 .1 .1, c .before .before .before .before .before .before .before .gather .kept))))
+
+rows-same-length-4 : (t : ℕ) → rows-lts.Need-same-length-4 (calls t) (rows-at t) rows.Post
+rows-same-length-4 t c = search needs
+
+rows-same-length-5 : (t : ℕ) → rows-lts.Need-same-length-5 (calls t) (rows-at t) rows.Post
+rows-same-length-5 t c = search needs
+
+rows-returns-3 : (t : ℕ) → rows-lts.Need-returns-3 (calls t) (rows-at t) rows.Post
+rows-returns-3 t c = words-ended _ _ _ _ _ _ (c .before .before .before .before .before .before .before .gather .ensures) (c .before .ended .given .1)
+
+rows-same-length-6 : (t : ℕ) → rows-lts.Need-same-length-6 (calls t) (rows-at t) rows.Post
+rows-same-length-6 t c = search needs
+
+rows-same-length-7 : (t : ℕ) → rows-lts.Need-same-length-7 (calls t) (rows-at t) rows.Post
+rows-same-length-7 t c = search needs
+
+rows-returns-4 : (t : ℕ) → rows-lts.Need-returns-4 (calls t) (rows-at t) rows.Post
+rows-returns-4 t c = over-terms-ended _ _ _ _ _ _ (c .before .before .before .before .before .before .gather .ensures) (c .enum-told .given .1)
+
+rows-same-length-8 : (t : ℕ) → rows-lts.Need-same-length-8 (calls t) (rows-at t) rows.Post
+rows-same-length-8 t c = search needs
+
+rows-same-length-9 : (t : ℕ) → rows-lts.Need-same-length-9 (calls t) (rows-at t) rows.Post
+rows-same-length-9 t c = search needs
+
+rows-returns-5 : (t : ℕ) → rows-lts.Need-returns-5 (calls t) (rows-at t) rows.Post
+rows-returns-5 t c = search needs
+
+pub +rows-spec : {M : Type 1} → statement M
++rows-spec = close μ-rows λ t. rows-lts.spec (calls t)
+    (rows-at t)
+    rows.Post
+    (rows-rows-requires t)
+    (rows-same-length t)
+    (rows-same-length-2 t)
+    (rows-returns t)
+    (rows-shared-slice-read-add-multiple t)
+    (rows-shared-slice-read-add-multiple-2 t)
+    (rows-slice-aggregate-add-multiple t)
+    (rows-add-multiple-requires t)
+    (rows-same-length-3 t)
+    (rows-returns-2 t)
+    (rows-gather-requires t)
+    (rows-enum-known-ended t)
+    (rows-enum-told t)
+    (rows-enum-told-2 t)
+    (rows-gather-apart-requires t)
+    (rows-same-length-4 t)
+    (rows-same-length-5 t)
+    (rows-returns-3 t)
+    (rows-same-length-6 t)
+    (rows-same-length-7 t)
+    (rows-returns-4 t)
+    (rows-same-length-8 t)
+    (rows-same-length-9 t)
+    (rows-returns-5 t)

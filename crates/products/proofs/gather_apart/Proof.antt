@@ -1,0 +1,84 @@
+-- `products::gather_apart` meets its contract: what `gather` forms in a local buffer is copied.
+use mathlib.Core.Path.{sym}
+use native.Mathlib.Omega.{arith}
+use borrow.Author.Needs.{needs}
+use lib.Seq.{length-take-le}
+use Rattle.products.proofs.ProductLaws.{formed, words-ended, over-terms-ended, words-formed, copy-asks, copied}
+use Rattle.products.proofs.gather_apart.Statement.{statement}
+use Rattle.products.proofs.gather_apart.Tie as tie
+
+slice-aggregate-gather : tie.Need-slice-aggregate-gather
+slice-aggregate-gather c = search needs
+
+slice-aggregate-gather-2 : tie.Need-slice-aggregate-gather-2
+slice-aggregate-gather-2 c = search needs
+
+gather-requires : tie.Need-gather-requires
+gather-requires c κs =
+    let s = c .before .before .before .before .before in
+    (s .pre .0, (s .pre .1 .0, (s .pre .1 .1 .0, (omega arith, omega arith))))
+
+enum-known-ended : tie.Need-enum-known-ended
+enum-known-ended c = search needs
+
+array-share-prefix-a : tie.Need-array-share-prefix-a
+array-share-prefix-a c =
+    let w = words-formed _ _ _ (words-ended _ _ _ _ _ _ (c .before .before .before .before .before .gather .ensures) (c .before .ended .given .1)) in
+    w .0 .within
+
+slice-aggregate-copy : tie.Need-slice-aggregate-copy
+slice-aggregate-copy c =
+    let w = words-formed _ _ _ (words-ended _ _ _ _ _ _ (c .before .before .before .before .before .before .gather .ensures) (c .before .before .ended .given .1)) in
+    sym (length-take-le _ _ (w .0 .within))
+
+copy-requires : tie.Need-copy-requires
+copy-requires c κs =
+    let w = words-formed _ _ _ (words-ended _ _ _ _ _ _ (c .before .before .before .before .before .before .before .gather .ensures) (c .before .before .before .ended .given .1)) in
+    let s = c .before .before .before .before .before .before .before .before .before .before .before .before .before in
+    copy-asks _ _ _ (s .args .x .now) w (s .pre .1 .1 .1)
+
+enum-told : tie.Need-enum-told
+enum-told c = search needs
+
+enum-told-2 : tie.Need-enum-told-2
+enum-told-2 c = search needs
+
+gather-large-requires : tie.Need-gather-large-requires
+gather-large-requires c κs = search needs
+
+same-length : tie.Need-same-length
+same-length c = search needs
+
+returns : tie.Need-returns
+returns c =
+    let w = words-formed _ _ _ (words-ended _ _ _ _ _ _ (c .before .before .before .before .before .before .before .before .before .before .gather .ensures) (c .before .before .before .before .before .before .ended .given .1)) in
+    formed _ _ _ (copied _ _ _ _ w (c .before .before .before .before .before .before .before .before .before .before .before .before .before .before .before .before .pre .1 .1 .1) _ (c .before .before .copy .ensures)) (w .1)
+
+returns-2 : tie.Need-returns-2
+returns-2 c = over-terms-ended _ _ _ _ _ _ (c .before .before .before .before .gather .ensures) (c .enum-told .given .1)
+
+same-length-2 : tie.Need-same-length-2
+same-length-2 c = search needs
+
+returns-3 : tie.Need-returns-3
+returns-3 c = search needs
+
+pub gather-apart-spec : {M : Type 1} → statement M
+gather-apart-spec =
+    tie.close
+    (tie.spec
+    slice-aggregate-gather
+    slice-aggregate-gather-2
+    gather-requires
+    enum-known-ended
+    array-share-prefix-a
+    slice-aggregate-copy
+    copy-requires
+    enum-told
+    enum-told-2
+    gather-large-requires
+    same-length
+    returns
+    returns-2
+    same-length-2
+    returns-3)

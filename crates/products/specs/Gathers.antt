@@ -1,0 +1,21 @@
+-- What the gathering of a product by rows answers, in two buffers that may be too short for it.
+use Prim.Native.Nat.{ℕ, _+_, _*_, _/_, _<_}
+use mathlib.Core.Logic.{_⊎_}
+use mathlib.Core.List.{List}
+use lib.ListN.{length}
+use Rattle.polynomials.specs.Poly.{Poly}
+use Rattle.polynomials.specs.Bounds.{standard, tested}
+use Rattle.polynomials.specs.Working.{Forms}
+use Rattle.polynomials.specs.declared.Formed.the-variants as formed
+use Rattle.products.specs.declared.Gathered.{Gathered}
+use Rattle.products.specs.declared.Gathered.the-variants.{Words, OverTerms, Short}
+
+-- The words that a buffer must have to hold what is gathered of factors of a and b words: half of all term products, two rows and 256 words more.
+abbrev pub room-for : ℕ → ℕ → ℕ
+room-for a b = a * b / 4 + 2 * b + 256
+
+-- In x and z the product f was formed or refused as its test says; the buffers are too short only where one has less than `need` words.
+abbrev pub Gathers : Poly → ℕ → Gathered → List ℕ → List ℕ → Type 0
+Gathers f need (Words n) x z = Forms (tested standard f) (formed.Words n) x
+Gathers f need OverTerms x z = Forms (tested standard f) formed.OverTerms x
+Gathers f need Short x z = (length x < need) ⊎ (length z < need)

@@ -3,7 +3,7 @@ use mathlib.Core.Path.{_≡_, refl, sym, ap, subst, _∙_}
 use mathlib.Core.Logic.{_≢_}
 use mathlib.Core.Bool.{Bool, true, false}
 use mathlib.Core.List.{List, [], _∷_, _++_, map, reverse}
-use Prim.Native.Nat.{ℕ, _-_, _/_, _≤_, _<_, min}
+use Prim.Native.Nat.{ℕ, _-_, _≤_, _<_}
 use native.Mathlib.Omega.{arith}
 use native.Mathlib.Nat.{sub-zero}
 use lib.ListN.{length, getD, take, drop, length-append, length-drop, length-take}
@@ -21,6 +21,7 @@ use Rattle.rules.specs.Step.{Stepped, next, stopped, after-division, remainder-
 use Rattle.records.specs.Records.{Rec, view}
 use Rattle.branches.specs.Words.{put-Q, put-Q-before, remove}
 use Rattle.branches.specs.Area.{Stored, Held, Leaves, Opened, with-open, without-P, without-Q, capacity, size}
+use Rattle.branches.proofs.LengthLaws.{same-capacity}
 use Rattle.branches.proofs.OpenLaws.{length-remove}
 use Rattle.representation.specs.Represent.{Sound, branch-of, system-of, state-of}
 use Rattle.representation.specs.laws.Lists.{each-remove, sound-at}
@@ -78,9 +79,6 @@ module _ (p place left : ℕ) (b : Stored) (bs ss : List Stored) where
   member-sound true R = sound-at p (length (b .Q) - left) (b .Q) (R .sound .branches .0 .in-Q)
 
 -- ── where the loop begins ──
-pub capacity-same : (w v : List ℕ) → length w ≡ length v → capacity w ≡ capacity v
-capacity-same w v e = ap (λ (n : ℕ). min (n / 4) 65536) e
-
 pub members-begin : (p k : ℕ) (f : Poly) (closing : Bool) (place left : ℕ) (w : List ℕ) (b : Stored) (bs ss : List Stored)
     → Held (view w) (capacity w) (with-open b bs ss) → Ready p (with-open b bs ss) → Has-members closing place left b → AtMembers p k f closing place left w w left
 members-begin p k f closing place left w b bs ss H R M = record { same = refl; some = (b, bs, ss, H, R, M); all = λ c cs us H R M. (c, H, R, M, refl) }
@@ -105,7 +103,7 @@ Comes-to p k f closing place left₀ w₀ S =
 module _ (p k : ℕ) (f : Poly) (closing : Bool) (place left₀ : ℕ) (w₀ w : List ℕ) (left : ℕ) (some : 1 ≤ left) where
   module _ (A : AtMembers p k f closing place left₀ w₀ w left) where
     cap : capacity w ≡ capacity w₀
-    cap = capacity-same w w₀ (A .same)
+    cap = same-capacity w w₀ (A .same)
 
     pub members-open : Opened (view w) (capacity w)
     members-open = let s = A .some in (s .0, s .1, s .2, subst (λ (m : ℕ). Held (view w) m (with-open (s .0) (s .1) (s .2))) (sym cap) (s .3))
@@ -144,12 +142,12 @@ module _ (p k : ℕ) (f : Poly) (closing : Bool) (place left₀ : ℕ) (w₀ w :
     pub member-open : Opened (view w) (capacity w)
     member-open =
         let s = A .some in
-        (taken-out closing place left (s .0), s .1, s .2, subst (λ (m : ℕ). Held (view w) m (with-open (taken-out closing place left (s .0)) (s .1) (s .2))) (sym (capacity-same w w₀ (A .same))) (s .3 .2))
+        (taken-out closing place left (s .0), s .1, s .2, subst (λ (m : ℕ). Held (view w) m (with-open (taken-out closing place left (s .0)) (s .1) (s .2))) (sym (same-capacity w w₀ (A .same))) (s .3 .2))
 
     pub member-behind : (b : Stored) (bs ss : List Stored) → Held (view w) (capacity w) (with-open b bs ss) → Has-behind closing (left - 1) b
     member-behind b bs ss H =
         let s = A .some in
-        of-behind closing (subst (λ (m : ℕ). Held (view w) m (with-open b bs ss)) (capacity-same w w₀ (A .same)) H) (s .3 .2) (has-behind p place left (s .0) (s .1) (s .2) some closing (s .5))
+        of-behind closing (subst (λ (m : ℕ). Held (view w) m (with-open b bs ss)) (same-capacity w w₀ (A .same)) H) (s .3 .2) (has-behind p place left (s .0) (s .1) (s .2) some closing (s .5))
       where
         of-behind : (closing : Bool) {b c : Stored} {bs ss cs us : List Stored} → Held (view w) (capacity w₀) (with-open b bs ss) → Held (view w) (capacity w₀) (with-open c cs us)
             → Has-behind closing (left - 1) c → Has-behind closing (left - 1) b
@@ -181,7 +179,7 @@ module _ (p k : ℕ) (f : Poly) (closing : Bool) (place left₀ : ℕ) (w₀ w :
       module _ (b : Stored) (bs ss : List Stored) (T : Took closing place left b bs ss n r (view w) (capacity w₀)) (R : Ready p (with-open b bs ss)) (M : Has-members closing place left b) where
         was-put : Put p closing (left - 1) s (taken-out closing place left b) bs ss q (view v) (capacity w₀)
         was-put =
-            let c = capacity-same w w₀ (A .same) in
+            let c = same-capacity w w₀ (A .same) in
             subst (λ (m : ℕ). Put p closing (left - 1) s (taken-out closing place left b) bs ss q (view v) m) c
             (put (taken-out closing place left b) bs ss (subst (λ (m : ℕ). Held (view w) m (with-open (taken-out closing place left b) bs ss)) (sym c) (T .2)))
 

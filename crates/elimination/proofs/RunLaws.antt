@@ -14,6 +14,7 @@ use Rattle.rules.specs.Run.{Ended, finished, refused, after-step, run}
 use Rattle.records.specs.Records.{Rec, room, view, nul}
 use Rattle.records.proofs.Rows.{length-view}
 use Rattle.branches.specs.Area.{Stored, Area, Held, has-branch, with-open, capacity}
+use Rattle.branches.proofs.LengthLaws.{same-capacity}
 use Rattle.representation.specs.Represent.{branch-of, system-of, state-of}
 use Rattle.steps.specs.declared.Division.{Division}
 use Rattle.steps.specs.declared.Prepared.{Prepared}
@@ -24,7 +25,7 @@ use Rattle.elimination.specs.declared.Answer.{Answer}
 use Rattle.elimination.specs.declared.Outcome.the-variants.{Systems, Refused}
 use Rattle.elimination.specs.Answer.{Ran}
 use Rattle.elimination.proofs.Invariants.{AtRun, AtMembers, run-ends, run-used, run-steps}
-use Rattle.elimination.proofs.MembersLaws.{Comes-to, capacity-same, members-begin, members-end}
+use Rattle.elimination.proofs.MembersLaws.{Comes-to, members-begin, members-end}
 
 -- The step of the open branch b in a work area with so many records.
 abbrev pub step-in : ℕ → ℕ → Stored → List Stored → List Stored → Stepped
@@ -56,7 +57,7 @@ module _ (p : ℕ) (w : List ℕ) (q : Prepared) (t i v : List ℕ)
 
     module _ (kept : length v ≡ length w) where
       cap : capacity v ≡ capacity w
-      cap = capacity-same v w kept
+      cap = same-capacity v w kept
 
       pub members-first : (b : Stored) (bs ss : List Stored) → Held (view w) (capacity w) (with-open b bs ss) → Ready p (with-open b bs ss)
           → AtMembers p (d .k) (terms (take (d .pivot) t)) (d .closing) (d .place) (d .left) v v (d .left)
@@ -99,11 +100,11 @@ closed a e = go (a .branches) e
     go (b ∷ bs) e = absurd (let z : _≡_ {A = ℕ} 0 1 = cc in omega arith)
 
 module _ (p limit : ℕ) (w₀ w : List ℕ) (steps : ℕ) (A : AtRun p limit w₀ w steps) where
-  same-capacity : capacity w ≡ capacity w₀
-  same-capacity = capacity-same w w₀ (A .same)
+  capacity-kept : capacity w ≡ capacity w₀
+  capacity-kept = same-capacity w w₀ (A .same)
 
   pub run-holds-some : (a : Area) × Held (view w) (capacity w) a
-  run-holds-some = let s = A .some in (s .0, subst (λ (m : ℕ). Held (view w) m (s .0)) (sym same-capacity) (s .1))
+  run-holds-some = let s = A .some in (s .0, subst (λ (m : ℕ). Held (view w) m (s .0)) (sym capacity-kept) (s .1))
 
   pub run-has-control : 0 < room w
   run-has-control = let s = A .some in omega (arith, length-view w, ap length (s .1 .is))
@@ -117,7 +118,7 @@ module _ (p limit : ℕ) (w₀ w : List ℕ) (steps : ℕ) (A : AtRun p limit w�
     pub run-finished : (n : ℕ) → n ≡ getD (view w) 0 nul .w3 → Answers (record { steps = steps; outcome = Systems n }) w
     run-finished n e a₀ H₀ R₀ =
         let s = A .all a₀ H₀ R₀ in
-        let c = closed (s .0) (none (s .0) (subst (λ (m : ℕ). Held (view w) m (s .0)) (sym same-capacity) (s .1))) in
+        let c = closed (s .0) (none (s .0) (subst (λ (m : ℕ). Held (view w) m (s .0)) (sym capacity-kept) (s .1))) in
         let ss = s .0 .systems in
         let ends : run (limits-in (capacity w₀)) p limit 0 (state-of a₀) ≡ finished steps (reverse (map system-of ss)) =
         sym (s .3) ∙ ap (λ (a : Area). run (limits-in (capacity w₀)) p (limit - steps) steps (state-of a)) c ∙ run-ends (limits-in (capacity w₀)) p steps (limit - steps) ss in
@@ -137,7 +138,7 @@ module _ (p limit : ℕ) (w₀ w : List ℕ) (steps : ℕ) (A : AtRun p limit w�
         × (run (limits-in (capacity w₀)) p (limit - steps) steps (state-of (with-open b bs ss)) ≡ run (limits-in (capacity w₀)) p limit 0 (state-of a₀))
     run-open a₀ H₀ R₀ =
         let s = A .all a₀ H₀ R₀ in
-        let o = opened (s .0) (some (s .0) (subst (λ (m : ℕ). Held (view w) m (s .0)) (sym same-capacity) (s .1))) in (
+        let o = opened (s .0) (some (s .0) (subst (λ (m : ℕ). Held (view w) m (s .0)) (sym capacity-kept) (s .1))) in (
           o .0,
           o .1,
           s .0 .systems,
@@ -149,7 +150,7 @@ module _ (p limit : ℕ) (w₀ w : List ℕ) (steps : ℕ) (A : AtRun p limit w�
     pub run-open-some : (b : Stored) × (bs : List Stored) × (ss : List Stored) × Held (view w) (capacity w) (with-open b bs ss) × Ready p (with-open b bs ss)
     run-open-some =
         let s = A .some in
-        let h = subst (λ (m : ℕ). Held (view w) m (s .0)) (sym same-capacity) (s .1) in
+        let h = subst (λ (m : ℕ). Held (view w) m (s .0)) (sym capacity-kept) (s .1) in
         let o = opened (s .0) (some (s .0) h) in
         (o .0, o .1, s .0 .systems, subst (Held (view w) (capacity w)) (o .2) h, subst (Ready p) (o .2) (s .2))
 
@@ -172,7 +173,7 @@ module _ (p limit : ℕ) (w₀ w : List ℕ) (steps : ℕ) (A : AtRun p limit w�
       pub run-stopped : (why : Reason) (v : List ℕ) → Stops (capacity w) p w why → Answers (record { steps = steps; outcome = Refused why 0 }) v
       run-stopped why v S a₀ H₀ R₀ =
           let s = run-open a₀ H₀ R₀ in
-          let e = subst (λ (m : ℕ). Stops m p w why) same-capacity S (s .0) (s .1) (s .2) (s .3) (s .4) in
+          let e = subst (λ (m : ℕ). Stops m p w why) capacity-kept S (s .0) (s .1) (s .2) (s .3) (s .4) in
           let ends : refused steps why ≡ run (limits-in (capacity w₀)) p limit 0 (state-of a₀) =
           sym (by-step (s .0) (s .1) (s .2) ∙ ap (after-step (run (limits-in (capacity w₀)) p (limit - suc steps) (suc steps)) steps) e) ∙ s .5 in
           subst (λ (E : Ended). Ran E p (record { steps = steps; outcome = Refused why 0 }) (view v) (capacity w₀)) ends (record { answer = refl; left = tt })
@@ -184,9 +185,9 @@ module _ (p limit : ℕ) (w₀ w : List ℕ) (steps : ℕ) (A : AtRun p limit w�
         some =
             let s = run-open-some in
             let x = G (s .0) (s .1) (s .2) (s .3) (s .4) in
-            (x .0, subst (λ (m : ℕ). Held (view v) m (x .0)) same-capacity (x .2), x .3);
+            (x .0, subst (λ (m : ℕ). Held (view v) m (x .0)) capacity-kept (x .2), x .3);
         all = λ a₀ H₀ R₀.
             let s = run-open a₀ H₀ R₀ in
-            let x = subst (λ (m : ℕ). Goes-to m p w v) same-capacity G (s .0) (s .1) (s .2) (s .3) (s .4) in
+            let x = subst (λ (m : ℕ). Goes-to m p w v) capacity-kept G (s .0) (s .1) (s .2) (s .3) (s .4) in
             (x .0, x .2, x .3, sym (by-step (s .0) (s .1) (s .2) ∙ ap (after-step (run (limits-in (capacity w₀)) p (limit - suc steps) (suc steps)) steps) (x .1)) ∙ s .5);
       }

@@ -22,7 +22,6 @@ ghost use Rattle.representation.specs.Represent.{Sound, branch-of, system-of};
 ghost use Rattle.steps.specs.Ready.{Ready, Modulus, limits-in};
 ghost use Rattle.steps.specs.Pending.{Has-left, Has-behind, next-member, taken-out, put-in, division-of, aimed, Leads, Prepares};
 use branches::open;
-use branches::split;
 use branches::turn;
 use survey::Choice;
 use survey::Other;
@@ -168,7 +167,7 @@ fn apply_split(
     let l = t.len() - m;
     sums::copy(t, m, r, 0);
     sums::monic(p, &mut r[..l]);
-    split::split(w, place, t, i, &r[..l])
+    splits::split(w, place, t, i, &r[..l])
 }
 
 // Rules 3 to 5 for the pivot in v(k+1), which stands in P at `place`: it and its initial are loaded into t and i.

@@ -11,7 +11,7 @@ use Rattle.tables.specs.Read.{Input, good, read-table}
 use Rattle.tables.specs.laws.Chains.{readable-words}
 use Rattle.rules.specs.Run.{start, run-of}
 use Rattle.branches.specs.Area.{capacity}
-use Rattle.branches.proofs.AsideLaws.{same-capacity}
+use Rattle.branches.proofs.LengthLaws.{same-capacity}
 use Rattle.steps.specs.Ready.{limits-in}
 use Rattle.elimination.specs.Answer.{Ran}
 use Rattle.loading.specs.Started.{Started}

@@ -17,7 +17,7 @@ use Rattle.tables.specs.laws.Linked.{left}
 use Rattle.tables.specs.laws.Accepted.{some-record}
 use Rattle.rules.specs.Branch.{Branch}
 use Rattle.branches.specs.Area.{capacity, with-open, Held}
-use Rattle.branches.proofs.AsideLaws.{same-capacity}
+use Rattle.branches.proofs.LengthLaws.{same-capacity}
 use Rattle.representation.specs.laws.Sounds.{sound-storable}
 use Rattle.loading.specs.Started.{Loaded, put-heads, Alone}
 use Rattle.loading.proofs.MonicLaws.{readable-modulus}

@@ -11,7 +11,7 @@ use Rattle.tables.specs.Words.{word}
 use Rattle.tables.specs.Read.{Input, good, read-table}
 use Rattle.tables.specs.laws.Chains.{readable-words}
 use Rattle.branches.specs.Area.{capacity}
-use Rattle.branches.proofs.AsideLaws.{same-capacity}
+use Rattle.branches.proofs.LengthLaws.{same-capacity}
 use Rattle.loading.specs.Started.{put-heads, Alone, Filled}
 use Rattle.loading.proofs.StartLaws.{Chains, chains, no-polynomial, alone-empty, with-zeros, start-none, start-fails, start-put}
 use Rattle.loading.proofs.start.Statement.{statement}

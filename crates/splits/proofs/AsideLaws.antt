@@ -1,8 +1,8 @@
 -- The branch set aside at a split: the one that stays open is what the split's definition says, and a state that finds no room on the way has none at the end.
-use mathlib.Core.Path.{_≡_, refl, sym, ap, _∙_, subst}
+use mathlib.Core.Path.{_≡_, refl, sym, ap, _∙_}
 use mathlib.Core.Bool.{Bool, true, false, _||_}
 use mathlib.Core.List.{List, [], _∷_, _++_, append-assoc, append-nil}
-use Prim.Native.Nat.{ℕ, zero, suc, _+_, _-_, _/_, _≤_, _<_, min}
+use Prim.Native.Nat.{ℕ, zero, suc, _+_, _-_, _≤_, _<_}
 use native.Mathlib.Omega.{arith}
 use borrow.Author.Tests.{leb-false, lt-leb}
 use lib.ListN.{length, take, drop, getD, length-append, length-drop}
@@ -10,22 +10,12 @@ use lib.Seq.{take-all, drop-length, take-at, drop-at, length-take-le, split-at}
 use Rattle.records.specs.Records.{Rec}
 use Rattle.stored.specs.Stored.{polys-records, member}
 use Rattle.stored.specs.laws.Stored.{polys-records-append}
 use Rattle.branches.specs.Words.{put-P, put-Q, put-Q-before, remove, unless, is-zero, is-one}
-use Rattle.branches.specs.Area.{Stored, Area, Held, Leaves, capacity, stack, branch-records, with-open, size, kept-open, aside, put-into-P, put-into-Q, without-P, split-area}
+use Rattle.branches.specs.Area.{Stored, Area, Held, Leaves, stack, branch-records, with-open, size, kept-open, aside, put-into-P, put-into-Q, without-P, split-area}
+use Rattle.branches.proofs.OpenLaws.{remove-in-parts, length-remove}
 use Rattle.branches.proofs.TurnLaws.{start, control, own-record}
 
 -- ── lists of polynomials ──
-remove-in-parts : (i : ℕ) (fs : List (List ℕ)) → remove i fs ≡ take i fs ++ drop (suc i) fs
-unfolding remove
-remove-in-parts zero [] = refl
-remove-in-parts (suc i) [] = refl
-remove-in-parts zero (f ∷ fs) = refl
-remove-in-parts (suc i) (f ∷ fs) = ap (λ (l : List (List ℕ)). f ∷ l) (remove-in-parts i fs)
-
-pub length-remove : (i : ℕ) (fs : List (List ℕ)) → i < length fs → length (remove i fs) + 1 ≡ length fs
-length-remove i fs h =
-    omega (arith, ap length (remove-in-parts i fs), length-append (take i fs) (drop (suc i) fs), length-take-le i fs (omega arith), length-drop (suc i) fs)
-
 -- A put only adds behind.
 added-P : List ℕ → List (List ℕ) → List (List ℕ)
 added-P f fs = unless (is-zero f || member f fs) f []
@@ -117,13 +107,3 @@ pub size-initial : (i : ℕ) (initial rest : List ℕ) (b : Stored) (bs ss : Lis
     → size (with-open (put-into-P initial (without-P i b)) bs ss) ≤ size (split-area i initial rest b bs ss)
 size-initial i initial rest b bs ss =
     omega (arith, size-put rest (put-into-P initial (without-P i b)) bs ss, size-more (aside i initial rest b) (put-into-Q 0 initial b) bs ss)
-
--- ── words of one length ──
-pub same-capacity : (xs ys : List ℕ) → length xs ≡ length ys → capacity xs ≡ capacity ys
-same-capacity xs ys e = ap (λ (n : ℕ). min (n / 4) 65536) e
-
-pub held-by : (v : List Rec) (a : Area) (xs ys : List ℕ) → length xs ≡ length ys → Held v (capacity xs) a → Held v (capacity ys) a
-held-by v a xs ys e H = subst (λ (n : ℕ). Held v n a) (same-capacity xs ys e) H
-
-pub left-by : (v : List Rec) (r : Bool) (a a' : Area) (xs ys : List ℕ) → length xs ≡ length ys → a ≡ a' → Leaves (capacity xs) a r v → Leaves (capacity ys) a' r v
-left-by v r a a' xs ys e f L = subst (λ (x : Area). Leaves (capacity ys) x r v) f (subst (λ (n : ℕ). Leaves n a r v) (same-capacity xs ys e) L)

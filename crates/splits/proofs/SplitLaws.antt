@@ -10,9 +10,9 @@ use lib.Seq.{take-at, drop-append-le, drop-append-add, length-take-le, paste, se
 use Rattle.records.specs.Records.{Rec, mk, nul, moved}
 use Rattle.stored.specs.Stored.{poly-records, polys-records, skip-to, Storable}
 use Rattle.stored.specs.laws.Stored.{skip-to-polys-records, polys-records-append, polys-records-snoc, length-poly-records, length-le-polys-records}
 use Rattle.branches.specs.Area.{Stored, Held, Leaves, stack, branch-records, systems-records, with-open, size, kept-open, All-storable}
-use Rattle.branches.proofs.PieceLaws.{chain, top-left, last-part}
+use Rattle.splits.proofs.PieceLaws.{chain, top-left, last-part}
 use Rattle.branches.proofs.TurnLaws.{start, finish, own, within}
 
 -- ── storable ──
 all-append : (fs gs : List (List ℕ)) → All-storable fs → All-storable gs → All-storable (fs ++ gs)

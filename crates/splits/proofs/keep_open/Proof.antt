@@ -7,13 +7,13 @@ use lib.ListN.{length}
 use Rattle.records.specs.Records.{Rec, room, view}
 use Rattle.records.proofs.Rows.{length-view}
 use Rattle.stored.specs.Stored.{polys-records, skip-to}
 use Rattle.branches.specs.Area.{Stored, Held, capacity, with-open}
 use Rattle.branches.proofs.TurnLaws.{start, finish, control, own-record, within}
-use Rattle.branches.proofs.SplitLaws.{Ordered, ordered, front-P, back-P, new-P, Placed, to-front, to-back, to-Q, to-T, length-parts, few-members, front-end, no-room, kept}
-use Rattle.branches.proofs.PieceLaws.{Fits, fitting, fits-one, fits-two, fits-three, fits-four, fits-five, fits-six, through, up-to, below-most}
+use Rattle.splits.proofs.SplitLaws.{Ordered, ordered, front-P, back-P, new-P, Placed, to-front, to-back, to-Q, to-T, length-parts, few-members, front-end, no-room, kept}
+use Rattle.splits.proofs.PieceLaws.{Fits, fitting, fits-one, fits-two, fits-three, fits-four, fits-five, fits-six, through, up-to, below-most}
 use borrow.Author.Needs.{needs}
-use Rattle.branches.proofs.split.keep_open.Statement.{statement}
-use Rattle.branches.proofs.split.keep_open.Tie as tie
+use Rattle.splits.proofs.keep_open.Statement.{statement}
+use Rattle.splits.proofs.keep_open.Tie as tie
 
 -- The state that the words hold.
 abbrev Holds : tie.Start → Stored → List Stored → List Stored → Type 0

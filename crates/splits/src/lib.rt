@@ -7,9 +7,9 @@ ghost use lib.ListN.{length, getD};
 ghost use lib.Seq.{paste};
 ghost use Rattle.records.specs.Records.{room, view, moved};
 ghost use Rattle.stored.specs.Stored.{member, poly-records, Storable};
 ghost use Rattle.branches.specs.Words.{is-one};
 ghost use Rattle.branches.specs.Area.{Stored, Held, Leaves, Opened, capacity, with-open, kept-open, split-area};
-use crate::open;
+use branches::open;
 
 // The initial goes into Q, and a branch is set aside with P without its member at place i, which is f, then the initial, then the rest; with Q as it
 // was; with T. Whether there is room. The open branch is made the one set aside, and the other is built on top of it.

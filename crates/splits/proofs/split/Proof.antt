@@ -7,12 +7,13 @@ use borrow.Author.Tests.{not-true, not-false}
 use lib.ListN.{length}
 use Rattle.records.specs.Records.{Rec, view}
 use Rattle.records.proofs.Rows.{length-view}
 use Rattle.branches.specs.Area.{Stored, Held, Leaves, capacity, with-open, put-into-P, put-into-Q, without-P, aside, kept-open, split-area}
 use Rattle.branches.proofs.TurnLaws.{start, control, own-record, within}
-use Rattle.branches.proofs.AsideLaws.{length-aside, kept-aside, size-initial, size-more, failed, same-members, same-capacity, held-by, left-by}
+use Rattle.splits.proofs.AsideLaws.{length-aside, kept-aside, size-initial, size-more, failed, same-members}
+use Rattle.branches.proofs.LengthLaws.{same-capacity, held-by, left-by}
 use borrow.Author.Needs.{needs}
-use Rattle.branches.proofs.split.split.Statement.{statement}
-use Rattle.branches.proofs.split.split.Tie as tie
+use Rattle.splits.proofs.split.Statement.{statement}
+use Rattle.splits.proofs.split.Tie as tie
 
 abbrev Holds : tie.Start → Stored → List Stored → List Stored → Type 0
 Holds s b bs ss = Held (view (s .args .w .now)) (capacity (s .args .w .now)) (with-open b bs ss)

@@ -1,0 +1,17 @@
+-- What words of one length hold.
+use mathlib.Core.Path.{_≡_, ap, subst}
+use mathlib.Core.Bool.{Bool}
+use mathlib.Core.List.{List}
+use Prim.Native.Nat.{ℕ, _/_, min}
+use lib.ListN.{length}
+use Rattle.records.specs.Records.{Rec}
+use Rattle.branches.specs.Area.{Area, Held, Leaves, capacity}
+
+pub same-capacity : (xs ys : List ℕ) → length xs ≡ length ys → capacity xs ≡ capacity ys
+same-capacity xs ys e = ap (λ (n : ℕ). min (n / 4) 65536) e
+
+pub held-by : (v : List Rec) (a : Area) (xs ys : List ℕ) → length xs ≡ length ys → Held v (capacity xs) a → Held v (capacity ys) a
+held-by v a xs ys e H = subst (λ (n : ℕ). Held v n a) (same-capacity xs ys e) H
+
+pub left-by : (v : List Rec) (r : Bool) (a a' : Area) (xs ys : List ℕ) → length xs ≡ length ys → a ≡ a' → Leaves (capacity xs) a r v → Leaves (capacity ys) a' r v
+left-by v r a a' xs ys e f L = subst (λ (x : Area). Leaves (capacity ys) x r v) f (subst (λ (n : ℕ). Leaves n a r v) (same-capacity xs ys e) L)

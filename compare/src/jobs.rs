@@ -1,4 +1,6 @@
-//! Jobs: polynomials written as terms, laid out as a table.
+//! Jobs: polynomials written as terms, laid out as a table; tables that are damaged; points.
+
+use crate::rng::Rng;
 
 /// A term: a coefficient and the exponents of v1, v2, ..
 pub type Term<'a> = (u32, &'a [u32]);
@@ -23,6 +25,40 @@ pub fn table(p: u32, n: u32, zeros: &[&[Term]], nonzeros: &[&[Term]]) -> Vec<u32
         }
     }
     words
+}
+
+/// Changes one word, or cuts or adds some.
+pub fn damage(rng: &mut Rng, words: &mut Vec<u32>) {
+    if rng.one_in(20) {
+        let len = words.len() as u32 + 5 - rng.below(10).min(words.len() as u32);
+        words.resize(len as usize, 0);
+    }
+    if words.is_empty() {
+        return;
+    }
+    let (count, p) = (words.len() as u32 / 4, words[0]);
+    let i = rng.below(words.len() as u32) as usize;
+    let own = i as u32 / 4;
+    words[i] = match rng.below(10) {
+        0 => rng.pick(&[0, 1, 256, 65536, 1 << 24, 1 << 31, u32::MAX]),
+        1 => rng.pick(&[p, p.wrapping_sub(1), p.wrapping_add(1)]),
+        2 => rng.pick(&[count, count.wrapping_sub(1), own, own + 1]),
+        3 | 4 => rng.below(count + 1),
+        5 => words[i].wrapping_add(1),
+        6 => words[i].wrapping_sub(1),
+        7 => words[i] ^ 1 << rng.below(32),
+        8 => rng.pick(words),
+        _ => rng.next() as u32,
+    };
+}
+
+/// Every point, if there are no more than `most`; else none.
+pub fn all_points(p: u32, n: u32, most: u64) -> Vec<Vec<u32>> {
+    let count = (p as u64).saturating_pow(n);
+    if count > most {
+        return Vec::new();
+    }
+    (0..count as u32).map(|i| (0..n).map(|k| i / p.pow(k) % p).collect()).collect()
 }
 
 #[cfg(test)]

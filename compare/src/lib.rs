@@ -4,5 +4,6 @@
 pub mod field;
 pub mod jobs;
 pub mod poly;
+pub mod rng;
 pub mod run;
 pub mod table;

@@ -6,12 +6,12 @@
 use mathlib.Core.Path.{_≡_}
 use mathlib.Core.Bool.{Bool, true, false}
 use mathlib.Core.List.{List, [], _∷_, _++_}
-use Prim.Native.Nat.{ℕ, zero, suc, _+_, _-_, _/_, _≤_, _<_, min}
+use Prim.Native.Nat.{ℕ, _+_, _-_, _/_, _≤_, min}
 use lib.Dec.{leb}
 use lib.ListN.{length, getD, take, drop}
 use Rattle.records.specs.Records.{Rec, mk}
 use Rattle.stored.specs.Stored.{polys-records, Storable}
-use Rattle.branches.specs.Words.{put-P, put-Q, put-Q-before, remove}
+use Rattle.branches.specs.Words.{put-P, put-Q-before, remove}
 
 -- A branch, its polynomials as pairs of words.
 pub record Stored : Type 0 where

@@ -1,8 +1,7 @@
 -- What is done to the lists of a stored branch: putting and taking out, on polynomials as pairs of words.
-use mathlib.Core.Bool.{Bool, true, false, _&&_, _||_}
+use mathlib.Core.Bool.{Bool, true, false, _||_}
 use mathlib.Core.List.{List, [], _∷_, _++_}
 use Prim.Native.Nat.{ℕ, zero, suc, _-_}
-use lib.Dec.{eqb}
 use lib.ListN.{length, take, drop}
 use Rattle.stored.specs.Stored.{same, member}
 

@@ -1,8 +1,8 @@
 -- The invariants of the three loops of `run`, each against what stood where its loop began; and the run, one step at a time.
 use mathlib.Core.Path.{_≡_, refl, sym, ap, subst, _∙_}
-use mathlib.Core.Bool.{Bool, true, false}
-use mathlib.Core.List.{List, [], _∷_, map, reverse}
-use Prim.Native.Nat.{ℕ, zero, suc, _+_, _-_, _≤_, _<_}
+use mathlib.Core.Bool.{Bool}
+use mathlib.Core.List.{List, [], map, reverse}
+use Prim.Native.Nat.{ℕ, zero, suc, _-_, _≤_, _<_}
 use native.Mathlib.Omega.{arith}
 use native.Mathlib.Nat.{sub-zero}
 use lib.ListN.{length, take}
@@ -20,13 +20,13 @@ use Rattle.residues.specs.Prime.{Prime}
 use Rattle.steps.proofs.DivisionLaws.{remainder-done, remainder-again}
 use Rattle.tables.specs.declared.Reason.the-variants.{Steps}
 use Rattle.rules.specs.Room.{Limits}
-use Rattle.rules.specs.Step.{Stepped, remainder-by, step}
-use Rattle.rules.specs.Run.{Ended, finished, refused, after-step, run}
+use Rattle.rules.specs.Step.{remainder-by, step}
+use Rattle.rules.specs.Run.{finished, refused, after-step, run}
 use Rattle.records.specs.Records.{view}
 use Rattle.branches.specs.Area.{Stored, Area, Held, with-open, capacity}
 use Rattle.representation.specs.Represent.{branch-of, system-of, state-of}
 use Rattle.steps.specs.Ready.{Ready, limits-in}
-use Rattle.steps.specs.Pending.{Pivoted, Has-members, rest-of-step}
+use Rattle.steps.specs.Pending.{Has-members, rest-of-step}
 
 -- The run from the state held gives the whole run.
 pub record AtRun (p limit : ℕ) (w₀ w : List ℕ) (steps : ℕ) : Type 0 where

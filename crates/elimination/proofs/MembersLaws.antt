@@ -2,11 +2,11 @@
 use mathlib.Core.Path.{_≡_, refl, sym, ap, subst, _∙_}
 use mathlib.Core.Logic.{_≢_}
 use mathlib.Core.Bool.{Bool, true, false}
-use mathlib.Core.List.{List, [], _∷_, _++_, map, reverse}
+use mathlib.Core.List.{List, [], map, reverse}
 use Prim.Native.Nat.{ℕ, _-_, _≤_, _<_}
 use native.Mathlib.Omega.{arith}
 use native.Mathlib.Nat.{sub-zero}
-use lib.ListN.{length, getD, take, drop, length-append, length-drop, length-take}
+use lib.ListN.{length, take, drop, length-append, length-drop, length-take}
 use lib.Seq.{take-all, drop-length}
 use Rattle.residues.specs.Prime.{Prime}
 use Rattle.polynomials.specs.Poly.{Poly, monic}
@@ -18,9 +18,9 @@ use Rattle.tables.specs.declared.Reason.{Reason}
 use Rattle.tables.specs.declared.Reason.the-variants.{Room, Degree, Terms}
 use Rattle.rules.specs.Room.{Limits}
 use Rattle.rules.specs.Step.{Stepped, next, stopped, after-division, remainder-by, state, replace}
-use Rattle.records.specs.Records.{Rec, view}
+use Rattle.records.specs.Records.{view}
 use Rattle.branches.specs.Words.{put-Q, put-Q-before, remove}
-use Rattle.branches.specs.Area.{Stored, Held, Leaves, Opened, with-open, without-P, without-Q, capacity, size}
+use Rattle.branches.specs.Area.{Stored, Held, Opened, with-open, without-P, without-Q, capacity}
 use Rattle.branches.proofs.LengthLaws.{same-capacity}
 use Rattle.branches.proofs.OpenLaws.{length-remove}
 use Rattle.representation.specs.Represent.{Sound, branch-of, system-of, state-of}

@@ -1,14 +1,13 @@
 -- The run, one step at a time: what the code of a step leaves, against the run from where it began.
 use mathlib.Core.Path.{_≡_, refl, sym, ap, subst, _∙_}
-use mathlib.Core.Bool.{Bool, true, false}
+use mathlib.Core.Bool.{true, false}
 use mathlib.Core.List.{List, [], _∷_, map, reverse}
-use Prim.Native.Nat.{ℕ, zero, suc, _+_, _-_, _≤_, _<_}
+use Prim.Native.Nat.{ℕ, suc, _-_, _≤_, _<_}
 use native.Mathlib.Omega.{arith}
 use lib.ListN.{length, getD, take, length-reverse, length-map}
 use Rattle.polynomials.specs.Packed.{terms}
 use Rattle.tables.specs.declared.Reason.{Reason}
 use Rattle.tables.specs.declared.Reason.the-variants.{Steps}
-use Rattle.rules.specs.Room.{State}
 use Rattle.rules.specs.Step.{Stepped, next, stopped, step}
 use Rattle.rules.specs.Run.{Ended, finished, refused, after-step, run}
 use Rattle.records.specs.Records.{Rec, room, view, nul}

@@ -1,6 +1,6 @@
 -- The answers of the run and of elimination.
 use mathlib.Core.Path.{_≡_}
-use mathlib.Core.List.{List, [], _∷_, map, reverse}
+use mathlib.Core.List.{List, [], map, reverse}
 use Prim.Native.Nat.{ℕ}
 use lib.ListN.{length}
 use Rattle.records.specs.Records.{Rec}

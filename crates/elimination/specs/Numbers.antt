@@ -1,6 +1,8 @@
--- Document 01's number and value for each case of an answer: "0 or the refusal's number", and the count of systems, 1 or 0 for yes or no, the
--- place, or the refusal's record.
+-- Document 01's number and value for each case of an answer: "0 or the refusal", and the count of systems, 1 or 0 for yes or no, the place, 0 for an
+-- accepted reading, or the refusal's record.
 use Prim.Native.Nat.{ℕ}
+use Rattle.tables.specs.declared.ReadOutcome.{ReadOutcome}
+use Rattle.tables.specs.declared.ReadOutcome.the-variants.{Accepted, Refused as ReadRefused}
 use Rattle.tables.specs.declared.TrialOutcome.{TrialOutcome}
 use Rattle.tables.specs.declared.TrialOutcome.the-variants.{Yes, No, Refused as TrialRefused}
 use Rattle.tables.specs.declared.PlaceOutcome.{PlaceOutcome}
@@ -12,6 +14,10 @@ use Rattle.elimination.specs.declared.Outcome.the-variants.{Systems, Ref
 pub record Numbers : Type 0 where
   pub outcome : ℕ
   pub value : ℕ
+
+abbrev pub reading-numbers : ReadOutcome → Numbers
+reading-numbers Accepted = record { outcome = 0; value = 0 }
+reading-numbers (ReadRefused why at) = record { outcome = number why; value = at }
 
 abbrev pub outcome-numbers : Outcome → Numbers
 outcome-numbers (Systems n) = record { outcome = 0; value = n }

@@ -59,7 +59,7 @@ fn eliminate_accepted(table: &[u32], work: &mut [u32], output: &mut [u32], limit
 }
 
 // Eliminates the table: on success the list of systems stands in the first words of the output. The work area may hold anything, and is zero
-// afterwards. Stack: about 50 KiB; 130 KiB more where a product gathers over 1,024 words, 1.1 MiB more where it gathers over 8,192.
+// afterwards. Stack: about 50 KiB; 1.1 MiB more where a product gathers over 1,024 words.
 pub fn eliminate(table: &[u32], work: &mut [u32], output: &mut [u32], limit: u32) -> Answer
     ensures { λ r. ⌜ r ≡ answer-of (eliminated (now (table .entry)) (length (now (work .entry))) (length (now (output .entry))) limit) ⌝ }
     ensures { λ _. ⌜ now (output .exit) ≡ output-after (eliminated (now (table .entry)) (length (now (work .entry))) (length (now (output .entry))) limit) (now (output .entry)) ⌝ }

@@ -2,7 +2,7 @@
 use mathlib.Core.Path.{_≡_, refl, sym, _∙_, ap, subst}
 use mathlib.Core.Logic.{_≢_}
 use mathlib.Core.Bool.{Bool, true, false, _||_, false≢true}
-use mathlib.Core.List.{List, [], _∷_, _++_, map}
+use mathlib.Core.List.{List, [], _∷_, map}
 use Prim.Native.Nat.{ℕ, _+_, _≤_, _<_}
 use native.Mathlib.Omega.{arith}
 use borrow.Author.Tests.{le-leb, lt-leb, leb-false}
@@ -23,19 +23,15 @@ use Rattle.representation.specs.Represent.{Sound, Branch-sound, branch-of}
 use Rattle.representation.specs.laws.Lists.{map-put-P, map-put-Q, put-Q-before-none}
 use Rattle.representation.specs.laws.Sounds.{put-into-P-sound, put-into-Q-sound}
 use Rattle.representation.specs.laws.Sizes.{length-stack, size-live}
+use Rattle.representation.specs.laws.Replaced.{polynomials-size-append}
 use Rattle.representation.specs.laws.Monics.{Monic, All-monic, put-P-monic}
 use Rattle.steps.proofs.SplitLaws.{put-P-nonzero}
 use Rattle.loading.specs.Started.{Loaded, put-into, put-heads, Alone, Filled}
 
 -- ── putting never makes a branch smaller ──
-size-append : (fs gs : List Poly) → polynomials-size (fs ++ gs) ≡ polynomials-size fs + polynomials-size gs
-unfolding polynomials-size
-size-append [] gs = omega arith
-size-append (f ∷ fs) gs = omega (arith, size-append fs gs)
-
 size-unless-dropped : (b : Bool) (f : Poly) (fs : List Poly) → polynomials-size fs ≤ polynomials-size (unless-dropped b f fs)
 size-unless-dropped true f fs = omega arith
-size-unless-dropped false f fs = omega (arith, size-append fs (f ∷ []))
+size-unless-dropped false f fs = omega (arith, polynomials-size-append fs (f ∷ []))
 
 size-put-all : (put : Poly → List Poly → List Poly) → ((f : Poly) (fs : List Poly) → polynomials-size fs ≤ polynomials-size (put f fs)) →
     (fs out : List Poly) → polynomials-size out ≤ polynomials-size (put-all put fs out)

@@ -1,7 +1,7 @@
 -- The bounds that document 01 sets on degrees and terms, as tests around the unbounded operations: refusal 10 where a product's degrees
 -- pass the one, refusal 9 where a product or a difference has more terms than the other. A bound may be absent.
 use mathlib.Core.Bool.{Bool, true, false, _||_}
-use mathlib.Core.List.{List, [], _∷_}
+use mathlib.Core.List.{[], _∷_}
 use Prim.Native.Nat.{ℕ, zero, suc}
 use lib.Dec.{leb, ltb}
 use lib.ListN.{length}

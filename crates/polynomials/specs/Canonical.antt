@@ -1,8 +1,8 @@
 -- Canonical polynomials: terms strictly falling, coefficients 1 to p − 1. A statement about all terms of a polynomial.
 use mathlib.Core.Path.{_≡_}
-use mathlib.Core.List.{List, [], _∷_}
+use mathlib.Core.List.{[], _∷_}
 use Prim.Native.Nat.{ℕ, _≤_, _<_, Ordering·lt}
-use Rattle.polynomials.specs.Poly.{Exponents, Term, Poly, order}
+use Rattle.polynomials.specs.Poly.{Exponents, Poly, order}
 
 -- All of f is below the monomial e.
 abbrev pub Under : Exponents → Poly → Type 0

@@ -1,11 +1,11 @@
 -- Degrees, the parts of a polynomial by the powers of one variable, and the remainder. The variable v(k+1) stands at position k of
 -- the exponents.
-use mathlib.Core.List.{List, [], _∷_}
-use mathlib.Core.Bool.{Bool, true, false}
-use Prim.Native.Nat.{ℕ, zero, suc, _+_, _-_, max}
+use mathlib.Core.List.{[], _∷_}
+use mathlib.Core.Bool.{true, false}
+use Prim.Native.Nat.{ℕ, zero, suc, _-_, max}
 use lib.Dec.{eqb, leb}
 use lib.ListN.{getD, set}
-use Rattle.polynomials.specs.Poly.{Exponents, Term, Poly, join, sum, difference, product}
+use Rattle.polynomials.specs.Poly.{Exponents, Poly, join, sum, difference, product}
 
 -- The degree in v(k+1); 0 for zero.
 unfoldable pub degree : ℕ → Poly → ℕ

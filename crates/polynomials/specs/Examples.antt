@@ -1,11 +1,10 @@
 -- The definitions by computation, on polynomials that the jobs of document 01 go through.
 use mathlib.Core.Path.{_≡_, refl}
-use mathlib.Core.List.{List, [], _∷_}
+use mathlib.Core.List.{[], _∷_}
 use mathlib.Core.Bool.{true, false}
 use Prim.Native.Nat.{ℕ}
-use lib.Dec.{eqb, leb}
 use Rattle.residues.specs.Residue.{inverse, inverse-from}
-use Rattle.polynomials.specs.Poly.{Term, Poly, order, join, keep, insert, add-multiple, sum, difference, product, monic}
+use Rattle.polynomials.specs.Poly.{Term, Poly, order, join, keep, insert, add-multiple, difference, product, monic}
 use Rattle.polynomials.specs.Division.{
   degree,
   largest,
@@ -32,6 +31,9 @@ use Rattle.polynomials.specs.Bounds.{
   tested,
   within,
   degree-passed,
+  terms-passed,
+  Bounds,
+  at-most,
   bounded-product,
   bounded-difference,
   bounded-round,
@@ -99,6 +101,48 @@ degree-255-is-formed = refl
 degree-256-is-not : bounded-product standard 7 (t 1 200 0 ∷ []) (t 1 56 1 ∷ t 1 0 0 ∷ []) ≡ degree-passed
 unfolding bounded-product degrees-over degrees largest some-over over tested product add-multiple insert keep order join
 degree-256-is-not = refl
+
+-- At most so many in a degree, and at most so many terms.
+abbrev bounds : ℕ → ℕ → Bounds
+bounds d n = record { of-degree = at-most d; of-terms = at-most n }
+
+-- v1 v2 + 6 squared passes both bounds: refusal 10 comes first. Where the degrees pass none, 9.
+degrees-before-terms : bounded-product (bounds 1 1) 7 h h ≡ degree-passed
+unfolding bounded-product degrees-over degrees largest some-over over join
+degrees-before-terms = refl
+
+then-terms : bounded-product (bounds 2 1) 7 h h ≡ terms-passed
+unfolding bounded-product degrees-over degrees largest some-over over tested product add-multiple insert keep order join
+then-terms = refl
+
+-- "A zero factor gives zero, untested": v1^2 + v1 + 5 alone passes both bounds.
+zero-is-untested : bounded-product (bounds 1 1) 7 g [] ≡ within []
+unfolding bounded-product
+zero-is-untested = refl
+
+-- "A difference is tested for 9 only."
+no-degree-in-a-difference : bounded-difference (bounds 1 1) 7 (t 1 2 0 ∷ []) [] ≡ within (t 1 2 0 ∷ [])
+unfolding bounded-difference tested over difference add-multiple
+no-degree-in-a-difference = refl
+
+terms-in-a-difference : bounded-difference (bounds 1 1) 7 f [] ≡ terms-passed
+unfolding bounded-difference tested over difference add-multiple
+terms-in-a-difference = refl
+
+-- A round on v2 + v1 by v1 v2 + v2 + v1^3 in v2: I×R has four terms, and L×T has v1^3. I×R is formed and tested first.
+abbrev dividend : Poly
+dividend = t 1 0 1 ∷ t 1 1 0 ∷ []
+
+abbrev divisor : Poly
+divisor = t 1 1 1 ∷ t 1 0 1 ∷ t 1 3 0 ∷ []
+
+the-initial-first : bounded-round (bounds 2 3) 7 1 1 divisor dividend ≡ terms-passed
+unfolding bounded-round bounded-product degrees-over degrees largest some-over over tested product add-multiple insert keep order join coefficient
+the-initial-first = refl
+
+then-the-other-product : bounded-round (bounds 2 4) 7 1 1 divisor dividend ≡ degree-passed
+unfolding bounded-round bounded-product degrees-over degrees largest some-over over tested product add-multiple insert keep order join coefficient degree factor shift pure-power
+then-the-other-product = refl
 
 -- The remainder of v1^55 v2 + 1 by v1^200 v2 + 1 in v2: v1^200 - v1^55.
 remainder-within-bounds : bounded-remainder standard 7 1 1 (t 1 200 1 ∷ t 1 0 0 ∷ []) 2 (t 1 55 1 ∷ t 1 0 0 ∷ []) ≡ within (t 1 200 0 ∷ t 6 55 0 ∷ [])

@@ -8,6 +8,11 @@ unfoldable pub bytes : ℕ → ℕ → Exponents
 bytes zero w = []
 bytes (suc n) w = w % 256 ∷ bytes n (w / 256)
 
+-- The number of these bytes, the lowest first.
+unfoldable pub word : Exponents → ℕ
+word [] = 0
+word (b ∷ e) = b + 256 * word e
+
 -- The exponents of a term's two words.
 unfoldable pub exponents : ℕ → ℕ → Exponents
 exponents hi lo = bytes 4 lo ++ bytes 4 hi

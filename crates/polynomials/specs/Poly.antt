@@ -2,7 +2,7 @@
 -- here (the bounds stand in Bounds.antt). Sum, difference, product and monic are all made of one operation, the insertion of a term.
 use mathlib.Core.List.{List, [], _∷_}
 use mathlib.Core.Bool.{Bool, true, false, _&&_}
-use Prim.Native.Nat.{ℕ, zero, suc, _+_, _-_, _*_, _%_, compare, Ordering, Ordering·lt, Ordering·eq, Ordering·gt}
+use Prim.Native.Nat.{ℕ, _+_, _-_, _*_, _%_, compare, Ordering, Ordering·lt, Ordering·eq, Ordering·gt}
 use lib.Dec.{eqb, isEq}
 use Rattle.residues.specs.Residue.{inverse}
 

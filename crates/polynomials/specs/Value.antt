@@ -3,19 +3,19 @@ use mathlib.Core.List.{List, [], _∷_}
 use Prim.Native.Nat.{ℕ, _+_, _*_, _%_, _^_, _<_}
 use lib.ListN.{length, getD}
 use Rattle.residues.specs.Field.{CommRing, cast, pow}
-use Rattle.polynomials.specs.Poly.{Exponents, Term, Poly}
+use Rattle.polynomials.specs.Poly.{Exponents, Poly}
 
 module _ {ℓ} {K : Type ℓ} (𝓡 : CommRing K) where
   open CommRing 𝓡 using (add as _⊕_, mul as _⊗_, nil as 𝟘, one as 𝟙)
 
   infixl 60 _⊕_
   infixl 70 _⊗_
-  -- The sum of each coefficient times the weight of its monomial-value.
+  -- The sum of each coefficient times the weight of its monomial.
   unfoldable pub weigh : (Exponents → K) → Poly → K
   weigh w [] = 𝟘
   weigh w (t ∷ f) = cast 𝓡 (t .coef) ⊗ w (t .exps) ⊕ weigh w f
 
-  -- The value of a monomial-value: each coordinate to its exponent.
+  -- The value of a monomial: each coordinate to its exponent.
   unfoldable pub monomial-value : List K → Exponents → K
   monomial-value [] e = 𝟙
   monomial-value (x ∷ xs) [] = 𝟙

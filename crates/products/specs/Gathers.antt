@@ -14,7 +14,7 @@ use Rattle.products.specs.declared.Gathered.the-variants.{Words, OverTer
 abbrev pub room-for : ℕ → ℕ → ℕ
 room-for a b = a * b / 4 + 2 * b + 256
 
--- In x and z the product f was formed or refused as its test says; the buffers are too short only where one has less than `need` words.
+-- In x and z the product f was formed or refused as its test says; too short is said only where a buffer has fewer than `need` words.
 abbrev pub Gathers : Poly → ℕ → Gathered → List ℕ → List ℕ → Type 0
 Gathers f need (Words n) x z = Forms (tested standard f) (formed.Words n) x
 Gathers f need OverTerms x z = Forms (tested standard f) formed.OverTerms x

@@ -1,10 +1,11 @@
 // Products, gathered in temporary buffers: a row, one term of the shorter factor times the other, is added at a time.
 //
 // What is gathered can pass 256 terms and come back by cancelling. But a row cancels no more terms than it has, so the gathering
-// stops once the rows left can't bring it back: half of all term products is the most that a buffer must hold.
+// stops once the rows left can't bring it back: half of all term products is the most that a buffer must hold. Mostly it is far less:
+// a gathering goes on until a row finds no room, and only then starts anew in longer buffers.
 ghost use mathlib.Core.Path.{_≡_};
 ghost use mathlib.Core.Bool.{false};
-ghost use Prim.Native.Nat.{_+_, _*_, _/_, _≤_, _<_};
+ghost use Prim.Native.Nat.{_≤_, _<_};
 ghost use lib.ListN.{length};
 ghost use Rattle.polynomials.specs.Poly.{product};
 ghost use Rattle.polynomials.specs.Bounds.{standard, at-most, bounded-product, degrees-over, tested};
@@ -21,8 +22,8 @@ pub enum Gathered {
     Short,
 }
 
-// f times g, in the first words of x; z is lent besides. Stack: none to speak of where x and z hold what is gathered; 130 KiB where
-// they don't, 1.1 MiB where that passes 8,192 words.
+// f times g, in the first words of x; z is lent besides. Stack: none to speak of where x and z hold what is gathered, else 1.1 MiB,
+// of which 128 KiB are cleared up to 8,192 words.
 pub fn product(p: u64, f: &[u64], g: &[u64], x: &mut [u64], z: &mut [u64]) -> Formed
     requires { ⌜ (1 ≤ p) × (p < 2147483648) ⌝ }
     requires { ⌜ Holds p (now f) ⌝ }
@@ -42,8 +43,8 @@ pub fn product(p: u64, f: &[u64], g: &[u64], x: &mut [u64], z: &mut [u64]) -> Fo
     rows(p, f, g, x, z)
 }
 
-// The product by the rows of the shorter factor, where no degree passes 255. That it calls itself keeps LLVM from inlining the large
-// frames of `gather_apart` and `gather_large` here: each call would pay for them.
+// The product by the rows of the shorter factor, where no degree passes 255. Since it calls itself, LLVM inlines no large frame here:
+// each call would pay for it.
 fn rows(p: u64, f: &[u64], g: &[u64], x: &mut [u64], z: &mut [u64]) -> Formed
     requires { ⌜ (1 ≤ p) × (p < 2147483648) ⌝ }
     requires { ⌜ Holds p (now f) × (0 < length (now f)) ⌝ }
@@ -66,7 +67,7 @@ fn rows(p: u64, f: &[u64], g: &[u64], x: &mut [u64], z: &mut [u64]) -> Formed
     }
 }
 
-// The rows of f added up, from the last on, in x and z by turns: at the end in x.
+// The rows of f added up, from the last on, in x and z by turns: at the end in x. It ends early where a row finds no room.
 fn gather(p: u64, f: &[u64], g: &[u64], x: &mut [u64], z: &mut [u64]) -> Gathered
     requires { ⌜ (1 ≤ p) × (p < 2147483648) ⌝ }
     requires { ⌜ Holds p (now f) × (0 < length (now f)) ⌝ }

@@ -4,7 +4,7 @@ use mathlib.Core.List.{List, [], _∷_}
 use lib.ListN.{length, getD, drop}
 use lib.Seq.{paste}
 
--- a record's four words
+-- A record's four words.
 pub record Rec : Type 0 where
   pub w0 : ℕ
   pub w1 : ℕ
@@ -17,16 +17,16 @@ mk a b c d = record { w0 = a; w1 = b; w2 = c; w3 = d }
 abbrev pub nul : Rec
 nul = mk 0 0 0 0
 
--- f 0, f 1, .. f (n - 1)
+-- f 0, f 1, .. f (n - 1).
 abbrev pub tab : {A : Type 0} → ℕ → (ℕ → A) → List A
 tab zero f = []
 tab (suc n) f = f zero ∷ tab n (λ i. f (suc i))
 
--- whole records in the words
+-- How many whole records the words make.
 abbrev pub room : List ℕ → ℕ
 room w = length w / 4
 
--- rows of four
+-- Record i: the words stand in rows of four.
 abbrev pub recAt : List ℕ → ℕ → Rec
 recAt w i = mk (getD w (4 * i) 0) (getD w (4 * i + 1) 0) (getD w (4 * i + 2) 0) (getD w (4 * i + 3) 0)
 

@@ -28,6 +28,14 @@ pub fn get2(w: &[u32], i: usize) -> u32
     w[4 * i + 2]
 }
 
+// Word 3 of record i.
+pub fn get3(w: &[u32], i: usize) -> u32
+    requires { ⌜ i < room (now w) ⌝ }
+    ensures { λ r. ⌜ r ≡ getD (view (now (w .entry))) i nul .w3 ⌝ }
+{
+    w[4 * i + 3]
+}
+
 // Writes record i whole.
 pub fn put_rec(w: &mut [u32], i: usize, a: u32, b: u32, c: u32, d: u32)
     requires { ⌜ i < room (now w) ⌝ }
@@ -52,14 +60,6 @@ pub fn copy_rec(w: &mut [u32], from: usize, to: usize)
     let c = w[k + 2];
     let d = w[k + 3];
     put_rec(w, to, a, b, c, d)
-}
-
-// Word 3 of record i: its link.
-pub fn get3(w: &[u32], i: usize) -> u32
-    requires { ⌜ i < room (now w) ⌝ }
-    ensures { λ r. ⌜ r ≡ getD (view (now (w .entry))) i nul .w3 ⌝ }
-{
-    w[4 * i + 3]
 }
 
 // Moves the n records from `from` on up to `to`.

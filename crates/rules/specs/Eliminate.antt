@@ -1,11 +1,12 @@
 -- "Eliminate. The refusals of reading, then the run .., at the end 13 if the output has fewer whole records than the list needs."
-use mathlib.Core.Bool.{Bool, true, false}
-use mathlib.Core.List.{List, [], _∷_, _++_}
-use Prim.Native.Nat.{ℕ, zero, suc, _-_, _/_, min}
+use mathlib.Core.Path.{_≡_, refl}
+use mathlib.Core.Bool.{true, false}
+use mathlib.Core.List.{List, _++_}
+use Prim.Native.Nat.{ℕ, _-_, _/_, min}
 use lib.Dec.{ltb}
 use lib.ListN.{length, drop}
 use Rattle.polynomials.specs.Bounds.{at-most, standard}
-use Rattle.tables.specs.Read.{Read, good, Input, System, read-table}
+use Rattle.tables.specs.Read.{good, Input, System, read-table}
 use Rattle.tables.specs.Read as tables
 use Rattle.tables.specs.declared.Reason.{Reason}
 use Rattle.tables.specs.declared.Reason.the-variants.{Output}
@@ -16,6 +17,23 @@ use Rattle.rules.specs.Written.{list-words, list-records}
 -- "The work area has R = its words divided by 4, rounded down, at most 65,536, and lends R−1 records (none if R is 0)."
 unfoldable pub room-of : ℕ → ℕ
 room-of words = min (words / 4) 65536 - 1
+
+-- Three words, one record, eleven and three words, more than may be used.
+no-record : room-of 3 ≡ 0
+unfolding room-of
+no-record = refl
+
+one-record : room-of 4 ≡ 0
+unfolding room-of
+one-record = refl
+
+eleven-records : room-of 47 ≡ 10
+unfolding room-of
+eleven-records = refl
+
+most-records : room-of 1000000 ≡ 65535
+unfolding room-of
+most-records = refl
 
 -- The limits of a call with a work area of so many words.
 unfoldable pub limits-of : ℕ → Limits

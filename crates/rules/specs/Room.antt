@@ -1,6 +1,6 @@
 -- "Room: each branch and each listed system takes one record, each polynomial one and each term one."
 use mathlib.Core.List.{List, [], _∷_}
-use Prim.Native.Nat.{ℕ, zero, suc, _+_}
+use Prim.Native.Nat.{ℕ, _+_}
 use lib.ListN.{length}
 use Rattle.polynomials.specs.Poly.{Poly}
 use Rattle.polynomials.specs.Bounds.{Bound, Bounds}

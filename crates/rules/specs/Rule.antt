@@ -1,7 +1,7 @@
 -- "A step applies the first rule that fits the open branch": which rule that is, with what it acts on.
-use mathlib.Core.Bool.{Bool, true, false, _||_}
+use mathlib.Core.Bool.{true, false, _||_}
 use mathlib.Core.List.{List, [], _∷_}
-use Prim.Native.Nat.{ℕ, zero, suc, _-_}
+use Prim.Native.Nat.{ℕ, _-_}
 use Rattle.polynomials.specs.Poly.{Poly}
 use Rattle.polynomials.specs.Division.{initial}
 use Rattle.rules.specs.Branch.{Branch, member, is-one, some-one, some-zero, highest-leader, Chosen, pivot, Found, none, found, other}

@@ -1,8 +1,6 @@
 -- The run: steps from the first branch until no branch is left, a limit is met, or the steps are used up.
-use mathlib.Core.Bool.{Bool, true, false}
 use mathlib.Core.List.{List, [], _∷_}
 use Prim.Native.Nat.{ℕ, zero, suc}
-use Rattle.polynomials.specs.Poly.{Poly}
 use Rattle.tables.specs.Read.{System, Input}
 use Rattle.tables.specs.declared.Reason.{Reason}
 use Rattle.tables.specs.declared.Reason.the-variants.{Steps}

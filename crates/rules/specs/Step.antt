@@ -1,10 +1,10 @@
 -- What each rule does, with the limits as they are met.
-use mathlib.Core.Bool.{Bool, true, false}
+use mathlib.Core.Bool.{true, false}
 use mathlib.Core.List.{List, [], _∷_, _++_}
-use Prim.Native.Nat.{ℕ, zero, suc, _+_}
+use Prim.Native.Nat.{ℕ, suc, _+_}
 use Rattle.polynomials.specs.Poly.{Poly}
 use Rattle.polynomials.specs.Division.{degree, initial, rest}
-use Rattle.polynomials.specs.Bounds.{Bound, Bounds, over, Bounded, within, degree-passed, terms-passed, bounded-remainder}
+use Rattle.polynomials.specs.Bounds.{over, Bounded, within, degree-passed, terms-passed, bounded-remainder}
 use Rattle.tables.specs.Read.{System}
 use Rattle.tables.specs.declared.Reason.{Reason}
 use Rattle.tables.specs.declared.Reason.the-variants.{Terms, Degree, Room}

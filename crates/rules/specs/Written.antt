@@ -1,9 +1,10 @@
 -- "A written list is laid out as header, then for each system: its record, its T heads, its U heads, each head followed by its terms."
+use mathlib.Core.Path.{_≡_, refl}
 use mathlib.Core.List.{List, [], _∷_, _++_}
-use Prim.Native.Nat.{ℕ, zero, suc, _+_, _*_}
+use Prim.Native.Nat.{ℕ, suc, _+_}
 use lib.ListN.{length, take, drop}
-use Rattle.polynomials.specs.Poly.{Exponents, Term, Poly}
-use Rattle.polynomials.specs.laws.Packed.{word}
+use Rattle.polynomials.specs.Poly.{Term, Poly}
+use Rattle.polynomials.specs.Packed.{word}
 use Rattle.tables.specs.Read.{System, Listing}
 use Rattle.rules.specs.Room.{polynomials-size, systems-size}
 
@@ -35,3 +36,18 @@ list-words l = l .modulus ∷ l .variables ∷ index-of (l .systems) 1 ∷ lengt
 -- The records that a list needs.
 unfoldable pub list-records : List System → ℕ
 list-records ss = 1 + systems-size ss
+
+-- ── examples ──
+-- c v1^a v2^b.
+abbrev term : ℕ → ℕ → ℕ → Term
+term c a b = record { coef = c; exps = a ∷ b ∷ 0 ∷ 0 ∷ 0 ∷ 0 ∷ 0 ∷ 0 ∷ [] }
+
+-- The list that document 01 prints: T = v1 v2 + 6, U = v1.
+printed : list-words (record { modulus = 7; variables = 2; systems = record { T = (term 1 1 1 ∷ term 6 0 0 ∷ []) ∷ []; U = (term 1 1 0 ∷ []) ∷ [] } ∷ [] })
+    ≡ 7 ∷ 2 ∷ 1 ∷ 1 ∷ 2 ∷ 5 ∷ 0 ∷ 0 ∷ 3 ∷ 0 ∷ 0 ∷ 0 ∷ 1 ∷ 0 ∷ 257 ∷ 4 ∷ 6 ∷ 0 ∷ 0 ∷ 0 ∷ 6 ∷ 0 ∷ 0 ∷ 0 ∷ 1 ∷ 0 ∷ 1 ∷ 0 ∷ []
+unfolding list-words systems-words heads-words terms-words polynomials-size systems-size word
+printed = refl
+
+no-system : list-words (record { modulus = 7; variables = 1; systems = [] }) ≡ 7 ∷ 1 ∷ 0 ∷ 0 ∷ []
+unfolding list-words systems-words
+no-system = refl

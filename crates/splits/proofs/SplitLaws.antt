@@ -2,7 +2,7 @@
 use mathlib.Core.Path.{_≡_, refl, sym, ap, _∙_}
 use mathlib.Core.Bool.{true, false}
 use mathlib.Core.List.{List, [], _∷_, _++_, append-assoc}
-use Prim.Native.Nat.{ℕ, zero, suc, _+_, _-_, _/_, _≤_, _<_}
+use Prim.Native.Nat.{ℕ, suc, _+_, _-_, _/_, _≤_, _<_}
 use native.Mathlib.Omega.{arith}
 use borrow.Author.Tests.{le-leb, lt-leb}
 use lib.ListN.{length, take, drop, getD, set, length-append, length-drop, take-append-drop}
@@ -10,24 +10,11 @@ use lib.Seq.{take-at, drop-append-le, drop-append-add, length-take-le, paste, se
 use Rattle.records.specs.Records.{Rec, mk, nul, moved}
 use Rattle.stored.specs.Stored.{poly-records, polys-records, skip-to, Storable}
 use Rattle.stored.specs.laws.Stored.{skip-to-polys-records, polys-records-append, polys-records-snoc, length-poly-records, length-le-polys-records}
-use Rattle.branches.specs.Area.{Stored, Held, Leaves, stack, branch-records, systems-records, with-open, size, kept-open, All-storable}
+use Rattle.branches.specs.Area.{Stored, Held, Leaves, stack, branch-records, systems-records, with-open, size, kept-open}
 use Rattle.splits.proofs.PieceLaws.{chain, top-left, last-part}
+use Rattle.branches.proofs.AreaLaws.{storable-take}
+use Rattle.branches.proofs.PutLaws.{storable-append, storable-drop}
 use Rattle.branches.proofs.TurnLaws.{start, finish, own, within}
-
--- ── storable ──
-all-append : (fs gs : List (List ℕ)) → All-storable fs → All-storable gs → All-storable (fs ++ gs)
-all-append [] gs h k = k
-all-append (f ∷ fs) gs h k = (h .0, all-append fs gs (h .1) k)
-
-all-take : (i : ℕ) (fs : List (List ℕ)) → All-storable fs → All-storable (take i fs)
-all-take zero fs h = tt
-all-take (suc i) [] h = tt
-all-take (suc i) (f ∷ fs) h = (h .0, all-take i fs (h .1))
-
-all-drop : (i : ℕ) (fs : List (List ℕ)) → All-storable fs → All-storable (drop i fs)
-all-drop zero fs h = h
-all-drop (suc i) [] h = tt
-all-drop (suc i) (f ∷ fs) h = all-drop i fs (h .1)
 
 -- ── the parts of P ──
 abbrev pub front-P : ℕ → Stored → List Rec
@@ -307,8 +294,8 @@ module _ {v : List Rec} {most : ℕ} {c : Stored} {bs ss : List Stored} (H : Hel
                 few = H .few;
                 storable = (
                   (
-                    all-append (take i (c .P)) (f ∷ take (n - i) (drop i (c .P))) (all-take i (c .P) (H .storable .0 .0)) (sf, all-take (n - i) (drop i (c .P)) (all-drop i (c .P) (H .storable .0 .0))),
-                    all-append (c .Q) (initial ∷ []) (H .storable .0 .1) (si, tt),
+                    storable-append (take i (c .P)) (f ∷ take (n - i) (drop i (c .P))) (storable-take i (c .P) (H .storable .0 .0)) (sf, storable-take (n - i) (drop i (c .P)) (storable-drop i (c .P) (H .storable .0 .0))),
+                    storable-append (c .Q) (initial ∷ []) (H .storable .0 .1) (si, tt),
                     H .storable .0 .2,
                     H .storable .0,
                   ),

@@ -1,69 +1,43 @@
 -- What the survey chose is the rule that fits, and a pivot is led by its variable.
-use mathlib.Core.Path.{_≡_, refl, sym, ap, ap₂, subst, _∙_}
+use mathlib.Core.Path.{_≡_, refl, sym, ap, ap₂, _∙_}
 use mathlib.Core.Logic.{_≢_}
-use mathlib.Core.Bool.{Bool, true, false, _||_, _&&_}
+use mathlib.Core.Bool.{Bool, true, false, _||_}
 use mathlib.Core.List.{List, [], _∷_, map, reverse}
-use Prim.Native.Nat.{ℕ, zero, suc, _+_, _-_, _≤_, _<_, max, Ordering·lt, Ordering·eq}
+use Prim.Native.Nat.{ℕ, zero, suc, _-_, _≤_, _<_, max}
 use native.Mathlib.Omega.{arith}
-use lib.Dec.{eqb}
-use borrow.Author.Tests.{eq-eqb}
 use lib.ListN.{length, getD}
-use lib.Seq.{ext-getD}
-use Rattle.polynomials.specs.Poly.{Exponents, Poly, order}
+use Rattle.residues.specs.laws.Booleans.{true-of}
+use Rattle.polynomials.specs.Poly.{Poly}
 use Rattle.polynomials.specs.Canonical.{Canonical}
 use Rattle.polynomials.specs.Division.{leader}
 use Rattle.polynomials.specs.Packed.{terms}
-use Rattle.polynomials.specs.laws.Free.{Free}
-use Rattle.polynomials.specs.laws.Order.{order-refl}
-use Rattle.polynomials.specs.laws.Parts.{above-leader, leader-places}
+use Rattle.polynomials.specs.laws.Bounds.{neither}
 use Rattle.polynomials.specs.laws.Places.{Places, places-terms}
-use Rattle.rules.specs.Branch as rules
-use Rattle.rules.specs.Branch.{Branch, Chosen, some-one, some-zero, is-one, all-zeros, highest-leader, pivot}
+use Rattle.rules.specs.Branch.{Branch, Chosen, some-one, some-zero, is-one, highest-leader, pivot}
 use Rattle.rules.specs.Rule.{Rule, drop, list, rule-with, rule-of, rule-of-P}
-use Rattle.rules.specs.Step.{Stepped, next, step, apply}
+use Rattle.rules.specs.Step.{Stepped, step, apply}
 use Rattle.rules.specs.Room.{Limits}
 use Rattle.rules.specs.Writable.{Each}
 use Rattle.rules.specs.laws.Lists.{At}
 use Rattle.rules.specs.laws.Pivot.{pivot-stands, pivot-leads}
-use Rattle.branches.specs.Area.{Stored, Area, with-open}
+use Rattle.rules.specs.laws.Rising as rising
+use Rattle.branches.specs.Area.{Stored, with-open}
 use Rattle.survey.specs.Survey.{choice, choice-of-P}
+use Rattle.survey.proofs.Choices.{leaders-at-most-8}
 use Rattle.survey.specs.declared.Choice.{Choice}
 use Rattle.survey.specs.declared.Choice.the-variants.{Drop, List as Lists, Pivot}
-use Rattle.representation.specs.Represent.{Sound, All-sound, branch-of, system-of, state-of}
+use Rattle.representation.specs.Represent.{Sound, All-sound, branch-of, system-of}
 use Rattle.representation.specs.laws.Monics.{Monic, All-monic}
-use Rattle.representation.specs.laws.Steps.{chosen, chosen-at, drop-state, list-state}
+use Rattle.representation.specs.laws.Steps.{chosen, chosen-at}
 use Rattle.steps.specs.Ready.{Ready}
 use Rattle.steps.specs.Pending.{Leads}
 
-all-zeros-of : (e : Exponents) → ((j : ℕ) → getD e j 0 ≡ 0) → all-zeros e ≡ true
-unfolding all-zeros
-all-zeros-of [] h = refl
-all-zeros-of (n ∷ e) h = ap₂ _&&_ (eq-eqb n 0 (h 0)) (all-zeros-of e (λ j. h (suc j)))
-
 -- A monic polynomial without a leading variable is 1.
 constant-is-one : (p n : ℕ) (f : Poly) → Canonical p f → Places n f → Monic f → f ≢ [] → leader f ≡ 0 → is-one f ≡ true
-unfolding is-one
 constant-is-one p n [] c u m z h = absurd (z refl)
-constant-is-one p n (t ∷ []) c u m z h = ap₂ _&&_ (eq-eqb (t .coef) 1 m) (all-zeros-of (t .exps) (λ j. above-leader (t ∷ []) j (omega arith) .0))
-constant-is-one p n (t ∷ (v ∷ f)) c u m z h = absurd (clash (c .2 .0))
-  where
-    free : (j : ℕ) → Free j (t ∷ (v ∷ f))
-    free j = above-leader (t ∷ (v ∷ f)) j (omega arith)
-
-    same : v .exps ≡ t .exps
-    same = ext-getD 0 (v .exps) (t .exps) (u .1 .0 ∙ sym (u .0)) (λ i l. free i .1 .0 ∙ sym (free i .0))
-
-    clash : order (v .exps) (t .exps) ≡ Ordering·lt → ⊥
-    clash q =
-        let e : order (v .exps) (t .exps) ≡ Ordering·eq = subst (λ a. order (v .exps) a ≡ Ordering·eq) same (order-refl (v .exps)) in
-        let z : _≡_ {A = ℕ} 0 1 = cc in omega arith
+constant-is-one p n (t ∷ f) c u m z h = sym (true-of (is-one (t ∷ f)) (rising.constant-is-one p n (t ∷ f) c u m h))
 
 -- ── the highest leading variable ──
-highest-small : (fs : List (List ℕ)) → highest-leader (map terms fs) ≤ 8
-unfolding highest-leader
-highest-small [] = omega arith
-highest-small (f ∷ fs) = omega (arith, leader-places 8 (terms f) (places-terms f), highest-small fs)
-
 words-none : (p : ℕ) (f : List ℕ) → Sound p f → terms f ≡ [] → f ≡ []
 unfolding terms
 words-none p [] s e = refl
@@ -81,22 +55,13 @@ some-leader p f fs s m z e = go (leader (terms f)) refl
         let y : _≡_ {A = ℕ} 0 1 = cc in absurd (omega arith)
     go (suc n) q = omega arith
 
-or-left : (x y : Bool) → (x || y) ≡ false → x ≡ false
-or-left true y e = e
-or-left false y e = refl
-
-at-inside : (i : ℕ) (f : Poly) (fs : List (List ℕ)) → At i f (map terms fs) → i < length fs
+pub at-inside : (i : ℕ) (f : Poly) (fs : List (List ℕ)) → At i f (map terms fs) → i < length fs
 at-inside i f [] a = absurd a
 at-inside zero f (g ∷ fs) a = omega arith
 at-inside (suc i) f (g ∷ fs) a = omega (arith, at-inside i f fs a)
 
 -- ── the rule ──
-abbrev choice-by : Branch → Bool → Choice
-choice-by b o = elim o [ true ↦ Drop | false ↦ choice-of-P (b .P) ]
-
-abbrev rule-by : Branch → Bool → Rule
-rule-by b o = elim o [ true ↦ drop | false ↦ rule-of-P (b .P) b ]
-
+-- 0 is not 1.
 no : {A : Type 0} → _≡_ {A = ℕ} 0 1 → A
 no z = absurd (omega arith)
 
@@ -149,8 +114,8 @@ module _ (p k i : ℕ) where
           let ei : c .place ≡ i = cc in
           let stands = pivot-stands (h - 1) (terms f) (map terms fs) in
           let at : c ≡ chosen b (c .place) = chosen-at b c stands in
-          let low = some-leader p f fs (s .0) (m .0) (z .0) (or-left (some-one (map terms (f ∷ fs))) (some-zero (map terms Q)) q) in
-          let high = highest-small (f ∷ fs) in
+          let low = some-leader p f fs (s .0) (m .0) (z .0) (neither (some-one (map terms (f ∷ fs))) (some-zero (map terms Q)) q .0) in
+          let high = leaders-at-most-8 (f ∷ fs) in
           let inside = at-inside (c .place) (c .poly) (f ∷ fs) stands in
           let led : leader (terms (getD (f ∷ fs) i [])) ≡ h = ap (λ (i : ℕ). leader (terms (getD (f ∷ fs) i []))) (sym ei) ∙ ap (λ (d : Chosen). leader (d .poly)) (sym at) ∙ pivot-leads (terms f) (map terms fs) in
           (ap (λ (d : Chosen). rule-with (h - 1) d (branch-of b)) at ∙ ap₂ (λ (k i : ℕ). rule-with k (chosen b i) (branch-of b)) ek ei, (omega (arith, ek, low, high), omega (arith, inside, ei), omega (arith, led, ek, low)))

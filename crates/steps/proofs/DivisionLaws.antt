@@ -1,16 +1,12 @@
 -- The rounds of a division, one at a time: what n rounds from R on form, as the code meets each round.
-use mathlib.Core.Path.{_≡_, refl, sym, ap, subst, _∙_}
+use mathlib.Core.Path.{_≡_, refl, ap}
 use mathlib.Core.Bool.{Bool, true, false}
-use mathlib.Core.List.{List}
-use Prim.Native.Nat.{ℕ, zero, suc, _+_, _≤_, _<_}
+use Prim.Native.Nat.{ℕ, zero, suc, _≤_, _<_}
 use native.Mathlib.Omega.{arith}
-use lib.Dec.{leb}
 use borrow.Author.Tests.{le-leb, lt-leb}
-use Rattle.residues.specs.Prime.{Prime}
 use Rattle.polynomials.specs.Poly.{Poly}
-use Rattle.polynomials.specs.Division.{degree, round}
-use Rattle.polynomials.specs.Bounds.{Bounds, Bounded, within, degree-passed, terms-passed, and-then, bounded-round, bounded-remainder}
-use Rattle.polynomials.specs.laws.Bounded.{round-formed}
+use Rattle.polynomials.specs.Division.{degree}
+use Rattle.polynomials.specs.Bounds.{Bounds, Bounded, within, and-then, bounded-round, bounded-remainder}
 
 module _ (s : Bounds) (p k d : ℕ) (T R : Poly) where
   abbrev by-test : ℕ → Bool → Bounded

@@ -2,7 +2,7 @@
 use mathlib.Core.Path.{_≡_, refl, sym, ap, ap₂, subst, _∙_}
 use mathlib.Core.Bool.{Bool, true, false}
 use mathlib.Core.List.{List, [], _∷_, _++_, map, reverse}
-use Prim.Native.Nat.{ℕ, zero, suc, _+_, _-_, _≤_, _<_}
+use Prim.Native.Nat.{ℕ, zero, suc, _+_, _-_, _≤_}
 use native.Mathlib.Omega.{arith}
 use lib.Dec.{leb}
 use lib.ListN.{length, getD, take, drop, length-drop, length-append}
@@ -13,10 +13,10 @@ use Rattle.polynomials.specs.Bounds.{Bounded, within, over, at-most}
 use Rattle.rules.specs.Room.{Limits, live, polynomials-size}
 use Rattle.tables.specs.declared.Reason.the-variants.{Room}
 use Rattle.rules.specs.Branch.{Branch}
-use Rattle.rules.specs.Step.{Stepped, next, stopped, within-room, after-division, remainder-by, divided, with-Q, state, replace}
+use Rattle.rules.specs.Step.{Stepped, stopped, within-room, after-division, remainder-by, divided, with-Q, state, replace}
 use Rattle.branches.specs.Words.{put-Q}
 use Rattle.branches.specs.Area.{Stored, size, with-open, put-into-P, put-into-Q, without-P, without-Q}
-use Rattle.representation.specs.Represent.{Sound, All-sound, Branch-sound, All-listed, branch-of, system-of, state-of}
+use Rattle.representation.specs.Represent.{Sound, All-sound, Branch-sound, All-listed, branch-of, system-of}
 use Rattle.representation.specs.laws.Steps.{chosen, if-fits, tested-room, within-room-fits, divide-state}
 use Rattle.representation.specs.laws.Replaced.{with-new, turned, turned-Q, turned-size, with-new-turned}
 use Rattle.representation.specs.laws.Lists.{append-sound}

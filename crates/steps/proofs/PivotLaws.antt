@@ -2,16 +2,15 @@
 use mathlib.Core.Path.{_≡_, refl, sym, ap, ap₂, subst, _∙_}
 use mathlib.Core.Logic.{_≢_}
 use mathlib.Core.Bool.{Bool, true, false, _||_}
-use mathlib.Core.List.{List, [], _∷_, map, reverse}
-use Prim.Native.Nat.{ℕ, zero, suc, _+_, _*_, _-_, _≤_, _<_}
+use mathlib.Core.List.{List, [], map, reverse}
+use Prim.Native.Nat.{ℕ, _+_, _-_, _≤_, _<_}
 use native.Mathlib.Omega.{arith}
 use lib.ListN.{length, getD, take, drop}
 use lib.Seq.{length-take-le}
 use Rattle.polynomials.specs.Poly.{Poly}
-use Rattle.polynomials.specs.Bounds.{Bounded}
-use Rattle.polynomials.specs.Division.{leader, initial, degree, coefficient}
+use Rattle.polynomials.specs.Division.{leader, initial, degree}
 use Rattle.polynomials.specs.Packed.{terms}
-use Rattle.polynomials.specs.Working.{Holds, Written}
+use Rattle.polynomials.specs.Working.{Written}
 use Rattle.polynomials.specs.laws.Answers.{written-holds}
 use Rattle.polynomials.specs.laws.Parts.{canonical-initial, at-leader}
 use Rattle.polynomials.specs.laws.Places.{places-terms}
@@ -23,9 +22,8 @@ use Rattle.rules.specs.Rule.{Rule, split, divide-or-close, rule-with}
 use Rattle.rules.specs.Room.{Limits}
 use Rattle.rules.specs.Step.{Stepped, apply, replace, after-division, remainder-by, within-room, divided, state}
 use Rattle.rules.specs.laws.Pivot.{OtherIs, other-is}
-use Rattle.rules.specs.laws.Lists.{At}
 use Rattle.records.specs.Records.{Rec}
-use Rattle.branches.specs.Words.{is-one, remove}
+use Rattle.branches.specs.Words.{is-one}
 use Rattle.branches.specs.Area.{Stored, Held, with-open, closed}
 use Rattle.representation.specs.Represent.{Sound, All-sound, branch-of, system-of}
 use Rattle.representation.specs.laws.Lists.{sound-at, each-remove}
@@ -36,9 +34,10 @@ use Rattle.representation.specs.laws.Steps.{chosen, chosen-at}
 use Rattle.representation.specs.laws.Replaced.{with-new, apply-close}
 use Rattle.steps.specs.declared.Division.{Division}
 use Rattle.steps.specs.Ready.{Ready}
-use Rattle.steps.specs.Pending.{Leads, Pivoted, Comes, Has-members, division-of, aimed, rest-of-step}
+use Rattle.steps.specs.Pending.{Leads, Pivoted, Comes, division-of, aimed, rest-of-step}
 use Rattle.steps.proofs.MadeLaws.{small-take}
 use Rattle.steps.proofs.RestLaws.{initial-few}
+use Rattle.steps.proofs.ChoiceLaws.{at-inside}
 
 -- ── loading ──
 -- The first n words of t are the pivot.
@@ -167,11 +166,6 @@ module _ (l : Limits) (p k i : ℕ) (b : Stored) (bs ss : List Stored) where
       has = (omega arith, λ x. at-inside (c .place) (c .poly) (b .P) (u .0));
       goes = divide-goes c (chosen-at b c (u .0)) (terms (take N t)) same;
     }
-      where
-        at-inside : (i : ℕ) (f : Poly) (fs : List (List ℕ)) → At i f (map terms fs) → i < length fs
-        at-inside i f [] a = absurd a
-        at-inside zero f (g ∷ fs) a = omega arith
-        at-inside (suc i) f (g ∷ fs) a = omega (arith, at-inside i f fs a)
 
     pub comes : (d : Division) → d ≡ D (other k i (branch-of b .P)) → Held v most (with-open (aimed (other k i (branch-of b .P)) i b) bs ss)
         → rule-with k (chosen b i) (branch-of b) ≡ divide-or-close k (chosen b i) (other k i (branch-of b .P))

@@ -1,6 +1,6 @@
 -- What the rules 3 to 5 make of the pivot, as the code finds it.
-use mathlib.Core.Path.{_≡_, refl, sym, ap, subst, _∙_}
-use mathlib.Core.Bool.{Bool, true, false, _||_}
+use mathlib.Core.Path.{_≡_, sym, subst}
+use mathlib.Core.Bool.{true, false}
 use mathlib.Core.List.{List, [], _∷_}
 use Prim.Native.Nat.{ℕ, _/_, min}
 use native.Mathlib.Omega.{arith}
@@ -10,7 +10,6 @@ use Rattle.records.specs.Records.{Rec}
 use Rattle.branches.specs.Area.{Stored, Area, Held, with-open, closed, capacity}
 use Rattle.representation.specs.Represent.{All-sound}
 use Rattle.survey.specs.Survey.{All-hold, other-place}
-use Rattle.survey.specs.declared.Other.{Other}
 use Rattle.survey.specs.declared.Other.the-variants.{None, At}
 use Rattle.steps.specs.declared.Division.{Division}
 use Rattle.steps.specs.Pending.{division-of, aimed}
@@ -38,7 +37,3 @@ module _ (k d n m i : ℕ) (b : Stored) (bs ss : List Stored) (v : List Rec) (mo
 pub all-hold : (p : ℕ) (fs : List (List ℕ)) → All-sound p fs → All-hold p fs
 all-hold p [] h = tt
 all-hold p (f ∷ fs) h = (h .0 .holds, all-hold p fs (h .1))
-
-pub neither : (x y : Bool) → (x || y) ≡ false → (x ≡ false) × (y ≡ false)
-neither true y e = let z : _≡_ {A = ℕ} 0 1 = cc in absurd (omega arith)
-neither false y e = (refl, e)

@@ -3,7 +3,7 @@ use mathlib.Core.Path.{_≡_, refl, sym, ap, subst, _∙_}
 use mathlib.Core.Logic.{_≢_}
 use mathlib.Core.Bool.{Bool, true, false}
 use mathlib.Core.List.{List, [], _∷_}
-use Prim.Native.Nat.{ℕ, _+_, _*_, _-_, _/_, _%_, _≤_, _<_}
+use Prim.Native.Nat.{ℕ, _+_, _*_, _-_, _/_, _≤_, _<_}
 use native.Mathlib.Omega.{arith}
 use lib.Dec.{eqb}
 use borrow.Author.Tests.{eqb-true, eqb-false}
@@ -18,7 +18,7 @@ use Rattle.polynomials.specs.laws.Degree.{all-degree}
 use Rattle.polynomials.specs.laws.Free.{Free}
 use Rattle.polynomials.specs.laws.Places.{Places, places-terms, all-map}
 use Rattle.polynomials.specs.laws.Parts.{canonical-rest, above-leader, falling, coefficient-of, coefficient-none, without-of, without-none}
-use Rattle.polynomials.specs.laws.Terms.{length-terms, terms-drop, words-of-terms}
+use Rattle.polynomials.specs.laws.Terms.{terms-drop, words-of-terms}
 
 module _ (p k d : ℕ) where
   abbrev Behind : Poly → Type 0

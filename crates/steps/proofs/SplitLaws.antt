@@ -1,17 +1,16 @@
 -- Rule 3 done, or stopped for want of room.
 use mathlib.Core.Path.{_≡_, refl, sym, ap, subst, _∙_}
 use mathlib.Core.Logic.{_≢_}
-use mathlib.Core.Bool.{Bool, true, false, _||_}
+use mathlib.Core.Bool.{Bool, true, false}
 use mathlib.Core.List.{List, [], _∷_, map, reverse}
-use Prim.Native.Nat.{ℕ, _+_, _-_, _≤_}
+use Prim.Native.Nat.{ℕ}
 use native.Mathlib.Omega.{arith}
-use lib.Dec.{leb}
-use lib.ListN.{length, getD}
+use lib.ListN.{getD}
 use Rattle.residues.specs.Prime.{Prime}
 use Rattle.polynomials.specs.Poly.{monic}
-use Rattle.polynomials.specs.Division.{leader, initial, rest}
+use Rattle.polynomials.specs.Division.{initial, rest}
 use Rattle.polynomials.specs.Packed.{terms}
-use Rattle.polynomials.specs.laws.Parts.{canonical-rest, initial-nonzero}
+use Rattle.polynomials.specs.laws.Parts.{canonical-rest}
 use Rattle.polynomials.specs.laws.Places.{places-terms}
 use Rattle.tables.specs.declared.Reason.the-variants.{Room}
 use Rattle.rules.specs.Rule.{Rule, split, rule-with}
@@ -19,7 +18,7 @@ use Rattle.rules.specs.Step.{Stepped, next, stopped, apply}
 use Rattle.rules.specs.Writable.{Each}
 use Rattle.records.specs.Records.{Rec}
 use Rattle.branches.specs.Words.{put-P, is-zero, remove}
-use Rattle.branches.specs.Area.{Stored, Area, Held, Leaves, size, with-open, split-area}
+use Rattle.branches.specs.Area.{Stored, Area, Held, Leaves, with-open, split-area}
 use Rattle.representation.specs.Represent.{Sound, branch-of, system-of, state-of}
 use Rattle.representation.specs.laws.Lists.{sound-at, each-remove, each-put-P}
 use Rattle.representation.specs.laws.Sounds.{split-area-sound}

@@ -2,14 +2,13 @@
 -- `left` of Q (rule 5).
 use mathlib.Core.Path.{_≡_}
 use mathlib.Core.Bool.{Bool, true, false}
-use mathlib.Core.List.{List, [], _∷_, map, reverse}
+use mathlib.Core.List.{List, [], map, reverse}
 use Prim.Native.Nat.{ℕ, zero, suc, _+_, _-_, _≤_, _<_}
 use lib.ListN.{length, getD, take, drop}
 use Rattle.polynomials.specs.Poly.{Poly}
 use Rattle.polynomials.specs.Packed.{terms}
 use Rattle.polynomials.specs.Division.{degree, leader, coefficient}
 use Rattle.polynomials.specs.Working.{Holds}
-use Rattle.polynomials.specs.Bounds.{Bounded}
 use Rattle.rules.specs.Branch.{Found, none, found}
 use Rattle.rules.specs.Room.{Limits}
 use Rattle.rules.specs.Step.{Stepped, next, stopped, within-room, after-division, remainder-by, divided, state, replace}

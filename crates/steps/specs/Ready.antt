@@ -1,8 +1,7 @@
 -- What holds of the state in the work area between two steps of the run.
-use mathlib.Core.Path.{_≡_}
 use mathlib.Core.Logic.{_≢_}
-use mathlib.Core.List.{List, [], _∷_, map, reverse}
-use Prim.Native.Nat.{ℕ, _-_, _≤_, _<_}
+use mathlib.Core.List.{List, [], _∷_}
+use Prim.Native.Nat.{ℕ, _-_, _<_}
 use Rattle.residues.specs.Prime.{Prime}
 use Rattle.polynomials.specs.Bounds.{standard, at-most}
 use Rattle.rules.specs.Room.{Limits}

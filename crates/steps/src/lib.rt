@@ -10,7 +10,7 @@ ghost use Rattle.polynomials.specs.Packed.{terms};
 ghost use Rattle.polynomials.specs.Working.{Holds};
 ghost use Rattle.records.specs.Records.{view};
 ghost use Rattle.branches.specs.Words.{is-one};
-ghost use Rattle.branches.specs.Area.{Stored, Area, Held, Leaves, Opened, capacity, with-open, split-area};
+ghost use Rattle.branches.specs.Area.{Stored, Held, Leaves, Opened, capacity, with-open, split-area};
 ghost use Rattle.stored.specs.Stored.{Storable, member};
 ghost use Rattle.polynomials.specs.Division.{degree, leader, initial, rest};
 ghost use Rattle.rules.specs.Branch.{other};

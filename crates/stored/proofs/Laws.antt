@@ -90,11 +90,11 @@ pub skip-turn : (v : List Rec) (i left : ℕ) → 0 < left → skip-to v i left 
 skip-turn v i zero h = absurd (not-suc-le-zero h)
 skip-turn v i (suc k) h = ap (skip-to v (i + 1 + size-at v i)) {x = k} {y = suc k - 1} (omega arith)
 
-polys-turn : (v : List Rec) (i left : ℕ) → 0 < left → polys-at v i left ≡ words-at v i ∷ polys-at v (i + 1 + size-at v i) (left - 1)
+pub polys-turn : (v : List Rec) (i left : ℕ) → 0 < left → polys-at v i left ≡ words-at v i ∷ polys-at v (i + 1 + size-at v i) (left - 1)
 polys-turn v i zero h = absurd (not-suc-le-zero h)
 polys-turn v i (suc k) h = ap (λ (j : ℕ). words-at v i ∷ polys-at v (i + 1 + size-at v i) j) {x = k} {y = suc k - 1} (omega arith)
 
-skip-le : (v : List Rec) (i k : ℕ) → i ≤ skip-to v i k
+pub skip-le : (v : List Rec) (i k : ℕ) → i ≤ skip-to v i k
 skip-le v i zero = omega arith
 skip-le v i (suc k) = omega (arith, skip-le v (i + 1 + size-at v i) k)
 

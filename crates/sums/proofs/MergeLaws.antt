@@ -22,7 +22,7 @@ use Rattle.polynomials.specs.Working.{Pairs, Written, Forms}
 use Rattle.polynomials.specs.laws.Order.{compare-is}
 use Rattle.polynomials.specs.laws.Canonical.{under-first}
 use Rattle.polynomials.specs.laws.Merge.{Below, below-first, below-trans, multiple-left, multiple-right, multiple-both, multiple-zeros, keep-none, keep-some, scaled, monic-scaled}
-use Rattle.polynomials.specs.laws.Packed.{order-bytes, join-bytes, length-bytes}
+use Rattle.polynomials.specs.laws.Packed.{order-bytes, join-bytes}
 use Rattle.polynomials.specs.laws.Places.{places-terms}
 use Rattle.polynomials.specs.laws.Terms.{terms-at, terms-push, terms-append, words-of-terms}
 

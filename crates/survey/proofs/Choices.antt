@@ -1,6 +1,6 @@
 -- The rule or the pivot, by what the survey finds.
 use mathlib.Core.Path.{_≡_, refl, sym, ap, ap₂, _∙_}
-use mathlib.Core.Bool.{Bool, true, false, _||_}
+use mathlib.Core.Bool.{Bool, true, false, _||_, or-true}
 use mathlib.Core.List.{List, [], _∷_, map}
 use Prim.Native.Nat.{ℕ, suc, _-_, _≤_, _<_}
 use native.Mathlib.Omega.{arith}
@@ -16,10 +16,6 @@ use Rattle.survey.specs.Survey.{choice, choice-of-P, pivot-place}
 
 abbrev by : Bool → List Poly → Choice
 by t fs = elim t [ true ↦ Drop | false ↦ choice-of-P fs ]
-
-or-true : (t : Bool) → (t || true) ≡ true
-or-true true = refl
-or-true false = refl
 
 pub choice-one : (b : Branch) → some-one (b .P) ≡ true → choice b ≡ Drop
 unfolding choice

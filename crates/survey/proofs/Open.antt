@@ -7,12 +7,9 @@ use lib.ListN.{length, getD, length-append}
 use lib.Seq.{getD-at}
 use Rattle.records.specs.Records.{Rec, mk, nul}
 use Rattle.stored.specs.Stored.{polys-records, skip-to, polys-at}
-use Rattle.stored.specs.laws.Stored.{All-pairs, skip-to-polys-records, polys-at-polys-records}
+use Rattle.stored.specs.laws.Stored.{skip-to-polys-records, polys-at-polys-records}
 use Rattle.branches.specs.Area.{Stored, Held, All-storable, stack, systems-records, with-open}
-
-all-pairs : (fs : List (List ℕ)) → All-storable fs → All-pairs fs
-all-pairs [] h = h
-all-pairs (f ∷ fs) h = (h .0 .pairs, all-pairs fs (h .1))
+use Rattle.branches.proofs.AreaLaws.{all-pairs}
 
 -- Records in parts: a branch's head behind those of pre, then P and Q.
 module _ (v pre : List Rec) (own : Rec) (P Q : List (List ℕ)) (post : List Rec) (e : v ≡ pre ++ (own ∷ (polys-records P ++ (polys-records Q ++ post)))) where

@@ -11,7 +11,7 @@ use lib.ListN.{length, take, drop, getD}
 use lib.Seq.{drop-cons}
 use Rattle.records.specs.Records.{Rec, nul}
 use Rattle.stored.specs.Stored.{size-at, pairs-of, words-at, polys-at}
-use Rattle.stored.proofs.Laws.{length-words-at}
+use Rattle.stored.proofs.Laws.{length-words-at, polys-turn}
 use Rattle.polynomials.specs.Poly.{Poly}
 use Rattle.polynomials.specs.Canonical.{Canonical}
 use Rattle.polynomials.specs.Division.{degree, degrees, highest, leader}
@@ -24,10 +24,6 @@ use Rattle.rules.specs.Branch.{is-zero}
 use Rattle.survey.specs.Survey.{All-hold}
 
 -- ── walking ──
-pub polys-turn : (v : List Rec) (i left : ℕ) → 0 < left → polys-at v i left ≡ words-at v i ∷ polys-at v (i + 1 + size-at v i) (left - 1)
-polys-turn v i zero h = absurd (not-suc-le-zero h)
-polys-turn v i (suc k) h = ap (λ (j : ℕ). words-at v i ∷ polys-at v (i + 1 + size-at v i) j) {x = k} {y = suc k - 1} (omega arith)
-
 pub all-hold-turn : (p : ℕ) (v : List Rec) (i left : ℕ) → 0 < left → All-hold p (polys-at v i left)
     → Holds p (words-at v i) × All-hold p (polys-at v (i + 1 + size-at v i) (left - 1))
 all-hold-turn p v i left h u = subst (λ (ss : List (List ℕ)). All-hold p ss) (polys-turn v i left h) u

@@ -1,13 +1,10 @@
 -- What the survey of an open branch finds: rule 1 or 2, or the pivot; and the other polynomial of rule 4.
-use mathlib.Core.Bool.{Bool, true, false, _||_}
-use mathlib.Core.List.{List, [], _∷_, map}
-use Prim.Native.Nat.{ℕ, _-_, _<_}
-use lib.ListN.{getD}
+use mathlib.Core.Bool.{true, false, _||_}
+use mathlib.Core.List.{List, [], _∷_}
+use Prim.Native.Nat.{ℕ, _-_}
 use Rattle.polynomials.specs.Poly.{Poly}
-use Rattle.polynomials.specs.Packed.{terms}
 use Rattle.polynomials.specs.Working.{Holds}
 use Rattle.rules.specs.Branch.{Branch, Found, none, found, some-one, some-zero, highest-leader, pivot}
-use Rattle.branches.specs.Area.{Stored}
 use Rattle.survey.specs.declared.Choice.{Choice}
 use Rattle.survey.specs.declared.Choice.the-variants.{Drop, List as Lists, Pivot}
 use Rattle.survey.specs.declared.Other.{Other}

@@ -2,7 +2,6 @@
 ghost use mathlib.Core.Path.{_≡_};
 ghost use mathlib.Core.List.{List, map};
 ghost use Prim.Native.Nat.{ℕ, _+_, _≤_, _<_};
-ghost use lib.ListN.{length};
 ghost use Rattle.polynomials.specs.Packed.{terms};
 ghost use Rattle.rules.specs.Branch.{is-one, some-one, some-zero, highest-leader, other};
 ghost use Rattle.records.specs.Records.{room, view};
@@ -110,7 +109,7 @@ fn highest_leader(w: &[u32], at: usize, k: usize) -> u32
     best
 }
 
-// The rank of the polynomial at record i as a pivot in v(v+1).
+// The rank of the polynomial at record i as a pivot in the variable at position v.
 fn rank_at(w: &[u32], i: usize, v: u32) -> u64
     requires { ⌜ (i < room (now w)) × (i + 1 + size-at (view (now w)) i ≤ room (now w)) × (v < 8) ⌝ }
     requires { ⌜ ((p : ℕ) × Holds p (words-at (view (now w)) i)) ⌝ }
@@ -123,7 +122,7 @@ fn rank_at(w: &[u32], i: usize, v: u32) -> u64
     512 * degree + records::get0(w, i) as u64
 }
 
-// The place of the pivot in v(v+1) among the k polynomials from record `at` on.
+// The place of the pivot in the variable at position v among the k polynomials from record `at` on.
 fn pivot_place(w: &[u32], at: usize, k: usize, v: u32) -> usize
     requires { ⌜ (skip-to (view (now w)) at k ≤ room (now w)) × (v < 8) ⌝ }
     requires { ⌜ ((p : ℕ) × All-hold p (polys-at (view (now w)) at k)) ⌝ }
@@ -146,7 +145,7 @@ fn pivot_place(w: &[u32], at: usize, k: usize, v: u32) -> usize
     place
 }
 
-// The place of the earliest polynomial led by v(v+1) other than the one at `place`, among the k from record `at` on.
+// The place of the earliest polynomial led by the variable at position v other than the one at `place`, among the k from record `at` on.
 fn other_from(w: &[u32], at: usize, k: usize, v: u32, place: usize) -> Other
     requires { ⌜ (skip-to (view (now w)) at k ≤ room (now w)) × (v < 8) ⌝ }
     requires { ⌜ ((p : ℕ) × All-hold p (polys-at (view (now w)) at k)) ⌝ }

@@ -1,23 +1,15 @@
--- Laws about lines and counts.
+-- A job's line, by its kind.
 use mathlib.Core.Path.{_≡_, refl, sym, _∙_, ap}
 use mathlib.Core.List.{List}
-use Prim.Native.Nat.{ℕ, zero, suc, _≤_}
-use lib.ListN.{length, take}
-use lib.Seq.{length-take-le}
+use Prim.Native.Nat.{ℕ, zero, suc}
 use Rattle.tables.specs.declared.Reading.{Reading}
 use Rattle.tables.specs.declared.Trial.{Trial}
 use Rattle.tables.specs.declared.Placing.{Placing}
 use Rattle.tables.specs.Read.{read-table}
 use Rattle.tables.specs.Solve.{reading, trial, placing, try-input, try-systems}
-use Rattle.table_jobs.specs.declared.Line.{Line}
-use Rattle.table_jobs.specs.declared.input.Words.{Words}
-use Rattle.table_jobs.specs.declared.input.Words.the-variants.{First}
-use Rattle.table_jobs.specs.Line.{read-line, trial-line, place-line, line}
-use Rattle.table_jobs.specs.Input.{Within}
-
--- Lines of one value are equal if their outcomes are.
-pub same-line : {n m : ℕ} (v : ℕ) → n ≡ m → _≡_ {A = Line} (record { outcome = n; value = v }) (record { outcome = m; value = v })
-same-line v e = ap (λ (n : ℕ). record { outcome = n; value = v }) e
+use Rattle.lines.specs.declared.Line.{Line}
+use Rattle.lines.specs.Line.{read-line, trial-line, place-line}
+use Rattle.table_jobs.specs.Line.{line}
 
 module _ {l : Line} (k : ℕ) (w x : List ℕ) where
   pub line-of-reading : {r : Reading} → k ≡ 0 → r ≡ reading (read-table w) → l ≡ read-line (r .outcome) → l ≡ line k w x
@@ -37,10 +29,3 @@ list-line (suc (suc k)) w x n m = refl
 
 pub line-of-placing : {l : Line} (k : ℕ) (w x : List ℕ) {r : Placing} → (k ≡ 0 → ⊥) → (k ≡ 1 → ⊥) → r ≡ placing (try-systems w x) → l ≡ place-line (r .outcome) → l ≡ line k w x
 line-of-placing k w x n m e f = f ∙ ap (λ (r : Placing). place-line (r .outcome)) e ∙ list-line k w x n m
-
--- The words that were counted lie within the buffer.
-pub within : {r : Words} {n : ℕ} (xs : List ℕ) → Within r xs → r ≡ First n → n ≤ length xs
-within xs h e = rw e at h
-
-pub within-take : {r : Words} {n : ℕ} (xs : List ℕ) → Within r xs → r ≡ First n → n ≡ length (take n xs)
-within-take {n = n} xs h e = sym (length-take-le n xs (within xs h e))

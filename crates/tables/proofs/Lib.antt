@@ -1,3 +1,1 @@
-pub mod PointLaws
 pub mod ReadLaws
-pub mod ListLaws

@@ -1,19 +1,14 @@
 -- What the functions that walk a table's chains say of it.
 use mathlib.Core.Path.{_≡_}
-use mathlib.Core.Bool.{Bool, true, false}
+use mathlib.Core.Bool.{true}
 use mathlib.Core.List.{List}
 use Prim.Native.Nat.{ℕ, zero, suc, _≤_}
-use lib.ListN.{length}
 use Rattle.residues.specs.Prime.{is-modulus}
-use Rattle.polynomials.specs.Poly.{Poly}
 use Rattle.polynomials.specs.Packed.{bytes}
 use Rattle.tables.specs.declared.words.Next.{Next}
 use Rattle.tables.specs.declared.words.Next.the-variants.{End, To, Astray}
-use Rattle.tables.specs.declared.list.Counted.{Counted}
-use Rattle.tables.specs.declared.list.Counted.the-variants.{Systems, Refused}
 use Rattle.tables.specs.Words.{is-whole, Followed, end, to, astray}
-use Rattle.tables.specs.Read.{Read, good, refused, Before, first, after, System}
-use Rattle.tables.specs.Solve.{all-zero, none-zero}
+use Rattle.tables.specs.Read.{Read, good, Before, first, after}
 
 -- The header was accepted: whole records, a prime, at most eight variables.
 pub record Readable (w : List ℕ) (p n : ℕ) : Type 0 where
@@ -35,12 +30,3 @@ next astray = Astray
 abbrev pub before : ℕ → ℕ → Before
 before zero last = first
 before (suc m) last = after (bytes 8 last)
-
-abbrev pub counted : Read (List System) → Counted
-counted (good ss) = Systems (length ss)
-counted (refused why at) = Refused why at
-
--- All are zero, or none is.
-abbrev pub all-match : ℕ → List ℕ → Bool → List Poly → Bool
-all-match p x true fs = all-zero p x fs
-all-match p x false fs = none-zero p x fs

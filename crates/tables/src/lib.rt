@@ -1,9 +1,7 @@
-// Term tables: the record format, reading with its refusals, and a point against a table and against a list.
+// Term tables: the record format, and reading with its refusals.
 //
 // A table is a lent run of 32-bit words in records of four, numbered from 0. Chains run by index to higher records; index 0 ends one.
 
-pub mod list;
-pub mod point;
 pub mod read;
 pub mod words;
 

@@ -20,6 +20,14 @@ pub fn word(table: &[u32], i: usize, j: usize) -> u32
     table[4 * i + j]
 }
 
+// Word j of record i, as an index.
+pub fn index(table: &[u32], i: usize, j: usize) -> usize
+    requires { ⌜ (i < records (now table)) × (j < 4) ⌝ }
+    ensures { λ r. ⌜ r ≡ word (now (table .entry)) i j ⌝ }
+{
+    word(table, i, j) as usize
+}
+
 // The index i, which record `at` holds, followed.
 pub fn follow(table: &[u32], at: usize, i: u32) -> Next
     ensures { λ r. ⌜ r ≡ next (follow (now (table .entry)) at i) ⌝ }

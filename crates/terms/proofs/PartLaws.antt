@@ -17,6 +17,7 @@ use Rattle.polynomials.specs.laws.Terms.{length-terms, terms-append, terms-drop
 use Rattle.polynomials.specs.laws.Places.{Places, all-map, places-terms}
 use Rattle.polynomials.specs.laws.Parts.{above-leader, leader-places, leader-first, falling, degree-rest, coefficient-parted, without-parted, length-coefficient, coefficient-append, coefficient-of, coefficient-off, cleared, shift-append}
 use Rattle.polynomials.specs.laws.Degree.{all-degree, degree-at-most}
+use Rattle.polynomials.specs.laws.Product.{canonical-drop}
 use Rattle.polynomials.specs.laws.Free.{Free}
 
 -- ── a power taken out of a monomial ──
@@ -92,11 +93,6 @@ all-at P s i e h u = subst (All P) (sym (terms-drop i s e) ∙ terms-at s i h) (
 
 pub all-at-taken : (P : Exponents → Type 0) (s : List ℕ) (n i : ℕ) → i % 2 ≡ 0 → i + 1 < n → n ≤ length s → All P (terms (take n s)) → P (bytes 8 (getD s (i + 1) 0))
 all-at-taken P s n i e h l u = subst (λ w. P (bytes 8 w)) (getD-take n s (i + 1) 0 h) (all-at P (take n s) i e (omega (arith, length-take-le n s l)) u)
-
-canonical-drop : (p n : ℕ) (f : Poly) → Canonical p f → Canonical p (drop n f)
-canonical-drop p zero f c = c
-canonical-drop p (suc n) [] c = tt
-canonical-drop p (suc n) (t ∷ f) c = canonical-drop p n f (c .3)
 
 -- A canonical polynomial, whose leading variable is v(k+1).
 abbrev pub Led : ℕ → List ℕ → Type 0

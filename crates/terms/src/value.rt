@@ -5,7 +5,6 @@ ghost use Rattle.polynomials.specs.Value.{monomial-valueℕ, value-modulo, Poin
 ghost use Rattle.polynomials.specs.Packed.{terms, bytes};
 ghost use Rattle.polynomials.specs.Canonical.{Canonical};
 ghost use Rattle.polynomials.specs.Working.{Pairs};
-use crate::monomial;
 
 // The value of the term of coefficient c and monomial m.
 pub fn term_value(p: u64, c: u64, m: u64, point: &[u32]) -> u64

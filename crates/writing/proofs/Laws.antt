@@ -6,13 +6,14 @@ use native.Mathlib.Omega.{arith}
 use lib.ListN.{length, take, drop, getD, length-drop}
 use lib.Seq.{paste, drop-cons, length-take-le, take-at, drop-at}
 use Rattle.polynomials.specs.Poly.{Poly}
-use Rattle.polynomials.specs.Packed.{bytes, exponents, term, terms}
-use Rattle.polynomials.specs.laws.Packed.{word, word-bytes, length-bytes, bytes-words}
+use Rattle.polynomials.specs.Packed.{bytes, word, exponents, term, terms}
+use Rattle.polynomials.specs.laws.Packed.{word-bytes, length-bytes, bytes-words}
 use Rattle.rules.specs.Room.{polynomials-size}
 use Rattle.rules.specs.Written.{index-of, terms-words, heads-words}
 use Rattle.rules.specs.laws.Lengths.{length-terms, length-heads}
 use Rattle.records.specs.Records.{Rec, nul}
 use Rattle.stored.specs.Stored.{size-at, pairs-of, words-at, skip-to, polys-at}
+use Rattle.stored.proofs.Laws.{skip-le}
 use Rattle.writing.proofs.Over.{over, over-nil, paste-over, over-behind, record-behind}
 
 -- A monomial's two words.
@@ -87,10 +88,6 @@ polys-at-turn v i k k' e = ap (polys-at v i) e
 pub skip-to-turn : (v : List Rec) (i k k' : ℕ) → k ≡ suc k' → skip-to v i k ≡ skip-to v (i + 1 + size-at v i) k'
 skip-to-turn v i k k' e = ap (skip-to v i) e
 
-pub skip-to-le : (v : List Rec) (i k : ℕ) → i ≤ skip-to v i k
-skip-to-le v i zero = omega arith
-skip-to-le v i (suc k) = omega (arith, skip-to-le v (i + 1 + size-at v i) k)
-
 pub length-polys-at : (v : List Rec) (i k : ℕ) → length (map terms (polys-at v i k)) ≡ k
 length-polys-at v i zero = refl
 length-polys-at v i (suc k) = ap suc (length-polys-at v (i + 1 + size-at v i) k)
@@ -101,7 +98,7 @@ unfolding polynomials-size
 size-polys-at v i zero h = omega arith
 size-polys-at v i (suc k) h =
     let j : ℕ = i + 1 + size-at v i in
-    omega (arith, size-polys-at v j k h, length-words-terms v i (omega (arith, skip-to-le v j k)))
+    omega (arith, size-polys-at v j k h, length-words-terms v i (omega (arith, skip-le v j k)))
 
 -- A head and its terms written, then the heads behind them.
 pub heads-turn : (v : List Rec) (out mid out' : List ℕ) (p p' i k k' n first next : ℕ)

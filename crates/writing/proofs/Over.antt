@@ -3,7 +3,7 @@ use mathlib.Core.Path.{_≡_, refl, sym, ap, _∙_}
 use mathlib.Core.List.{List, [], _∷_, _++_, append-assoc}
 use Prim.Native.Nat.{ℕ, suc, _+_, _*_, _≤_}
 use native.Mathlib.Omega.{arith}
-use lib.ListN.{length, take, drop, set, length-append, length-drop, take-append-drop}
+use lib.ListN.{length, take, drop, set, length-append, take-append-drop}
 use lib.Seq.{paste, sets-eq, take-all, length-take-le, take-at, drop-at, drop-append-add, drop-drop, take-append-le, take-take}
 
 -- d with s in the places from `at` on.
@@ -20,17 +20,6 @@ unfolding over
 over-nil d at =
     let same : at + 0 ≡ at = omega arith in
     ap (λ (k : ℕ). take at d ++ drop k d) same ∙ take-append-drop at d
-
-pub length-over : (d : List ℕ) (at : ℕ) (s : List ℕ) → at + length s ≤ length d → length (over d at s) ≡ length d
-unfolding over
-length-over d at s h =
-    omega (
-      arith,
-      length-append (take at d) (s ++ drop (at + length s) d),
-      length-append s (drop (at + length s) d),
-      length-take-le at d (omega arith),
-      length-drop (at + length s) d,
-    )
 
 -- t right behind s.
 pub over-behind : (d : List ℕ) (at : ℕ) (s : List ℕ) (j : ℕ) (t : List ℕ) → at + length s ≡ j → j ≤ length d → over (over d at s) j t ≡ over d at (s ++ t)

@@ -1,7 +1,7 @@
 -- Where the parts of a stored system lie, and what writing it leaves.
 use mathlib.Core.Path.{_≡_, refl, sym, ap, _∙_}
 use mathlib.Core.List.{List, [], _∷_, _++_, map, append-assoc}
-use Prim.Native.Nat.{ℕ, suc, _+_, _*_, _/_, _≤_, _<_}
+use Prim.Native.Nat.{ℕ, suc, _+_, _*_, _≤_, _<_}
 use native.Mathlib.Omega.{arith}
 use lib.ListN.{length, getD, length-append, length-map}
 use lib.Seq.{paste, getD-at}
@@ -11,30 +11,15 @@ use Rattle.rules.specs.Room.{polynomials-size, systems-size}
 use Rattle.rules.specs.Written.{index-of, heads-words}
 use Rattle.rules.specs.laws.Lengths.{length-heads}
 use Rattle.records.specs.Records.{Rec, mk, nul}
-use Rattle.stored.specs.Stored.{poly-records, polys-records, skip-to, polys-at}
-use Rattle.stored.specs.laws.Stored.{length-poly-records, polys-records-append, skip-to-polys-records, polys-at-polys-records, All-pairs}
-use Rattle.branches.specs.Area.{Stored, branch-records, All-storable}
+use Rattle.stored.specs.Stored.{polys-records, skip-to, polys-at}
+use Rattle.stored.specs.laws.Stored.{polys-records-append, skip-to-polys-records, polys-at-polys-records}
+use Rattle.branches.specs.Area.{Stored, branch-records}
+use Rattle.branches.proofs.AreaLaws.{all-pairs}
 use Rattle.representation.specs.Represent.{system-of}
+use Rattle.representation.specs.laws.Sizes.{length-polys-records-terms}
 use Rattle.writing.specs.Listed.{Stored-at, system-words}
 use Rattle.writing.proofs.Over.{over, paste-over, over-behind, record-behind}
 use Rattle.writing.proofs.Laws.{index-is}
-
-length-terms-half : (s : List ℕ) → length (terms s) ≡ length s / 2
-unfolding terms
-length-terms-half [] = refl
-length-terms-half (c ∷ []) = refl
-length-terms-half (c ∷ (m ∷ s)) = let behind : length (terms s) ≡ length s / 2 = length-terms-half s in omega arith
-
--- Polynomials take as many records in a list as in the work area.
-pub size-polys : (ss : List (List ℕ)) → polynomials-size (map terms ss) ≡ length (polys-records ss)
-unfolding polynomials-size polys-records
-size-polys [] = refl
-size-polys (s ∷ ss) =
-    omega (arith, size-polys ss, length-append (poly-records s) (polys-records ss), length-poly-records s, length-terms-half s)
-
-all-pairs : (ss : List (List ℕ)) → All-storable ss → All-pairs ss
-all-pairs [] h = tt
-all-pairs (s ∷ ss) h = (h .0 .pairs, all-pairs ss (h .1))
 
 -- The records that a system takes.
 abbrev pub size-of : Stored → ℕ
@@ -53,8 +38,8 @@ length-branch-records s e =
     omega (
       arith,
       size-is s,
-      size-polys (s .Q),
-      size-polys (s .T),
+      length-polys-records-terms (s .Q),
+      length-polys-records-terms (s .T),
       length-append (polys-records (s .P)) (polys-records (s .Q) ++ polys-records (s .T)),
       length-append (polys-records (s .Q)) (polys-records (s .T)),
       ap length (no-records (s .P) e),
@@ -86,8 +71,8 @@ found v i s h =
     let joined : v ≡ front ++ (polys-records (s .Q ++ s .T) ++ h .behind) =
     both ∙ ap (λ (l : List Rec). front ++ (l ++ h .behind)) (sym (polys-records-append (s .Q) (s .T))) in
     let lf : length front ≡ i + 1 = omega (arith, length-append (h .before) (r ∷ []), h .starts) in
-    let pU : polynomials-size (map terms (s .Q)) ≡ length U = size-polys (s .Q) in
-    let pT : polynomials-size (map terms (s .T)) ≡ length T = size-polys (s .T) in
+    let pU : polynomials-size (map terms (s .Q)) ≡ length U = length-polys-records-terms (s .Q) in
+    let pT : polynomials-size (map terms (s .T)) ≡ length T = length-polys-records-terms (s .T) in
     let is = size-is s in
     let lUT : length (U ++ T) ≡ length U + length T = length-append U T in
     let lfU : length (front ++ U) ≡ i + 1 + polynomials-size (map terms (s .Q)) = omega (arith, length-append front U) in

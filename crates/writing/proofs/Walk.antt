@@ -14,6 +14,7 @@ use Rattle.rules.specs.laws.Lengths.{length-list}
 use Rattle.records.specs.Records.{Rec, mk, nul}
 use Rattle.branches.specs.Area.{Stored, Held, branch-records, systems-records, Branches-storable}
 use Rattle.representation.specs.Represent.{system-of, All-listed}
+use Rattle.representation.specs.laws.Sizes.{length-systems-records, systems-size-reverse}
 use Rattle.writing.specs.Listed.{listing-of, Stored-at, system-words}
 use Rattle.writing.proofs.Over.{over, over-nil, over-front, over-before, paste-over, record-behind}
 use Rattle.writing.proofs.Laws.{index-is}
@@ -22,24 +23,6 @@ use Rattle.writing.proofs.Systems.{size-of, length-branch-records, leng
 size-cons : (s : System) (ss : List System) → systems-size (s ∷ ss) ≡ systems-size (s ∷ []) + systems-size ss
 unfolding systems-size
 size-cons s ss = omega arith
-
-size-reverseAux : (ss ts : List System) → systems-size (reverseAux ss ts) ≡ systems-size ss + systems-size ts
-unfolding systems-size
-size-reverseAux [] ts = omega arith
-size-reverseAux (s ∷ ss) ts = omega (arith, size-reverseAux ss (s ∷ ts), size-cons s ts, size-cons s ss)
-
--- Systems take as many records in a list as in the work area.
-size-systems : (ss : List Stored) → All-listed ss → systems-size (map system-of ss) ≡ length (systems-records ss)
-unfolding systems-size systems-records
-size-systems [] h = refl
-size-systems (s ∷ ss) h =
-    omega (
-      arith,
-      size-cons (system-of s) (map system-of ss),
-      size-systems ss (h .1),
-      length-append (branch-records 0 s) (systems-records ss),
-      length-branch-records s (h .0),
-    )
 
 -- The systems `rest` lie from record i on and are still to be written; `done` is written in d from record `end` on.
 pub record Walk (v : List Rec) (most : ℕ) (ss : List Stored) (d out : List ℕ) (i end next : ℕ) (rest : List Stored) (done : List System) : Type 0 where
@@ -95,8 +78,8 @@ begins v cap most ss d top end h ec listed fits et ee =
     let front : List Rec = mk 0 1 (1 + 0 + length (h .free)) (length ss) ∷ h .free in
     let is : v ≡ front ++ (systems-records ss ++ h .beyond) = h .is in
     let at : top ≡ 1 + 0 + length (h .free) = et ∙ ap (λ (l : List Rec). getD l 0 nul .w2) is in
-    let sized = size-systems ss listed in
-    let same = size-reverseAux (map system-of ss) [] in
+    let sized = length-systems-records ss listed in
+    let same = systems-size-reverse (map system-of ss) in
     let held = h .fits in
     let room : end ≡ 1 + systems-size (map system-of ss) = omega arith in
     record {
@@ -162,7 +145,7 @@ turn v most ss d out i end next (s ∷ rest) done w h =
     let is : v ≡ w .before ++ (B ++ (R ++ w .beyond)) = w .is ∙ ap (λ (l : List Rec). w .before ++ l) (append-assoc B R (w .beyond)) in
     let sized = size-cons (system-of s) (map system-of rest) in
     let more = size-cons (system-of s) done in
-    let all = size-systems (s ∷ rest) (w .listed) in
+    let all = length-systems-records (s ∷ rest) (w .listed) in
     let room : end ≡ 1 + systems-size (map system-of (s ∷ rest)) = w .room in
     let fits = w .fits in
     record {

@@ -4,50 +4,12 @@
 //! that nothing leads to lie between them.
 
 use crate::{Job, LIST, READ, TABLE};
-use reference::field;
+use reference::jobs::{all_points, damage};
 use reference::poly::{Poly, TERMS};
+use reference::rng::Rng;
 
 /// The most terms that a long polynomial is made with.
 const LONG: u32 = 256;
-
-/// Numbers by the generator splitmix64.
-struct Rng(u64);
-
-impl Rng {
-    fn next(&mut self) -> u64 {
-        self.0 = self.0.wrapping_add(0x9e37_79b9_7f4a_7c15);
-        let z = (self.0 ^ (self.0 >> 30)).wrapping_mul(0xbf58_476d_1ce4_e5b9);
-        let z = (z ^ (z >> 27)).wrapping_mul(0x94d0_49bb_1331_11eb);
-        z ^ (z >> 31)
-    }
-
-    fn below(&mut self, n: u32) -> u32 {
-        (self.next() % n as u64) as u32
-    }
-
-    fn one_in(&mut self, n: u32) -> bool {
-        self.below(n) == 0
-    }
-
-    fn pick<T: Copy>(&mut self, from: &[T]) -> T {
-        from[self.below(from.len() as u32) as usize]
-    }
-
-    fn point(&mut self, p: u32, n: u32) -> Vec<u32> {
-        (0..n).map(|_| if self.one_in(6) { 0 } else { self.below(p) }).collect()
-    }
-
-    fn prime(&mut self) -> u32 {
-        if self.one_in(3) {
-            return self.pick(&[251, 257, 65537, 2147483629, 2147483647]);
-        }
-        if self.one_in(3) {
-            let from = self.below(2147483000);
-            return (from..).find(|&p| field::is_prime(p)).unwrap();
-        }
-        self.pick(&[2, 2, 3, 3, 5, 7, 11])
-    }
-}
 
 /// A chain that was made: its first record, what orders chains that may be put before it (the first term's monomial, the first head's
 /// leading variable), and its length.
@@ -213,51 +175,6 @@ impl Maker<'_> {
     }
 }
 
-/// Changes one word, or cuts or adds some.
-fn damage(rng: &mut Rng, words: &mut Vec<u32>) {
-    if rng.one_in(20) {
-        let len = words.len() as u32 + 5 - rng.below(10).min(words.len() as u32);
-        words.resize(len as usize, 0);
-    }
-    if words.is_empty() {
-        return;
-    }
-    let (count, p) = (words.len() as u32 / 4, words[0]);
-    let i = rng.below(words.len() as u32) as usize;
-    let own = i as u32 / 4;
-    words[i] = match rng.below(10) {
-        0 => rng.pick(&[0, 1, 256, 65536, 1 << 24, 1 << 31, u32::MAX]),
-        1 => rng.pick(&[p, p.wrapping_sub(1), p.wrapping_add(1)]),
-        2 => rng.pick(&[count, count.wrapping_sub(1), own, own + 1]),
-        3 | 4 => rng.below(count + 1),
-        5 => words[i].wrapping_add(1),
-        6 => words[i].wrapping_sub(1),
-        7 => words[i] ^ 1 << rng.below(32),
-        8 => rng.pick(words),
-        _ => rng.next() as u32,
-    };
-}
-
-/// A point with the wrong count of numbers, or one that is no residue.
-fn no_point(rng: &mut Rng, p: u32, n: u32) -> Vec<u32> {
-    let mut point = rng.point(p, n);
-    match rng.below(3) {
-        0 => point.resize(rng.below(n) as usize, 0),
-        1 => point.resize(n as usize + 1 + rng.below(4) as usize, 0),
-        _ => point[rng.below(n) as usize] = rng.pick(&[p, p + 1, u32::MAX]),
-    }
-    point
-}
-
-/// Every point of a small field, none of a large one.
-fn all_points(p: u32, n: u32) -> Vec<Vec<u32>> {
-    let count = (p as u64).saturating_pow(n);
-    if count > 64 {
-        return Vec::new();
-    }
-    (0..count as u32).map(|i| (0..n).map(|k| i / p.pow(k) % p).collect()).collect()
-}
-
 /// The jobs of one random table or list: the point planted, others, none at all, and the same damaged.
 fn batch(rng: &mut Rng) -> Vec<Job> {
     let (p, n) = (rng.prime(), 1 + rng.below(8));
@@ -268,14 +185,14 @@ fn batch(rng: &mut Rng) -> Vec<Job> {
     let mut maker = Maker { rng, p, n, point: point.clone(), most, records, links, terms, triangles, heads };
     if kind == TABLE { maker.table() } else { maker.list() }
     let words = maker.words();
-    let mut points = all_points(p, n);
-    points.extend([point.clone(), rng.point(p, n), no_point(rng, p, n)]);
+    let mut points = all_points(p, n, 64);
+    points.extend([point.clone(), rng.point(p, n), rng.no_point(p, n)]);
     let mut jobs: Vec<Job> = points.into_iter().map(|point| Job { kind, table: words.clone(), point }).collect();
     jobs.push(Job { kind: READ, table: words.clone(), point: Vec::new() });
     for _ in 0..12 {
         let mut damaged = words.clone();
         (0..rng.pick(&[1, 1, 1, 2, 3])).for_each(|_| damage(rng, &mut damaged));
-        let point = if rng.one_in(8) { no_point(rng, p, n) } else { point.clone() };
+        let point = if rng.one_in(8) { rng.no_point(p, n) } else { point.clone() };
         jobs.push(Job { kind, table: damaged, point });
     }
     jobs

@@ -1,7 +1,7 @@
 -- What the tests of degrees say, place by place; the degrees of a polynomial that pairs of words hold.
 use mathlib.Core.Path.{_≡_, refl, sym, _∙_, ap, ap₂}
 use mathlib.Core.List.{List, [], _∷_}
-use mathlib.Core.Bool.{Bool, true, false, _||_}
+use mathlib.Core.Bool.{Bool, true, false, _||_, or-true}
 use Prim.Native.Nat.{ℕ, zero, suc, _+_, _≤_, _<_, max}
 use native.Mathlib.Omega.{arith}
 use borrow.Author.Tests.{lt-ltb, le-ltb, ltb-false}
@@ -14,11 +14,7 @@ use Rattle.polynomials.specs.Bounds.{at-most, over, some-over, degrees-o
 use Rattle.polynomials.specs.laws.Degree.{at-join}
 use Rattle.polynomials.specs.laws.Packed.{length-bytes, byte-small}
 
-or-true : (b : Bool) → b || true ≡ true
-or-true true = refl
-or-true false = refl
-
-neither : (a b : Bool) → a || b ≡ false → (a ≡ false) × (b ≡ false)
+pub neither : (a b : Bool) → a || b ≡ false → (a ≡ false) × (b ≡ false)
 neither true b h = (h, cc)
 neither false b h = (refl, h)
 

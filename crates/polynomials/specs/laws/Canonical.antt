@@ -1,16 +1,16 @@
 -- The operations give canonical polynomials, and two canonical polynomials with equal coefficients are the same list.
 use mathlib.Core.Path.{_≡_, refl, sym, _∙_, ap, ap₂, subst}
-use mathlib.Core.Logic.{_≢_, _⊎_, inl, inr}
-use mathlib.Core.List.{List, [], _∷_}
-use mathlib.Core.Bool.{Bool, true, false, not}
-use Prim.Native.Nat.{ℕ, zero, suc, _+_, _-_, _*_, _/_, _%_, _≤_, _<_, compare, Ordering, Ordering·lt, Ordering·eq, Ordering·gt, Fin}
+use mathlib.Core.Logic.{_≢_}
+use mathlib.Core.List.{[], _∷_}
+use mathlib.Core.Bool.{Bool, true, false}
+use Prim.Native.Nat.{ℕ, zero, suc, _+_, _-_, _*_, _%_, _≤_, _<_, compare, Ordering, Ordering·lt, Ordering·eq, Ordering·gt, Fin}
 use native.Mathlib.Nat.{mod-lt, mod-eq-of-lt}
 use native.Mathlib.Omega.{arith}
 use lib.Dec.{T, eqb, eqb→eq, eqb-refl}
 use lib.ListN.{getD, set}
 use Rattle.residues.specs.Field.{CommRing, cast}
-use Rattle.residues.specs.laws.Ring.{add-cancel, add-nil, nil-add, mul-one, mul-nil}
-use Rattle.residues.specs.laws.Residues.{Residues, residue, cast-residue, nil-is}
+use Rattle.residues.specs.laws.Ring.{add-cancel, add-nil, mul-one, mul-nil}
+use Rattle.residues.specs.laws.Residues.{Residues, cast-residue, nil-is}
 use Rattle.polynomials.specs.Poly.{Exponents, Term, Poly, order, join, keep, insert, add-multiple, sum, difference, product, monic, andThen}
 use Rattle.polynomials.specs.Canonical.{Under, Canonical}
 use Rattle.polynomials.specs.Division.{coefficient, without}

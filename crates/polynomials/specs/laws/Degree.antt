@@ -1,9 +1,9 @@
 -- A round of the division lowers the degree, so the remainder has a degree below the divisor's; degrees of products.
 use mathlib.Core.Path.{_≡_, refl, sym, _∙_, ap, ap₂, subst, fun-ext}
-use mathlib.Core.Logic.{_≢_, _⊎_, inl, inr}
-use mathlib.Core.List.{List, [], _∷_}
+use mathlib.Core.Logic.{_≢_}
+use mathlib.Core.List.{[], _∷_}
 use mathlib.Core.Bool.{Bool, true, false, not}
-use Prim.Native.Nat.{ℕ, zero, suc, _+_, _-_, _*_, _%_, _≤_, _<_, max, Ordering, Ordering·lt, Ordering·eq, Ordering·gt, Fin}
+use Prim.Native.Nat.{ℕ, zero, suc, _+_, _-_, _*_, _%_, _≤_, _<_, Ordering, Ordering·lt, Ordering·eq, Ordering·gt, Fin}
 use native.Mathlib.Nat.{zero-add, add-zero, le-max-left, le-max-right, sub-add-cancel, le-refl}
 use native.Mathlib.Decide.{decLt}
 use native.Mathlib.Omega.{arith}
@@ -12,7 +12,7 @@ use lib.ListN.{getD, set}
 use Rattle.residues.specs.Field.{CommRing, cast}
 use Rattle.residues.specs.laws.Ring.{ring-laws, add-nil, nil-add, mul-nil, add-neg}
 use Rattle.residues.specs.laws.Residues.{Residues, char}
-use Rattle.polynomials.specs.Poly.{Exponents, Term, Poly, order, join, keep, insert, add-multiple, sum, difference, product}
+use Rattle.polynomials.specs.Poly.{Exponents, Poly, order, join, keep, insert, add-multiple, product}
 use Rattle.polynomials.specs.Canonical.{Canonical, All}
 use Rattle.polynomials.specs.Division.{degree, coefficient, without, pure-power, shift, factor, round, remainder}
 use Rattle.polynomials.specs.Value.{weigh}

@@ -1,18 +1,17 @@
 -- The division: an identity in any ring that reads polynomials, and what it says of zeros at a point in any field that contains the prime field.
-use mathlib.Core.Path.{_≡_, refl, sym, _∙_, ap, ap₂, subst, fun-ext}
-use mathlib.Core.Logic.{_↔_, _≢_, _⊎_, inl, inr}
+use mathlib.Core.Path.{_≡_, refl, sym, _∙_, ap, ap₂}
+use mathlib.Core.Logic.{_↔_, _≢_}
 use mathlib.Core.List.{List, [], _∷_}
-use mathlib.Core.Bool.{Bool, true, false, not}
-use Prim.Native.Nat.{ℕ, zero, suc, _+_, _-_, _*_, _%_, _≤_, _<_, max}
-use native.Mathlib.Nat.{zero-add, add-zero}
-use lib.Dec.{T, eqb, leb, eqb→eq, leb→le}
+use mathlib.Core.Bool.{Bool, true, false}
+use Prim.Native.Nat.{ℕ, zero, suc, _≤_, _<_}
+use lib.Dec.{T, eqb, leb, eqb→eq}
 use lib.ListN.{getD, set}
 use Rattle.residues.specs.Prime.{Prime}
 use Rattle.residues.specs.Residue.{inverse}
 use Rattle.residues.specs.Field.{CommRing, Field, cast, pow}
 use Rattle.residues.specs.laws.Inverse.{inverse-ok}
 use Rattle.residues.specs.laws.Ring.{cast-one, cast-product, ring-laws, nil-mul, nil-add, add-nil, one-mul, mul-one, mul-nil, mul-comm, mul-zero, pow-nonzero, unit-nonzero}
-use Rattle.polynomials.specs.Poly.{Exponents, Term, Poly, join, add-multiple, sum, difference, product, monic}
+use Rattle.polynomials.specs.Poly.{Exponents, Term, Poly, join, sum, difference, product, monic}
 use Rattle.polynomials.specs.Division.{degree, coefficient, without, constant-one, power, factor, round, remainder, rounds, multiple}
 use Rattle.polynomials.specs.Value.{weigh, monomial-value, value}
 use Rattle.polynomials.specs.laws.Weigh.{monomial-nil, weigh-add-multiple, value-product, weigh-sum, weigh-difference}

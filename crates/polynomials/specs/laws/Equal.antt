@@ -1,7 +1,7 @@
 -- The test of equality is right: polynomials that pass it are the same list of terms; and words that hold the same polynomial are the same words.
 use mathlib.Core.Path.{_≡_, refl, ap, ap₂}
 use mathlib.Core.List.{List, [], _∷_}
-use mathlib.Core.Bool.{Bool, true, false, _&&_}
+use mathlib.Core.Bool.{Bool, true, false, _&&_, and-eq-true-iff}
 use Prim.Native.Nat.{ℕ, suc, _^_, _<_, Ordering, Ordering·lt, Ordering·eq, Ordering·gt}
 use native.Mathlib.Omega.{arith}
 use borrow.Author.Tests.{eqb-true, eq-eqb}
@@ -12,10 +12,6 @@ use Rattle.polynomials.specs.Packed.{term, terms}
 use Rattle.polynomials.specs.Working.{Pairs}
 use Rattle.polynomials.specs.laws.Order.{order-eq, order-refl}
 use Rattle.polynomials.specs.laws.Packed.{bytes-inj}
-
-both : (a b : Bool) → a && b ≡ true → (a ≡ true) × (b ≡ true)
-both true b h = (refl, h)
-both false b h = (h, cc)
 
 eq-is : (o : Ordering) → isEq o ≡ true → o ≡ Ordering·eq
 eq-is Ordering·lt h = cc
@@ -33,8 +29,8 @@ equal-eq [] [] h = refl
 equal-eq [] (u ∷ g) h = cc
 equal-eq (t ∷ f) [] h = cc
 equal-eq (t ∷ f) (u ∷ g) h =
-    let first = both (eqb (t .coef) (u .coef)) (isEq (order (t .exps) (u .exps)) && equal f g) h in
-    let behind = both (isEq (order (t .exps) (u .exps))) (equal f g) (first .1) in
+    let first = and-eq-true-iff (eqb (t .coef) (u .coef)) (isEq (order (t .exps) (u .exps)) && equal f g) .0 h in
+    let behind = and-eq-true-iff (isEq (order (t .exps) (u .exps))) (equal f g) .0 (first .1) in
     let coefs : t .coef ≡ u .coef = eqb-true (t .coef) (u .coef) (first .0) in
     let same : t .exps ≡ u .exps = order-eq (t .exps) (u .exps) (eq-is (order (t .exps) (u .exps)) (behind .0)) in
     ap₂ _∷_ (λ i. record { coef = coefs i; exps = same i }) (equal-eq f g (behind .1))

@@ -1,16 +1,16 @@
 -- A variable that stands in no operand stands in no result.
-use mathlib.Core.Path.{_≡_, refl, sym, _∙_, ap, subst}
+use mathlib.Core.Path.{_≡_, refl, ap}
 use mathlib.Core.Logic.{_≢_}
-use mathlib.Core.List.{List, [], _∷_}
+use mathlib.Core.List.{[], _∷_}
 use mathlib.Core.Bool.{Bool, true, false}
-use Prim.Native.Nat.{ℕ, zero, suc, _+_, _-_, _*_, _%_, _≤_, _<_}
+use Prim.Native.Nat.{ℕ, zero, suc, _-_}
 use native.Mathlib.Omega.{arith}
 use lib.Dec.{eqb, leb}
 use lib.ListN.{getD, set}
 use Rattle.residues.specs.Residue.{inverse}
-use Rattle.polynomials.specs.Poly.{Exponents, Term, Poly, join, add-multiple, difference, product, monic}
+use Rattle.polynomials.specs.Poly.{Exponents, Poly, join, add-multiple, difference, product, monic}
 use Rattle.polynomials.specs.Canonical.{All}
-use Rattle.polynomials.specs.Division.{degree, coefficient, without, pure-power, shift, factor, round, remainder}
+use Rattle.polynomials.specs.Division.{degree, coefficient, pure-power, shift, factor, round, remainder}
 use Rattle.polynomials.specs.laws.Degree.{at-join, all-add-multiple, all-product}
 
 -- v(j+1) does not stand in f.

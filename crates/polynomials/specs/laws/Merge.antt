@@ -1,9 +1,9 @@
 -- A multiple added to a canonical polynomial by walking both lists from the front: the equations that the code's loop follows.
 use mathlib.Core.Path.{_≡_, refl, sym, _∙_, ap, ap₂, subst}
 use mathlib.Core.Logic.{_≢_}
-use mathlib.Core.List.{List, [], _∷_}
+use mathlib.Core.List.{[], _∷_}
 use mathlib.Core.Bool.{Bool, true, false}
-use Prim.Native.Nat.{ℕ, zero, suc, _+_, _-_, _*_, _%_, _≤_, _<_, Ordering, Ordering·lt, Ordering·eq, Ordering·gt}
+use Prim.Native.Nat.{ℕ, zero, suc, _+_, _*_, _%_, _≤_, _<_, Ordering, Ordering·lt, Ordering·eq, Ordering·gt}
 use native.Mathlib.Nat.{zero-add, mul-zero, zero-mod, mod-eq-of-lt}
 use native.Mathlib.Omega.{arith}
 use lib.Dec.{T, eqb, eqb→eq, eqb-refl}
@@ -14,7 +14,7 @@ use Rattle.residues.specs.laws.Inverse.{mul-mod-r, inverse-ok, euclid}
 use Rattle.polynomials.specs.Poly.{Exponents, Term, Poly, order, join, keep, insert, add-multiple, monic}
 use Rattle.polynomials.specs.Canonical.{Under, Canonical, All}
 use Rattle.polynomials.specs.Packed.{bytes}
-use Rattle.polynomials.specs.laws.Order.{order-refl, order-eq, order-flip, order-trans, order-join, flip}
+use Rattle.polynomials.specs.laws.Order.{order-refl, order-flip, order-trans, order-join, flip}
 use Rattle.polynomials.specs.laws.Canonical.{under-insert}
 
 choose : Ordering → Poly → Poly → Poly → Poly

@@ -1,9 +1,9 @@
 -- The order of monomials is a strict total order, decided by `order`; products of monomials are a commutative monoid.
 use mathlib.Core.Path.{_≡_, refl, sym, _∙_, ap, ap₂, subst}
-use mathlib.Core.Logic.{_≢_, _⊎_, inl, inr}
-use mathlib.Core.List.{List, [], _∷_}
-use mathlib.Core.Bool.{Bool, true, false, not}
-use Prim.Native.Nat.{ℕ, zero, suc, _+_, _≤_, _<_, compare, Ordering, Ordering·lt, Ordering·eq, Ordering·gt}
+use mathlib.Core.Logic.{_⊎_, inl, inr}
+use mathlib.Core.List.{[], _∷_}
+use mathlib.Core.Bool.{not}
+use Prim.Native.Nat.{ℕ, _+_, _≤_, _<_, compare, Ordering, Ordering·lt, Ordering·eq, Ordering·gt}
 use native.Mathlib.Nat.{add-comm, add-assoc}
 use native.Mathlib.Omega.{arith}
 use lib.Arith.{lt-of-le-ne}

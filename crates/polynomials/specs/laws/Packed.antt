@@ -1,14 +1,14 @@
 -- Packed exponents: numbers compare as their bytes do, and sums of numbers have the sums of bytes where none passes 255.
 use mathlib.Core.Path.{_≡_, refl, sym, _∙_, ap, ap₂, subst}
-use mathlib.Core.List.{List, [], _∷_, _++_}
-use Prim.Native.Nat.{ℕ, zero, suc, _+_, _-_, _*_, _/_, _%_, _^_, _≤_, _<_, compare, Ordering, Ordering·lt, Ordering·eq, Ordering·gt}
+use mathlib.Core.List.{[], _∷_, _++_}
+use Prim.Native.Nat.{ℕ, zero, suc, _+_, _*_, _/_, _%_, _^_, _≤_, _<_, compare, Ordering, Ordering·lt, Ordering·eq, Ordering·gt}
 use native.Mathlib.Nat.{pow-suc, pow-succ', div-lt-iff-lt-mul, div-one, div-div-eq-div-mul}
 use native.Mathlib.Omega.{arith}
 use lib.Pow.{pow-add}
 use lib.ListN.{length, getD}
 use Rattle.polynomials.specs.Poly.{Exponents, order, join, andThen}
-use Rattle.polynomials.specs.Packed.{bytes, exponents, Fits}
-use Rattle.polynomials.specs.laws.Order.{Says, says, compare-is, order-refl}
+use Rattle.polynomials.specs.Packed.{bytes, exponents, Fits, word}
+use Rattle.polynomials.specs.laws.Order.{Says, says, compare-is}
 
 -- One byte more decides where the higher ones agree.
 says-bytes : (w v : ℕ) (o o′ : Ordering) → Says o (w / 256) (v / 256) → Says o′ (w % 256) (v % 256) → Says (andThen o o′) w v
@@ -82,10 +82,6 @@ unfolding exponents
 join-words a b c d f g = ap₂ _++_ (join-bytes 4 b d g) (join-bytes 4 a c f) ∙ sym (join-append 4 b d (bytes 4 a) (bytes 4 c))
 
 -- ── back to a word ──
-unfoldable pub word : Exponents → ℕ
-word [] = 0
-word (b ∷ e) = b + 256 * word e
-
 pub word-bytes : (n w : ℕ) → w < 256 ^ n → word (bytes n w) ≡ w
 unfolding word bytes
 word-bytes zero w h = omega arith

@@ -1,21 +1,21 @@
 -- Canonical polynomials are a commutative ring; the division as an equation of polynomials.
-use mathlib.Core.Path.{_≡_, refl, sym, _∙_, ap, ap₂, subst, fun-ext}
-use mathlib.Core.List.{List, [], _∷_}
+use mathlib.Core.Path.{_≡_, refl, sym, _∙_, ap, ap₂, fun-ext}
+use mathlib.Core.List.{[], _∷_}
 use mathlib.Core.Bool.{Bool, true, false}
-use mathlib.Core.HLevel.{Σ-prop-path, ×-prop, Unit-prop, hedberg, Discrete}
-use Prim.Native.Nat.{ℕ, zero, suc, _+_, _-_, _*_, _%_, _≤_, _<_, Ordering, Ordering·lt, Ordering·eq, Ordering·gt, Fin}
+use mathlib.Core.HLevel.{Σ-prop-path, ×-prop, Unit-prop, hedberg}
+use Prim.Native.Nat.{ℕ, zero, suc, _≤_, Ordering, Ordering·lt, Ordering·eq, Ordering·gt, Fin}
 use native.Mathlib.Bridge.{le-prop}
 use native.Mathlib.Decide.{map-dec, ℕ-discrete}
 use lib.Dec.{leb}
-use Rattle.residues.specs.Field.{CommRing, cast}
-use Rattle.residues.specs.laws.Ring.{cast-one, ring-laws, add-nil, nil-add, mul-one, one-mul, mul-nil, nil-mul, add-neg}
+use Rattle.residues.specs.Field.{CommRing}
+use Rattle.residues.specs.laws.Ring.{cast-one, add-nil, nil-add, mul-one, one-mul, add-neg}
 use Rattle.residues.specs.laws.Residues.{Residues, char}
-use Rattle.polynomials.specs.Poly.{Exponents, Term, Poly, order, join, add-multiple, sum, difference, product}
+use Rattle.polynomials.specs.Poly.{Exponents, Poly, order, join, sum, difference, product}
 use Rattle.polynomials.specs.Canonical.{Canonical, Under}
-use Rattle.polynomials.specs.Division.{constant-one, power, coefficient, factor, round, remainder, rounds, multiple, degree}
+use Rattle.polynomials.specs.Division.{constant-one, power, coefficient, round, remainder, rounds, multiple, degree}
 use Rattle.polynomials.specs.Value.{weigh}
 use Rattle.polynomials.specs.laws.Order.{join-nil, join-comm, join-assoc}
-use Rattle.polynomials.specs.laws.Weigh.{weigh-add, weigh-scale, weigh-sum, weigh-difference, weigh-product, weigh-swap}
+use Rattle.polynomials.specs.laws.Weigh.{weigh-add, weigh-sum, weigh-difference, weigh-product, weigh-swap}
 use Rattle.polynomials.specs.laws.Canonical.{canonical-sum, canonical-difference, canonical-product, canonical-ext}
 use Rattle.polynomials.specs.laws.Division.{Reading, division, of-power}
 

@@ -76,7 +76,7 @@ degree-drop k zero f = omega arith
 degree-drop k (suc r) [] = omega arith
 degree-drop k (suc r) (t ∷ f) = omega (arith, degree-drop k r f, le-max-right (getD (t .exps) k 0) (degree k f))
 
-canonical-drop : (p r : ℕ) (f : Poly) → Canonical p f → Canonical p (drop r f)
+pub canonical-drop : (p r : ℕ) (f : Poly) → Canonical p f → Canonical p (drop r f)
 canonical-drop p zero f c = c
 canonical-drop p (suc r) [] c = tt
 canonical-drop p (suc r) (t ∷ f) c = canonical-drop p r f (c .3)

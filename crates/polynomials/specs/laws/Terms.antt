@@ -1,12 +1,11 @@
 -- The polynomial that pairs of words hold, by parts of the words: pairs taken, left out, read, and written at the end.
-use mathlib.Core.Path.{_≡_, refl, sym, _∙_, ap, ap₂, subst}
+use mathlib.Core.Path.{_≡_, refl, sym, _∙_, ap}
 use mathlib.Core.List.{List, [], _∷_, _++_, append-assoc}
-use Prim.Native.Nat.{ℕ, zero, suc, _+_, _-_, _*_, _/_, _%_, _≤_, _<_}
+use Prim.Native.Nat.{ℕ, zero, suc, _+_, _*_, _/_, _%_, _<_}
 use native.Mathlib.Numerals.{add-one}
 use native.Mathlib.Omega.{arith}
-use lib.ListN.{length, take, drop, getD, set, length-take, length-drop, length-append, length-set}
-use lib.Seq.{take-suc, take-suc-set, take-set-le, drop-cons, length-take-le, take-nil, drop-nil}
-use Rattle.polynomials.specs.Poly.{Poly, Term}
+use lib.ListN.{length, take, drop, getD, set, length-take, length-set}
+use lib.Seq.{take-suc-set, drop-cons, take-nil, drop-nil}
 use Rattle.polynomials.specs.Packed.{term, terms}
 use Rattle.polynomials.specs.Working.{Pairs}
 

@@ -1,16 +1,16 @@
 -- Document 01's value, a sum of numbers modulo p, is the value in the ring of residues.
-use mathlib.Core.Path.{_≡_, refl, sym, _∙_, ap, ap₂, subst}
+use mathlib.Core.Path.{_≡_, refl, sym, _∙_, ap, ap₂}
 use mathlib.Core.Logic.{_↔_}
 use mathlib.Core.List.{List, [], _∷_, map}
-use Prim.Native.Nat.{ℕ, zero, suc, _+_, _*_, _%_, _^_, _≤_, _<_, Fin}
+use Prim.Native.Nat.{ℕ, zero, suc, _*_, _%_, _^_, _≤_, Fin}
 use native.Mathlib.Nat.{pow-zero, pow-succ'}
 use native.Mathlib.Decide.{Fin·val-path}
 use Rattle.residues.specs.Prime.{Prime}
 use Rattle.residues.specs.Field.{CommRing, cast, pow}
 use Rattle.residues.specs.laws.Ring.{cast-add, cast-mul, cast-one}
 use Rattle.residues.specs.laws.Residues.{Residues, PrimeField, cast-residue, nil-is, one≤}
-use Rattle.polynomials.specs.Poly.{Exponents, Term, Poly}
-use Rattle.polynomials.specs.Value.{value, weigh, monomial-value, monomial-valueℕ, valueℕ, value-modulo}
+use Rattle.polynomials.specs.Poly.{Exponents, Poly}
+use Rattle.polynomials.specs.Value.{value, weigh, monomial-value, monomial-valueℕ, valueℕ}
 
 module _ {ℓ} {K : Type ℓ} (𝓡 : CommRing K) where
   pub cast-pow : (x n : ℕ) → cast 𝓡 (x ^ n) ≡ pow 𝓡 (cast 𝓡 x) n

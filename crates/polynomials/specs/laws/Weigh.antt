@@ -1,13 +1,13 @@
 -- Sums of coefficients times weights of monomials, for any weights in a ring where p is zero. Values at a point and coefficients
 -- are two choices of weights; each law is proved once, here.
-use mathlib.Core.Path.{_≡_, refl, sym, _∙_, ap, ap₂, subst, fun-ext}
+use mathlib.Core.Path.{_≡_, refl, sym, _∙_, ap, ap₂, fun-ext}
 use mathlib.Core.List.{List, [], _∷_}
-use mathlib.Core.Bool.{Bool, true, false, not}
-use Prim.Native.Nat.{ℕ, zero, suc, _+_, _-_, _*_, _%_, _≤_, _<_, Ordering, Ordering·lt, Ordering·eq, Ordering·gt}
+use mathlib.Core.Bool.{Bool, true, false}
+use Prim.Native.Nat.{ℕ, _+_, _-_, _*_, _%_, _≤_, Ordering, Ordering·lt, Ordering·eq, Ordering·gt}
 use lib.Dec.{T, eqb, eqb→eq}
-use Rattle.residues.specs.Field.{CommRing, Field, cast, pow}
-use Rattle.residues.specs.laws.Ring.{cast-zero, ring-laws, products, nil-mul, nil-add, add-nil, cast-sum, cast-product, cast-one, cast-minus-one, one-mul, mul-one, mul-nil, pow-add, mul-comm}
-use Rattle.polynomials.specs.Poly.{Exponents, Term, Poly, order, join, keep, insert, add-multiple, sum, difference, product}
+use Rattle.residues.specs.Field.{CommRing, cast, pow}
+use Rattle.residues.specs.laws.Ring.{cast-zero, ring-laws, nil-mul, nil-add, add-nil, cast-sum, cast-product, cast-one, cast-minus-one, one-mul, mul-one, mul-nil, pow-add, mul-comm}
+use Rattle.polynomials.specs.Poly.{Exponents, Poly, order, join, keep, insert, add-multiple, sum, difference, product}
 use Rattle.polynomials.specs.Value.{weigh, monomial-value, value}
 use Rattle.polynomials.specs.laws.Order.{order-eq}
 

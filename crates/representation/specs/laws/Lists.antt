@@ -125,9 +125,6 @@ module _ (p : ℕ) where
   pub put-P-sound : (f : List ℕ) (fs : List (List ℕ)) → Sound p f → All-sound p fs → All-sound p (put-P f fs)
   put-P-sound f fs h hs = each-sound (put-P f fs) .1 (each-put-P (Sound p) f fs h (each-sound fs .0 hs))
 
-  pub put-Q-sound : (f : List ℕ) (fs : List (List ℕ)) → Sound p f → All-sound p fs → All-sound p (put-Q f fs)
-  put-Q-sound f fs h hs = each-sound (put-Q f fs) .1 (each-put-Q (Sound p) f fs h (each-sound fs .0 hs))
-
   pub put-Q-before-sound : (left : ℕ) (f : List ℕ) (fs : List (List ℕ)) → Sound p f → All-sound p fs → All-sound p (put-Q-before left f fs)
   put-Q-before-sound left f fs h hs = each-sound (put-Q-before left f fs) .1 (each-put-Q-before (Sound p) left f fs h (each-sound fs .0 hs))
 

@@ -1,35 +1,30 @@
 -- Rule 5 replaces the members of Q one after the other: the work area keeps the new members before the old ones, which are live.
 use mathlib.Core.Path.{_≡_, refl, sym, _∙_, ap}
 use mathlib.Core.List.{List, [], _∷_, _++_, map, reverse}
-use mathlib.Core.Bool.{true, false}
-use Prim.Native.Nat.{ℕ, _+_, _-_, _≤_}
+use Prim.Native.Nat.{ℕ, _+_}
 use native.Mathlib.Omega.{arith}
-use lib.Dec.{leb}
 use lib.ListN.{length, getD}
 use Rattle.polynomials.specs.Poly.{Poly, monic}
 use Rattle.polynomials.specs.Packed.{terms}
-use Rattle.polynomials.specs.Bounds.{Bounded, at-most, over, within, degree-passed, terms-passed}
-use Rattle.tables.specs.Read.{System}
-use Rattle.tables.specs.declared.Reason.the-variants.{Terms, Degree, Room}
 use Rattle.rules.specs.Branch as rules
 use Rattle.rules.specs.Branch.{Branch}
 use Rattle.rules.specs.Room.{Limits, polynomials-size, branch-size, branches-size, live}
 use Rattle.rules.specs.Rule.{close}
 use Rattle.rules.specs.Step as step
-use Rattle.rules.specs.Step.{Stepped, next, stopped, after-division, remainder-by, with-Q, state, replace, apply}
+use Rattle.rules.specs.Step.{with-Q, state, replace, apply}
 use Rattle.branches.specs.Words.{put-Q, put-Q-before, remove}
 use Rattle.branches.specs.Area.{Stored, size, with-open, put-into-Q, without-Q, closed}
-use Rattle.representation.specs.Represent.{All-listed, branch-of, system-of, state-of, Sound, All-sound}
+use Rattle.representation.specs.Represent.{All-listed, branch-of, system-of, Sound, All-sound}
 use Rattle.representation.specs.laws.Lists.{map-remove, put-Q-before-in-parts, map-put-Q, map-put-Q-before}
 use Rattle.representation.specs.laws.Sizes.{size-live}
-use Rattle.representation.specs.laws.Steps.{if-fits, tested-room, chosen}
+use Rattle.representation.specs.laws.Steps.{chosen}
 
 remove-at : (new : List (List ℕ)) (g : List ℕ) (old : List (List ℕ)) → remove (length new) (new ++ (g ∷ old)) ≡ new ++ old
 unfolding remove
 remove-at [] g old = refl
 remove-at (f ∷ new) g old = ap (λ fs. f ∷ fs) (remove-at new g old)
 
-polynomials-size-append : (fs gs : List Poly) → polynomials-size (fs ++ gs) ≡ polynomials-size fs + polynomials-size gs
+pub polynomials-size-append : (fs gs : List Poly) → polynomials-size (fs ++ gs) ≡ polynomials-size fs + polynomials-size gs
 unfolding polynomials-size
 polynomials-size-append [] gs = omega arith
 polynomials-size-append (f ∷ fs) gs = omega (arith, polynomials-size-append fs gs)
@@ -38,7 +33,7 @@ polynomials-size-append (f ∷ fs) gs = omega (arith, polynomials-size-append fs
 abbrev pub with-new : Stored → List (List ℕ) → Branch
 with-new b new = record { P = map terms (b .P); Q = map terms new; T = map terms (b .T) }
 
--- Before the first turn there are no new members,
+-- Before the first turn there are no new members.
 pub with-new-closed : (l : Limits) (p : ℕ) (b : Stored) (i : ℕ) → with-new (closed i b) [] ≡ step.closed l p (chosen b i) (branch-of b)
 with-new-closed l p b i = λ t. record { P = map-remove i (b .P) t; Q = []; T = terms (getD (b .P) i []) ∷ map terms (b .T) }
 
@@ -49,26 +44,11 @@ unfolding apply
 apply-close l p b bs ss k i =
     ap (replace l p (map branch-of bs) (reverse (map system-of ss)) k (chosen b i .poly) (map terms (b .Q))) (sym (with-new-closed l p b i))
 
--- and after the last no old ones.
-pub replaced-all : (l : Limits) (p : ℕ) (b : Stored) (bs ss : List Stored) (k : ℕ) (f : Poly) →
-    replace l p (map branch-of bs) (reverse (map system-of ss)) k f [] (with-new b (b .Q)) ≡ next (state-of (with-open b bs ss))
-unfolding replace
-replaced-all l p b bs ss k f = refl
-
 -- g, behind the new members and before the old ones, is replaced by r.
 abbrev pub turned : Stored → List (List ℕ) → List ℕ → List (List ℕ) → Stored
 turned b new r old = put-into-Q (length old) r (without-Q (length new) b)
 
 module _ (l : Limits) (p : ℕ) (b : Stored) (bs ss : List Stored) (new : List (List ℕ)) (g : List ℕ) (old : List (List ℕ)) (parts : b .Q ≡ new ++ (g ∷ old)) where
-  -- What follows the division in one turn of the rules.
-  abbrev after-turn : List Branch → List System → ℕ → Poly → Bounded → Stepped
-  after-turn waiting listed k f d =
-      after-division d
-      (λ r. elim (over (l .of-room) (polynomials-size (map terms old) + live (state l p waiting listed (with-Q l p r (with-new b new))))) as (λ c. Stepped) [
-        | true ↦ stopped Room
-        | false ↦ replace l p waiting listed k f (map terms old) (with-Q l p r (with-new b new))
-      ])
-
   pub turned-Q : (r : List ℕ) → turned b new r old .Q ≡ put-Q r new ++ old
   turned-Q r =
       ap (put-Q-before (length old) r) (ap (remove (length new)) parts ∙ remove-at new g old) ∙ put-Q-before-in-parts (length old) r new old refl
@@ -82,9 +62,6 @@ module _ (l : Limits) (p : ℕ) (b : Stored) (bs ss : List Stored) (new : List (
         ap (λ fs. map terms (put-Q-before (length old) r fs)) (ap (remove (length new)) parts ∙ remove-at new g old)
         ∙ map-put-Q-before p r R sound-r of-r (length old) new old refl sound
 
-    pub turned-branch : branch-of (turned b new r old) ≡ record { P = map terms (b .P); Q = with-Q l p R (with-new b new) .Q ++ map terms old; T = map terms (b .T) }
-    turned-branch = λ t. record { P = map terms (b .P); Q = map-turned-Q t; T = map terms (b .T) }
-
     -- The count that the rules test, and the control record.
     pub turned-size : All-listed ss → size (with-open (turned b new r old) bs ss)
         ≡ 1 + (polynomials-size (map terms old) + live (state l p (map branch-of bs) (reverse (map system-of ss)) (with-Q l p R (with-new b new))))
@@ -96,28 +73,3 @@ module _ (l : Limits) (p : ℕ) (b : Stored) (bs ss : List Stored) (new : List (
           ap polynomials-size map-turned-Q,
           polynomials-size-append (rules.put-Q p R (map terms new)) (map terms old),
         )
-
-    pub replace-turn : (most : ℕ) → l .of-room ≡ at-most (most - 1) → 1 ≤ most → All-listed ss → (k : ℕ) (f : Poly) → remainder-by l p k f (terms g) ≡ within R →
-        replace l p (map branch-of bs) (reverse (map system-of ss)) k f (map terms (g ∷ old)) (with-new b new)
-        ≡ if-fits (leb (size (with-open (turned b new r old) bs ss)) most)
-        (replace l p (map branch-of bs) (reverse (map system-of ss)) k f (map terms old) (with-new (turned b new r old) (put-Q r new)))
-    unfolding replace
-    replace-turn most bound some h k f e =
-        let waiting = map branch-of bs in
-        let listed = reverse (map system-of ss) in
-        let area = with-open (turned b new r old) bs ss in
-        ap (after-turn waiting listed k f) e
-        ∙ tested-room l most bound some (polynomials-size (map terms old) + live (state l p waiting listed (with-Q l p R (with-new b new)))) (size area) (turned-size h)
-        (replace l p waiting listed k f (map terms old) (with-Q l p R (with-new b new)))
-        ∙ ap (λ (B : Branch). if-fits (leb (size area) most) (replace l p waiting listed k f (map terms old) B)) (sym with-new-turned)
-
-  module _ (k : ℕ) (f : Poly) where
-    pub replace-degree : remainder-by l p k f (terms g) ≡ degree-passed →
-        replace l p (map branch-of bs) (reverse (map system-of ss)) k f (map terms (g ∷ old)) (with-new b new) ≡ stopped Degree
-    unfolding replace
-    replace-degree e = ap (after-turn (map branch-of bs) (reverse (map system-of ss)) k f) e
-
-    pub replace-terms : remainder-by l p k f (terms g) ≡ terms-passed →
-        replace l p (map branch-of bs) (reverse (map system-of ss)) k f (map terms (g ∷ old)) (with-new b new) ≡ stopped Terms
-    unfolding replace
-    replace-terms e = ap (after-turn (map branch-of bs) (reverse (map system-of ss)) k f) e

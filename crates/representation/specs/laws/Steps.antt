@@ -9,18 +9,17 @@ use lib.ListN.{getD}
 use Rattle.polynomials.specs.Poly.{Poly, monic}
 use Rattle.polynomials.specs.Packed.{terms}
 use Rattle.polynomials.specs.Division.{initial, rest}
-use Rattle.polynomials.specs.Bounds.{Bound, Bounded, at-most, over, within, degree-passed, terms-passed}
+use Rattle.polynomials.specs.Bounds.{Bound, at-most, over}
 use Rattle.tables.specs.Read.{System}
-use Rattle.tables.specs.declared.Reason.the-variants.{Terms, Degree, Room}
+use Rattle.tables.specs.declared.Reason.the-variants.{Room}
 use Rattle.rules.specs.Branch as rules
 use Rattle.rules.specs.Branch.{Chosen}
 use Rattle.rules.specs.Room.{Limits, live}
-use Rattle.rules.specs.Rule.{drop, list, split, divide}
-use Rattle.rules.specs.Step as step
-use Rattle.rules.specs.Step.{Stepped, next, stopped, within-room, after-division, remainder-by, split-open, split-aside, divided, state, apply}
+use Rattle.rules.specs.Rule.{drop, list, split}
+use Rattle.rules.specs.Step.{Stepped, next, stopped, within-room, split-open, split-aside, divided, state, apply}
 use Rattle.rules.specs.laws.Lists.{At}
 use Rattle.branches.specs.Words.{put-P, put-Q-before, remove}
-use Rattle.branches.specs.Area.{Stored, Area, size, with-open, put-into-P, without-P, closed, split-area}
+use Rattle.branches.specs.Area.{Stored, Area, size, with-open, put-into-P, without-P, split-area}
 use Rattle.representation.specs.Represent.{All-listed, branch-of, system-of, state-of, Sound, Branch-sound}
 use Rattle.representation.specs.laws.Lists.{map-remove, map-put-P, map-put-Q, put-Q-before-none, remove-sound, put-P-sound}
 use Rattle.representation.specs.laws.Sizes.{room-of-count, size-live}
@@ -104,9 +103,6 @@ module _ (l : Limits) (p : ℕ) (b : Stored) (bs ss : List Stored) where
     apply-split most bound some h = ap (within-room l) (sym split-state) ∙ within-room-fits l most bound some (split-area i ini rst b bs ss) h
 
   -- 4.
-  abbrev after-remainder : Chosen → Bounded → Stepped
-  after-remainder g d = after-division d (λ r. within-room l (state l p (map branch-of bs) (reverse (map system-of ss)) (divided l p g r (branch-of b))))
-
   module _ (sound : Branch-sound p b) (g : Chosen) (r : List ℕ) (R : Poly) (sound-r : Sound p r) (of-r : terms r ≡ monic p R) where
     pub divide-state : state-of (with-open (put-into-P r (without-P (g .place) b)) bs ss) ≡
         state l p (map branch-of bs) (reverse (map system-of ss)) (divided l p g R (branch-of b))
@@ -119,31 +115,3 @@ module _ (l : Limits) (p : ℕ) (b : Stored) (bs ss : List Stored) where
         in-P =
             map-put-P p r R sound-r of-r (remove (g .place) (b .P)) (remove-sound p (g .place) (b .P) (sound .in-P))
             ∙ ap (rules.put-P p R) (map-remove (g .place) (b .P))
-
-    pub apply-divide : (most : ℕ) → l .of-room ≡ at-most (most - 1) → 1 ≤ most → All-listed ss → (k : ℕ) (f : Chosen) → remainder-by l p k (f .poly) (g .poly) ≡ within R →
-        apply l p (map branch-of bs) (reverse (map system-of ss)) (divide k f g) (branch-of b)
-        ≡ if-fits (leb (size (with-open (put-into-P r (without-P (g .place) b)) bs ss)) most) (next (state-of (with-open (put-into-P r (without-P (g .place) b)) bs ss)))
-    unfolding apply
-    apply-divide most bound some h k f e =
-        ap (after-remainder g) e
-        ∙ ap (within-room l) (sym divide-state) ∙ within-room-fits l most bound some (with-open (put-into-P r (without-P (g .place) b)) bs ss) h
-
-  module _ (k : ℕ) (f g : Chosen) where
-    pub apply-divide-degree : remainder-by l p k (f .poly) (g .poly) ≡ degree-passed →
-        apply l p (map branch-of bs) (reverse (map system-of ss)) (divide k f g) (branch-of b) ≡ stopped Degree
-    unfolding apply
-    apply-divide-degree e = ap (after-remainder g) e
-
-    pub apply-divide-terms : remainder-by l p k (f .poly) (g .poly) ≡ terms-passed →
-        apply l p (map branch-of bs) (reverse (map system-of ss)) (divide k f g) (branch-of b) ≡ stopped Terms
-    unfolding apply
-    apply-divide-terms e = ap (after-remainder g) e
-
-  -- 5. Q is yet to be replaced.
-  pub close-state : (i : ℕ) → state-of (with-open (closed i b) bs ss) ≡
-      state l p (map branch-of bs) (reverse (map system-of ss))
-      (record { P = step.closed l p (chosen b i) (branch-of b) .P; Q = map terms (b .Q); T = step.closed l p (chosen b i) (branch-of b) .T })
-  close-state i = λ t. record {
-    branches = record { P = map-remove i (b .P) t; Q = map terms (b .Q); T = terms (getD (b .P) i []) ∷ map terms (b .T) } ∷ map branch-of bs;
-    systems = reverse (map system-of ss);
-  }

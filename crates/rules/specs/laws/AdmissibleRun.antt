@@ -1,12 +1,11 @@
 -- Where a table can hold every polynomial of the input, it can hold every polynomial of the systems that a run lists.
-use mathlib.Core.Path.{_≡_, refl, subst}
+use mathlib.Core.Path.{_≡_, refl, sym, subst}
 use mathlib.Core.Logic.{_≢_}
 use mathlib.Core.List.{List, [], _∷_}
 use mathlib.Core.Bool.{Bool, true, false}
 use Prim.Native.Nat.{ℕ, zero, suc, _-_, _≤_}
 use native.Mathlib.Omega.{arith}
-use borrow.Author.Tests.{ltb-false}
-use lib.Dec.{eqb, leb, ltb}
+use lib.Dec.{eqb, leb}
 use lib.ListN.{length, getD, set}
 use Rattle.residues.specs.Prime.{Prime}
 use Rattle.residues.specs.Residue.{inverse}
@@ -14,9 +13,10 @@ use Rattle.residues.specs.laws.Residues.{one≤}
 use Rattle.polynomials.specs.Poly.{Exponents, Term, Poly, join, add-multiple, difference, product, monic}
 use Rattle.polynomials.specs.Canonical.{Canonical, All}
 use Rattle.polynomials.specs.Division.{degree, leader, coefficient, without, initial, rest, factor}
-use Rattle.polynomials.specs.Bounds.{Bounds, at-most, over, standard, Bounded, within, degree-passed, terms-passed, and-then, degrees-over, tested, bounded-product, bounded-difference, bounded-round, bounded-remainder}
+use Rattle.polynomials.specs.Bounds.{Bounds, at-most, standard, Bounded, within, degree-passed, and-then, degrees-over, tested, bounded-product, bounded-difference, bounded-round, bounded-remainder}
 use Rattle.polynomials.specs.laws.Degree.{all-degree, all-add-multiple, degree-product, degree-at-most}
 use Rattle.polynomials.specs.laws.Bounds.{degrees-over-none}
+use Rattle.polynomials.specs.laws.Bounded.{formed-first, tested-formed, over-at-most}
 use Rattle.polynomials.specs.laws.Product.{add-multiple-length}
 use Rattle.polynomials.specs.laws.Free.{Free, free-monic, free-remainder}
 use Rattle.polynomials.specs.laws.Parts.{leader-at-most, degree-initial-le, degree-rest-le, free-initial, free-rest}
@@ -25,7 +25,7 @@ use Rattle.rules.specs.Room.{Limits}
 use Rattle.rules.specs.Step.{remainder-by}
 use Rattle.rules.specs.Run.{finished, run-of}
 use Rattle.rules.specs.Writable.{Each, Admissible}
-use Rattle.rules.specs.laws.Taken.{tested-within, and-then-within, remainder-by-is}
+use Rattle.rules.specs.laws.Taken.{remainder-by-is}
 use Rattle.rules.specs.laws.Kept.{Closed, Of-system, canonical-closed, listed-keep}
 use Rattle.rules.specs.laws.Rising.{places-closed}
 
@@ -83,14 +83,6 @@ unfolding difference
 low-difference p f g u v k = degree-multiple k 255 p (p - 1) g f (v k) (u k)
 
 -- ── what is formed within the standard bounds is small ──
-few-tested : (f h : Poly) → tested standard f ≡ within h → length h ≤ 256
-unfolding tested over
-few-tested f h e = go (ltb 256 (length f)) refl e
-  where
-    go : (b : Bool) → ltb 256 (length f) ≡ b → (elim b as (λ b. Bounded) [ true ↦ terms-passed | false ↦ within f ]) ≡ within h → length h ≤ 256
-    go true q e = let z : _≡_ {A = ℕ} 0 1 = cc in absurd (omega arith)
-    go false q e = let s : f ≡ h = cc in subst (λ (g : Poly). length g ≤ 256) s (ltb-false 256 (length f) q)
-
 module _ (p : ℕ) where
   low-product : (f g h : Poly) → bounded-product standard p f g ≡ within h → Low h
   unfolding bounded-product degree
@@ -101,16 +93,17 @@ module _ (p : ℕ) where
       go : (b : Bool) → degrees-over (at-most 255) (t ∷ f) (u ∷ g) ≡ b →
           (elim b as (λ b. Bounded) [ true ↦ degree-passed | false ↦ tested standard (product p (t ∷ f) (u ∷ g)) ]) ≡ within h → Low h
       go true q e = let z : _≡_ {A = ℕ} 0 1 = cc in absurd (omega arith)
-      go false q e = subst Low (tested-within standard p (product p (t ∷ f) (u ∷ g)) h e)
+      go false q e = subst Low (sym (tested-formed standard (product p (t ∷ f) (u ∷ g)) h e .same))
           (λ (k : ℕ). omega (arith, degree-product k p (t ∷ f) (u ∷ g), degrees-over-none 255 (t ∷ f) (u ∷ g) q k))
 
   small-round : (k d : ℕ) (G R h : Poly) → bounded-round standard p k d G R ≡ within h → Small h
   unfolding bounded-round bounded-difference
   small-round k d G R h e =
-      let first = and-then-within standard p (bounded-product standard p (coefficient k d G) R) _ h e in
-      let second = and-then-within standard p (bounded-product standard p (factor k d R) G) _ h (first .2) in (
-        few-tested (difference p (first .0) (second .0)) h (second .2),
-        subst Low (tested-within standard p (difference p (first .0) (second .0)) h (second .2))
+      let first = formed-first (bounded-product standard p (coefficient k d G) R) _ h e in
+      let second = formed-first (bounded-product standard p (factor k d R) G) _ h (first .2) in
+      let formed = tested-formed standard (difference p (first .0) (second .0)) h (second .2) in (
+        over-at-most 256 (length h) (formed .few),
+        subst Low (sym (formed .same))
             (low-difference p (first .0) (second .0) (low-product (coefficient k d G) R (first .0) (first .1)) (low-product (factor k d R) G (second .0) (second .1))),
       )
 
@@ -122,7 +115,7 @@ module _ (p : ℕ) where
       go : (b : Bool) → ((R h : Poly) → Small R → bounded-remainder standard p k d G n R ≡ within h → Small h) →
           (elim b as (λ b. Bounded) [ true ↦ and-then (bounded-round standard p k d G R) (bounded-remainder standard p k d G n) | false ↦ within R ]) ≡ within h → Small h
       go true ih e =
-          let r = and-then-within standard p (bounded-round standard p k d G R) (bounded-remainder standard p k d G n) h e in
+          let r = formed-first (bounded-round standard p k d G R) (bounded-remainder standard p k d G n) h e in
           ih (r .0) h (small-round k d G R (r .0) (r .1)) (r .2)
       go false ih e = let s : R ≡ h = cc in subst Small s u
 

@@ -2,7 +2,7 @@
 use mathlib.Core.Path.{_≡_, refl, ap}
 use mathlib.Core.Logic.{_≢_, _↔_, _⊎_, inl, inr}
 use mathlib.Core.List.{List, [], _∷_, map}
-use mathlib.Core.Bool.{Bool, true, false, not, _&&_}
+use mathlib.Core.Bool.{Bool, true, false, not, and-eq-true-iff}
 use Prim.Native.Nat.{ℕ, suc, _-_, _≤_, Fin}
 use native.Mathlib.Omega.{arith}
 use borrow.Author.Tests.{eqb-true, eqb-false, eq-eqb, ne-eqb, not-true}
@@ -23,10 +23,6 @@ use Rattle.rules.specs.Solutions.{Some, Zero, NonZero, Solves-system, No
 use Rattle.rules.specs.laws.Lists.{each-map}
 use Rattle.rules.specs.laws.Points.{zero-relation}
 use Rattle.rules.specs.laws.Initials.{initials}
-
-and-both : (a b : Bool) → (a && b ≡ true) ↔ ((a ≡ true) × (b ≡ true))
-and-both true b = ((λ h. (refl, h)), (λ h. h .1))
-and-both false b = ((λ h. (h, cc)), (λ h. h .0))
 
 module _ (p : ℕ) (prime : Prime p) (x : List ℕ) where
   -- The prime field, and the point in it.
@@ -55,20 +51,20 @@ module _ (p : ℕ) (prime : Prime p) (x : List ℕ) where
   unfolding all-zero
   all-zero-each [] = ((λ h. tt), (λ h. refl))
   all-zero-each (f ∷ fs) =
-      let both = and-both (is-root p x f) (all-zero p x fs) in
+      let both = and-eq-true-iff (is-root p x f) (all-zero p x fs) in
       ((λ h. (root-zero f .0 (both .0 h .0), all-zero-each fs .0 (both .0 h .1))), (λ e. both .1 (root-zero f .1 (e .0), all-zero-each fs .1 (e .1))))
 
   none-zero-each : (fs : List Poly) → (none-zero p x fs ≡ true) ↔ Each (NonZero F point) fs
   unfolding none-zero
   none-zero-each [] = ((λ h. tt), (λ h. refl))
   none-zero-each (f ∷ fs) =
-      let both = and-both (not (is-root p x f)) (none-zero p x fs) in
+      let both = and-eq-true-iff (not (is-root p x f)) (none-zero p x fs) in
       ((λ h. (root-nonzero f .0 (both .0 h .0), none-zero-each fs .0 (both .0 h .1))), (λ e. both .1 (root-nonzero f .1 (e .0), none-zero-each fs .1 (e .1))))
 
   solves-both : (zeros nonzeros : List Poly) → (solves p x zeros nonzeros ≡ true) ↔ (Each (Zero F point) zeros × Each (NonZero F point) nonzeros)
   unfolding solves
   solves-both zeros nonzeros =
-      let both = and-both (all-zero p x zeros) (none-zero p x nonzeros) in (
+      let both = and-eq-true-iff (all-zero p x zeros) (none-zero p x nonzeros) in (
         (λ h. (all-zero-each zeros .0 (both .0 h .0), none-zero-each nonzeros .0 (both .0 h .1))),
         (λ e. both .1 (all-zero-each zeros .1 (e .0), none-zero-each nonzeros .1 (e .1))),
       )

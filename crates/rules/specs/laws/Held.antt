@@ -9,8 +9,8 @@ use lib.ListN.{length, take, drop, getD, length-take, length-drop, take-append-d
 use lib.Seq.{getD-drop}
 use Rattle.polynomials.specs.Poly.{Exponents, Poly}
 use Rattle.polynomials.specs.Canonical.{All}
-use Rattle.polynomials.specs.Packed.{bytes, exponents}
-use Rattle.polynomials.specs.laws.Packed.{word, Small, bytes-word}
+use Rattle.polynomials.specs.Packed.{bytes, word, exponents}
+use Rattle.polynomials.specs.laws.Packed.{Small, bytes-word}
 use Rattle.tables.specs.Read.{not-zero, has-above}
 use Rattle.rules.specs.Writable.{Admissible}
 

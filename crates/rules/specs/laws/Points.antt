@@ -26,7 +26,7 @@ use Rattle.rules.specs.Writable.{Each}
 use Rattle.rules.specs.Solutions.{Some, Zero, NonZero, Solves-input, Solves-system, Proper}
 use Rattle.rules.specs.laws.Lists.{At, some-append, each-remove, each-remove-other}
 use Rattle.rules.specs.laws.Put.{each-member, one-is-nonzero, some-one-refutes, some-zero-refutes, put-P-zero, put-Q-nonzero, put-all-P-zero, put-all-Q-nonzero}
-use Rattle.rules.specs.laws.Taken.{Ready, after-close, Replaced, remainder-by-is, Taken, by-drop, by-list, by-split, by-divide, by-close}
+use Rattle.rules.specs.laws.Taken.{Settled, after-close, Replaced, remainder-by-is, Taken, by-drop, by-list, by-split, by-divide, by-close}
 use Rattle.rules.specs.laws.Runs.{first-state, run-of-keeps}
 use Rattle.rules.specs.laws.Kept.{Of-branch, Of-state, taken-keeps, first-keeps, canonical-by, canonical-closed}
 
@@ -39,7 +39,7 @@ module _ {ℓ} {K : Type ℓ} (F : Field K) (x : List K) where
   abbrev pub Solves-state : State → Type ℓ
   Solves-state s = Some Solves-branch (s .branches) ⊎ Some (Solves-system F x) (s .systems)
 
-  pub initial-nonzero : (k : ℕ) (f : Chosen) (b : Branch) → Ready k f b → Each (NonZero F x) (b .Q) → NonZero F x (initial k (f .poly))
+  pub initial-nonzero : (k : ℕ) (f : Chosen) (b : Branch) → Settled k f b → Each (NonZero F x) (b .Q) → NonZero F x (initial k (f .poly))
   initial-nonzero k f b y e =
       elim (or-cases (is-one (initial k (f .poly))) (member (initial k (f .poly)) (b .Q)) y) [
         | inl o ↦ one-is-nonzero F x (initial k (f .poly)) o
@@ -122,7 +122,7 @@ module _ {ℓ} {K : Type ℓ} (F : Field K) (x : List K) where
             let i = put-initial .0 (e .1) in
             (apart .1 (split-zero F p char (one≤ prime) x k d G (i .0) ∙ e .0, i .1), s .1, s .2)
 
-    pub divide-same : (k : ℕ) (f g : Chosen) (r : Poly) (b : Branch) → Canonical p r → At (f .place) (f .poly) (b .P) → Ready k f b →
+    pub divide-same : (k : ℕ) (f g : Chosen) (r : Poly) (b : Branch) → Canonical p r → At (f .place) (f .poly) (b .P) → Settled k f b →
         At (g .place) (g .poly) (b .P) → f .place ≢ g .place → remainder-by l p k (f .poly) (g .poly) ≡ within r →
         Solves-branch b ↔ Solves-branch (divided l p g r b)
     divide-same k f g r b c af y ag n e = (there, back)
@@ -161,7 +161,7 @@ module _ {ℓ} {K : Type ℓ} (F : Field K) (x : List K) where
         let put = put-Q-nonzero F x p prime char (r .0) Q (canonical-by l p (one≤ prime) k f g (r .0) (c .0) (r .1)) .0 (ih .1) in
         (((λ zg. put .0 (divides-zero k f g (r .0) (r .1) z zg)), ih .0), put .1)
 
-    pub close-same : (k : ℕ) (f : Chosen) (Q : List Poly) (b : Branch) → Each (Canonical p) (b .Q) → At (f .place) (f .poly) (b .P) → Ready k f b →
+    pub close-same : (k : ℕ) (f : Chosen) (Q : List Poly) (b : Branch) → Each (Canonical p) (b .Q) → At (f .place) (f .poly) (b .P) → Settled k f b →
         Replaced l p k (f .poly) (b .Q) [] Q →
         Solves-branch b ↔ Solves-branch (after-close f Q b)
     close-same k f Q b c a y r = (there, back)

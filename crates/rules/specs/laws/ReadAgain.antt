@@ -11,13 +11,11 @@ use Rattle.residues.specs.Prime.{is-modulus}
 use Rattle.polynomials.specs.Poly.{Term, Poly}
 use Rattle.polynomials.specs.Canonical.{Under, Canonical, All}
 use Rattle.polynomials.specs.Division.{leader}
-use Rattle.polynomials.specs.Packed.{exponents}
-use Rattle.polynomials.specs.laws.Packed.{word as pack}
+use Rattle.polynomials.specs.Packed.{word as pack, exponents}
 use Rattle.tables.specs.Words.{word, records, is-whole, follow, term-at}
 use Rattle.tables.specs.Read.{Read, good, then, unless, Before, first, after, not-zero, has-above, not-below, System, Listing, read-term, read-terms, read-head, read-heads, read-triangle, read-system, read-systems, read-header, read-list}
-use Rattle.tables.specs.Solve.{is-point, first-solved, try-systems}
 use Rattle.tables.specs.declared.Reason.{Reason}
-use Rattle.tables.specs.declared.Reason.the-variants.{Shape, Prime, Variables, Coefficient, Exponent, Head, Order, Terms, Broken, Point}
+use Rattle.tables.specs.declared.Reason.the-variants.{Shape, Prime, Variables, Coefficient, Exponent, Head, Order, Terms, Broken}
 use Rattle.rules.specs.Room.{polynomials-size, systems-size}
 use Rattle.rules.specs.Written.{index-of, terms-words, heads-words, systems-words, list-words, list-records}
 use Rattle.rules.specs.Writable.{Each, Rising, Admissible, Writable}
@@ -83,7 +81,7 @@ module _ (w : List ℕ) (p n : ℕ) where
 
   -- ── a chain of heads ──
   -- The next head stands behind a head's terms.
-  next-head : (i : ℕ) (f : Poly) (fs : List Poly) → Stands w i (heads-words i (f ∷ fs)) →
+  pub next-head : (i : ℕ) (f : Poly) (fs : List Poly) → Stands w i (heads-words i (f ∷ fs)) →
       (i < records w) × (word w i 3 ≡ index-of fs (suc (i + length f))) × Stands w (suc (i + length f)) (heads-words (suc (i + length f)) fs)
   unfolding heads-words
   next-head i f fs s =
@@ -147,7 +145,7 @@ module _ (w : List ℕ) (p n : ℕ) where
       us = stands-left w j (heads-words j (s .U)) y (stands-right w (suc i) (heads-words (suc i) (s .T)) _ j (omega (arith, length-heads (suc i) (s .T))) (r .behind))
 
   -- The next system stands behind a system's two chains.
-  next-system : (i : ℕ) (s : System) (ss : List System) → Stands w i (systems-words i (s ∷ ss)) →
+  pub next-system : (i : ℕ) (s : System) (ss : List System) → Stands w i (systems-words i (s ∷ ss)) →
       (i < records w) × (word w i 3 ≡ index-of ss (i + systems-size (s ∷ []))) × (i < i + systems-size (s ∷ [])) × Stands w (i + systems-size (s ∷ [])) (systems-words (i + systems-size (s ∷ [])) ss)
   unfolding systems-words systems-size
   next-system i s ss z =
@@ -196,10 +194,3 @@ module _ (l : Listing) (h : Writable l) where
       ∙ passes-not (leb 1 (l .variables) && leb (l .variables) 8) Variables 0 _ (ap₂ _&&_ (le-leb 1 (l .variables) (h .some-variable)) (le-leb (l .variables) 8 (h .eight-variables)))
       ∙ ap (λ r. then r (λ ss. unless (not (eqb (length ss) (length (l .systems)))) Broken 0 (good (record { modulus = l .modulus; variables = l .variables; systems = ss })))) read-systems-list
       ∙ passes-not (eqb (length (l .systems)) (length (l .systems))) Broken 0 _ (eq-eqb (length (l .systems)) (length (l .systems)) refl)
-
-  -- A point tried against the written list: the place of the first system that it solves.
-  pub try-again : (x : List ℕ) → is-point (l .modulus) (l .variables) x ≡ true → try-systems (list-words l) x ≡ good (first-solved (l .modulus) x 1 (l .systems))
-  unfolding try-systems
-  try-again x e =
-      ap (λ (r : Read Listing). then r (λ m. unless (not (is-point (m .modulus) (m .variables) x)) Point 0 (good (first-solved (m .modulus) x 1 (m .systems))))) read-again
-      ∙ passes-not (is-point (l .modulus) (l .variables) x) Point 0 _ e

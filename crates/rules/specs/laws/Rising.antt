@@ -69,15 +69,15 @@ places-closed l p = record {
 
 -- ── a monic constant is 1 ──
 -- The first coefficient is 1.
-abbrev pub Monic : Poly → Type 0
-Monic [] = ⊥
-Monic (t ∷ f) = t .coef ≡ 1
+abbrev pub Nonzero-monic : Poly → Type 0
+Nonzero-monic [] = ⊥
+Nonzero-monic (t ∷ f) = t .coef ≡ 1
 
-pub monic-is-monic : (p : ℕ) (f : Poly) → Prime p → Canonical p f → T (is-zero (monic p f)) ⊎ Monic (monic p f)
+pub monic-is-monic : (p : ℕ) (f : Poly) → Prime p → Canonical p f → T (is-zero (monic p f)) ⊎ Nonzero-monic (monic p f)
 unfolding monic is-zero scaled
 monic-is-monic p [] prime c = inl tt
 monic-is-monic p (t ∷ f) prime c =
-    inr (subst Monic (sym (monic-scaled p t f prime c)) (ap (λ (z : ℕ). z % p) (mul-comm (inverse p (t .coef)) (t .coef)) ∙ inverse-ok p (t .coef) prime (c .0) (c .1)))
+    inr (subst Nonzero-monic (sym (monic-scaled p t f prime c)) (ap (λ (z : ℕ). z % p) (mul-comm (inverse p (t .coef)) (t .coef)) ∙ inverse-ok p (t .coef) prime (c .0) (c .1)))
 
 all-zeros-of : (e : Exponents) → ((j : ℕ) → getD e j 0 ≡ 0) → T (all-zeros e)
 unfolding all-zeros
@@ -85,7 +85,7 @@ all-zeros-of [] h = tt
 all-zeros-of (n ∷ e) h = and-T (eqb n 0) (all-zeros e) (subst (λ (m : ℕ). T (eqb m 0)) (sym (h 0)) (eqb-refl 0)) (all-zeros-of e (λ j. h (suc j)))
 
 -- Without a leading variable there is one term.
-constant-is-one : (p n : ℕ) (f : Poly) → Canonical p f → Places n f → Monic f → leader f ≡ 0 → T (is-one f)
+pub constant-is-one : (p n : ℕ) (f : Poly) → Canonical p f → Places n f → Nonzero-monic f → leader f ≡ 0 → T (is-one f)
 unfolding is-one
 constant-is-one p n [] c u m h = m
 constant-is-one p n (t ∷ []) c u m h =
@@ -132,7 +132,7 @@ rising-from [] f r b = tt
 rising-from (g ∷ gs) f r b = (b, r .1)
 
 abbrev pub Rises : Branch → Type 0
-Rises b = Rising 0 (b .T) × Each (λ f. Monic f × Below-first (b .T) f) (b .P)
+Rises b = Rising 0 (b .T) × Each (λ f. Nonzero-monic f × Below-first (b .T) f) (b .P)
 
 -- Canonical, with eight places in each term.
 abbrev pub Sound : ℕ → Poly → Type 0
@@ -151,14 +151,14 @@ module _ (l : Limits) (p : ℕ) (prime : Prime p) where
       }
 
   -- What is put into P is led by no higher variable.
-  put-P-below : (T : List Poly) (f : Poly) (fs : List Poly) → Canonical p f → Below-first T f → Each (λ f. Monic f × Below-first T f) fs →
-      Each (λ f. Monic f × Below-first T f) (put-P p f fs)
+  put-P-below : (T : List Poly) (f : Poly) (fs : List Poly) → Canonical p f → Below-first T f → Each (λ f. Nonzero-monic f × Below-first T f) fs →
+      Each (λ f. Nonzero-monic f × Below-first T f) (put-P p f fs)
   put-P-below T f fs c b e =
-      put-P-keeps (λ f. Monic f × Below-first T f) p f fs
+      put-P-keeps (λ f. Nonzero-monic f × Below-first T f) p f fs
       (elim (monic-is-monic p f prime c) [ inl z ↦ inl z | inr m ↦ inr (m, below-less T f (monic p f) (leader-monic p f) b) ]) e
 
   -- The pivot has a leading variable, since a monic constant would have dropped the branch.
-  pivot-leader : (k : ℕ) (f : Chosen) (b : Branch) → Pivot k f b → Sound p (f .poly) → Monic (f .poly) → leader (f .poly) ≡ suc k
+  pivot-leader : (k : ℕ) (f : Chosen) (b : Branch) → Pivot k f b → Sound p (f .poly) → Nonzero-monic (f .poly) → leader (f .poly) ≡ suc k
   pivot-leader k f b v s m = elim (ℕ-discrete (leader (f .poly)) 0) [
     | yes e ↦ absurd (dropped e)
     | no n ↦ omega (arith, v .leads, v .highest)
@@ -176,7 +176,7 @@ module _ (l : Limits) (p : ℕ) (prime : Prime p) where
   step-rises b waiting listed s (by-drop _) c h w u = (w, u)
   step-rises b waiting listed s (by-list q) c h w u = (w, each-append (λ s. Rising 0 (s .T)) listed _ .1 (u, (h .0, tt)))
   step-rises b waiting listed s (by-split k f v) c h w u =
-      let r = each-remove (λ f. Monic f × Below-first (b .T) f) (f .place) (f .poly) (b .P) (v .stands) .0 (h .1) in
+      let r = each-remove (λ f. Nonzero-monic f × Below-first (b .T) f) (f .place) (f .poly) (b .P) (v .stands) .0 (h .1) in
       let sound = each-remove (Sound p) (f .place) (f .poly) (b .P) (v .stands) .0 (c .0) .0 in
       let of-initial = sound-closed .of-initial k (f .poly) sound in
       let of-rest = sound-closed .of-rest k (f .poly) sound in
@@ -184,8 +184,8 @@ module _ (l : Limits) (p : ℕ) (prime : Prime p) where
       (below-less (b .T) (f .poly) (initial k (f .poly)) (leader-of-initial k (f .poly)) (r .0 .1)) (r .1) in
       ((h, ((h .0, put-P-below (b .T) (rest k (f .poly)) _ (of-rest .0) (below-less (b .T) (f .poly) (rest k (f .poly)) (leader-of-rest k (f .poly)) (r .0 .1)) with-initial), w)), u)
   step-rises b waiting listed s (by-divide k f g r v y a n o e) c h w u =
-      let rf = each-remove (λ f. Monic f × Below-first (b .T) f) (f .place) (f .poly) (b .P) (v .stands) .0 (h .1) in
-      let rg = each-remove (λ f. Monic f × Below-first (b .T) f) (g .place) (g .poly) (b .P) a .0 (h .1) in
+      let rf = each-remove (λ f. Nonzero-monic f × Below-first (b .T) f) (f .place) (f .poly) (b .P) (v .stands) .0 (h .1) in
+      let rg = each-remove (λ f. Nonzero-monic f × Below-first (b .T) f) (g .place) (g .poly) (b .P) a .0 (h .1) in
       let sf = each-remove (Sound p) (f .place) (f .poly) (b .P) (v .stands) .0 (c .0) .0 in
       let sg = each-remove (Sound p) (g .place) (g .poly) (b .P) a .0 (c .0) .0 in
       let led : leader (f .poly) ≡ suc k = pivot-leader k f b v sf (rf .0 .0) in
@@ -194,8 +194,8 @@ module _ (l : Limits) (p : ℕ) (prime : Prime p) where
       (((h .0, put-P-below (b .T) r (remove (g .place) (b .P)) canonical-r (below-less (b .T) (g .poly) r (omega arith) (rg .0 .1)) (rg .1)), w), u)
   step-rises b waiting listed s (by-close k f Q v y o e) c h w u = (((rises, each-map _ _ lower (remove (f .place) (b .P)) all-known), w), u)
     where
-      r : (Monic (f .poly) × Below-first (b .T) (f .poly)) × Each (λ f. Monic f × Below-first (b .T) f) (remove (f .place) (b .P))
-      r = each-remove (λ f. Monic f × Below-first (b .T) f) (f .place) (f .poly) (b .P) (v .stands) .0 (h .1)
+      r : (Nonzero-monic (f .poly) × Below-first (b .T) (f .poly)) × Each (λ f. Nonzero-monic f × Below-first (b .T) f) (remove (f .place) (b .P))
+      r = each-remove (λ f. Nonzero-monic f × Below-first (b .T) f) (f .place) (f .poly) (b .P) (v .stands) .0 (h .1)
 
       led : leader (f .poly) ≡ suc k
       led = pivot-leader k f b v (each-remove (Sound p) (f .place) (f .poly) (b .P) (v .stands) .0 (c .0) .0) (r .0 .0)
@@ -207,10 +207,10 @@ module _ (l : Limits) (p : ℕ) (prime : Prime p) where
       at-most : Each (λ g. leader g ≤ highest-leader (b .P)) (remove (f .place) (b .P))
       at-most = each-remove (λ g. leader g ≤ highest-leader (b .P)) (f .place) (f .poly) (b .P) (v .stands) .0 (leaders-at-most (b .P)) .1
 
-      all-known : Each (λ g. (Monic g × Below-first (b .T) g) × ((leader g ≢ suc k) × (leader g ≤ highest-leader (b .P)))) (remove (f .place) (b .P))
+      all-known : Each (λ g. (Nonzero-monic g × Below-first (b .T) g) × ((leader g ≢ suc k) × (leader g ≤ highest-leader (b .P)))) (remove (f .place) (b .P))
       all-known = each-both _ _ (remove (f .place) (b .P)) (r .1) (each-both _ _ (remove (f .place) (b .P)) o at-most)
 
-      lower : (g : Poly) → (Monic g × Below-first (b .T) g) × ((leader g ≢ suc k) × (leader g ≤ highest-leader (b .P))) → Monic g × (leader g < leader (f .poly))
+      lower : (g : Poly) → (Nonzero-monic g × Below-first (b .T) g) × ((leader g ≢ suc k) × (leader g ≤ highest-leader (b .P))) → Nonzero-monic g × (leader g < leader (f .poly))
       lower g q = let n : leader g ≢ suc k = q .1 .0 in (q .0 .0, omega (arith, led, q .1 .1, v .leads))
 
 module _ (l : Limits) (t : Input) (proper : Proper t) (P : Each (Places 8) (t .P)) (Q : Each (Places 8) (t .Q)) where
@@ -228,7 +228,7 @@ module _ (l : Limits) (t : Input) (proper : Proper t) (P : Each (Places 8) (t .P
 
   first-rises : Rises (first-branch t)
   unfolding first-branch
-  first-rises = (tt, put-all-keeps (λ f. Monic f × Below-first [] f) (Canonical p) (put-P p) (λ f fs c e. put-P-below l p (proper .prime) [] f fs c tt e) (t .P) [] (proper .canonical-P) tt)
+  first-rises = (tt, put-all-keeps (λ f. Nonzero-monic f × Below-first [] f) (Canonical p) (put-P p) (λ f fs c e. put-P-below l p (proper .prime) [] f fs c tt e) (t .P) [] (proper .canonical-P) tt)
 
   pub rising : (limit n : ℕ) (ss : List System) → run-of l limit t ≡ finished n ss → Each (λ s. Rising 0 (s .T)) ss
   rising limit n ss e =

@@ -1,15 +1,13 @@
 -- Words that stand in a table from a record on: the words of that record, and what stands behind it. How one record of a chain is read.
 use mathlib.Core.Path.{_≡_, _∙_, ap}
-use mathlib.Core.Bool.{true, false, _&&_}
 use mathlib.Core.List.{List, [], _∷_, _++_}
 use Prim.Native.Nat.{ℕ, suc, _+_, _*_, _≤_, _<_}
 use native.Mathlib.Omega.{arith}
-use borrow.Author.Tests.{ne-eqb, lt-ltb}
-use lib.Dec.{ltb}
 use lib.ListN.{length, getD, length-append, List·getD-append}
 use lib.Seq.{getD-append-add}
 use Rattle.tables.specs.Words.{word, records, follow, Followed, end, to, astray}
 use Rattle.tables.specs.Read.{Read, good, refused, then}
+use Rattle.tables.specs.laws.Chains.{follow-to}
 use Rattle.tables.specs.declared.Reason.the-variants.{Index}
 
 -- The words x stand in w from record i on.
@@ -57,15 +55,6 @@ module _ (w : List ℕ) (i : ℕ) where
         within = omega (arith, length-append x y);
         same = λ k h. ap (λ m. getD w m 0) (omega arith) ∙ s .same (length x + k) (omega (arith, length-append x y)) ∙ getD-append-add x y k 0;
       }
-
--- An index from an earlier record to one of the table's is followed.
-pub follow-to : (w : List ℕ) (at i : ℕ) → at < i → i < records w → follow w at i ≡ to i
-unfolding follow
-follow-to w at i h k =
-    ap (λ b. elim b as (λ b. Followed) [ true ↦ end | false ↦ elim (ltb at i && ltb i (records w)) as (λ c. Followed) [ true ↦ to i | false ↦ astray ] ])
-    (ne-eqb i 0 (λ e. omega arith))
-    ∙ ap (λ c. elim c as (λ c. Followed) [ true ↦ to i | false ↦ astray ])
-    (ap (λ b. b && ltb i (records w)) (lt-ltb at i h) ∙ lt-ltb i (records w) k)
 
 -- ── one record of a chain ──
 -- All chains are read alike: `one` reads the record at an index, `pass` tests what was read, and `others` reads on from the next index.

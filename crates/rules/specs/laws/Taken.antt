@@ -1,15 +1,15 @@
--- What a step leaves, rule by rule, with what each rule asks for; and that a remainder formed within bounds is the remainder.
-use mathlib.Core.Path.{_≡_, refl, sym, _∙_, ap, ap₂, subst}
+-- What a step leaves, rule by rule, with what each rule asks for.
+use mathlib.Core.Path.{_≡_, refl, sym, _∙_, ap, subst}
 use mathlib.Core.Logic.{_≢_}
 use mathlib.Core.List.{List, [], _∷_, _++_}
 use mathlib.Core.Bool.{Bool, true, false, _||_}
-use Prim.Native.Nat.{ℕ, zero, suc, _-_, _+_}
+use Prim.Native.Nat.{ℕ, suc, _-_, _+_}
 use native.Mathlib.Omega.{arith}
-use lib.Dec.{T, leb}
-use lib.ListN.{length}
-use Rattle.polynomials.specs.Poly.{Poly, product, add-multiple, difference}
-use Rattle.polynomials.specs.Division.{degree, leader, coefficient, initial, factor, round, remainder}
-use Rattle.polynomials.specs.Bounds.{Bounds, over, Bounded, within, degree-passed, terms-passed, and-then, degrees-over, tested, bounded-product, bounded-difference, bounded-round, bounded-remainder}
+use lib.Dec.{T}
+use Rattle.polynomials.specs.Poly.{Poly}
+use Rattle.polynomials.specs.Division.{degree, leader, initial, remainder}
+use Rattle.polynomials.specs.Bounds.{over, Bounded, within, degree-passed, terms-passed}
+use Rattle.polynomials.specs.laws.Bounded.{remainder-formed}
 use Rattle.tables.specs.Read.{System}
 use Rattle.tables.specs.declared.Reason.the-variants.{Room}
 use Rattle.rules.specs.Branch.{Branch, put-Q, member, is-one, some-one, some-zero, highest-leader, Chosen, pivot, remove, Found, none, found, other}
@@ -20,59 +20,6 @@ use Rattle.rules.specs.Writable.{Each}
 use Rattle.rules.specs.laws.Lists.{At}
 use Rattle.rules.specs.laws.Pivot.{pivot-stands, pivot-leads, OtherIs, other-is}
 
--- ── a remainder formed within bounds ──
-module _ (b : Bounds) (p : ℕ) where
-  pub tested-within : (f h : Poly) → tested b f ≡ within h → f ≡ h
-  unfolding tested
-  tested-within f h e = go (over (b .of-terms) (length f)) e
-    where
-      go : (c : Bool) → (elim c as (λ c. Bounded) [ true ↦ terms-passed | false ↦ within f ]) ≡ within h → f ≡ h
-      go true e = cc
-      go false e = cc
-
-  product-nil : (f : Poly) → product p f [] ≡ []
-  unfolding product add-multiple
-  product-nil [] = refl
-  product-nil (t ∷ f) = product-nil f
-
-  product-within : (f g h : Poly) → bounded-product b p f g ≡ within h → product p f g ≡ h
-  unfolding bounded-product product
-  product-within [] g h e = cc
-  product-within (t ∷ f) [] h e = let n : product p (t ∷ f) [] ≡ [] = product-nil (t ∷ f) in cc
-  product-within (t ∷ f) (u ∷ g) h e = go (degrees-over (b .of-degree) (t ∷ f) (u ∷ g)) e
-    where
-      go : (c : Bool) → (elim c as (λ c. Bounded) [ true ↦ degree-passed | false ↦ tested b (product p (t ∷ f) (u ∷ g)) ]) ≡ within h → product p (t ∷ f) (u ∷ g) ≡ h
-      go true e = cc
-      go false e = tested-within (product p (t ∷ f) (u ∷ g)) h e
-
-  -- What follows a polynomial that was formed was formed too.
-  pub and-then-within : (x : Bounded) (k : Poly → Bounded) (h : Poly) → and-then x k ≡ within h → (f : Poly) × (x ≡ within f) × (k f ≡ within h)
-  and-then-within (within f) k h e = (f, refl, e)
-  and-then-within degree-passed k h e = (h, e, cc)
-  and-then-within terms-passed k h e = (h, e, cc)
-
-  round-within : (k d : ℕ) (G R h : Poly) → bounded-round b p k d G R ≡ within h → round p k d G R ≡ h
-  unfolding bounded-round bounded-difference round
-  round-within k d G R h e =
-      let first = and-then-within (bounded-product b p (coefficient k d G) R) _ h e in
-      let second = and-then-within (bounded-product b p (factor k d R) G) _ h (first .2) in
-      let x : product p (coefficient k d G) R ≡ first .0 = product-within (coefficient k d G) R (first .0) (first .1) in
-      let y : product p (factor k d R) G ≡ second .0 = product-within (factor k d R) G (second .0) (second .1) in
-      ap₂ (difference p) x y ∙ tested-within (difference p (first .0) (second .0)) h (second .2)
-
-  pub remainder-within : (k d : ℕ) (G : Poly) (n : ℕ) (R h : Poly) → bounded-remainder b p k d G n R ≡ within h → remainder p k d G n R ≡ h
-  unfolding bounded-remainder remainder
-  remainder-within k d G zero R h e = cc
-  remainder-within k d G (suc n) R h e = go (leb d (degree k R)) (remainder-within k d G n) e
-    where
-      go : (c : Bool) → ((R h : Poly) → bounded-remainder b p k d G n R ≡ within h → remainder p k d G n R ≡ h) →
-          (elim c as (λ c. Bounded) [ true ↦ and-then (bounded-round b p k d G R) (bounded-remainder b p k d G n) | false ↦ within R ]) ≡ within h →
-          (elim c as (λ c. Poly) [ true ↦ remainder p k d G n (round p k d G R) | false ↦ R ]) ≡ h
-      go true ih e =
-          let r = and-then-within (bounded-round b p k d G R) (bounded-remainder b p k d G n) h e in
-          ap (remainder p k d G n) (round-within k d G R (r .0) (r .1)) ∙ ih (r .0) h (r .2)
-      go false ih e = cc
-
 -- ── what a step leaves ──
 -- The pivot of a branch that rule 1 does not drop, in v(k+1).
 pub record Pivot (k : ℕ) (f : Chosen) (b : Branch) : Type 0 where
@@ -82,8 +29,8 @@ pub record Pivot (k : ℕ) (f : Chosen) (b : Branch) : Type 0 where
   pub leads : leader (f .poly) ≡ highest-leader (b .P)
 
 -- Its initial is 1 or in Q.
-abbrev pub Ready : ℕ → Chosen → Branch → Type 0
-Ready k f b = T (is-one (initial k (f .poly)) || member (initial k (f .poly)) (b .Q))
+abbrev pub Settled : ℕ → Chosen → Branch → Type 0
+Settled k f b = T (is-one (initial k (f .poly)) || member (initial k (f .poly)) (b .Q))
 
 -- What rule 5 makes of the branch, with its new Q.
 abbrev pub after-close : Chosen → List Poly → Branch → Branch
@@ -95,19 +42,20 @@ module _ (l : Limits) (p : ℕ) where
   Replaced k f [] Q Q′ = Q ≡ Q′
   Replaced k f (g ∷ gs) Q Q′ = (r : Poly) × (remainder-by l p k f g ≡ within r) × Replaced k f gs (put-Q p r Q) Q′
 
+  -- A remainder formed within bounds is the remainder.
   pub remainder-by-is : (k : ℕ) (f g r : Poly) → remainder-by l p k f g ≡ within r → remainder p k (degree k f) f (suc (degree k g)) g ≡ r
   unfolding remainder-by
-  remainder-by-is k f g r e = remainder-within (l .bounds) p k (degree k f) f (suc (degree k g)) g r e
+  remainder-by-is k f g r e = sym (remainder-formed (l .bounds) p k (degree k f) f (suc (degree k g)) g r e .0)
 
   pub data Taken (b : Branch) (waiting : List Branch) (listed : List System) : State → Type 0 where
     by-drop : T (some-one (b .P) || some-zero (b .Q)) → Taken b waiting listed (record { branches = waiting; systems = listed })
     by-list : b .P ≡ [] → Taken b waiting listed (record { branches = waiting; systems = listed ++ (record { T = b .T; U = b .Q } ∷ []) })
     by-split : (k : ℕ) (f : Chosen) → Pivot k f b →
         Taken b waiting listed (record { branches = split-open l p k f b ∷ (split-aside l p k f b ∷ waiting); systems = listed })
-    by-divide : (k : ℕ) (f g : Chosen) (r : Poly) → Pivot k f b → Ready k f b → At (g .place) (g .poly) (b .P) → f .place ≢ g .place →
+    by-divide : (k : ℕ) (f g : Chosen) (r : Poly) → Pivot k f b → Settled k f b → At (g .place) (g .poly) (b .P) → f .place ≢ g .place →
         leader (g .poly) ≡ suc k → remainder-by l p k (f .poly) (g .poly) ≡ within r →
         Taken b waiting listed (record { branches = divided l p g r b ∷ waiting; systems = listed })
-    by-close : (k : ℕ) (f : Chosen) (Q : List Poly) → Pivot k f b → Ready k f b → Each (λ g. leader g ≢ suc k) (remove (f .place) (b .P)) →
+    by-close : (k : ℕ) (f : Chosen) (Q : List Poly) → Pivot k f b → Settled k f b → Each (λ g. leader g ≢ suc k) (remove (f .place) (b .P)) →
         Replaced k (f .poly) (b .Q) [] Q →
         Taken b waiting listed (record { branches = after-close f Q b ∷ waiting; systems = listed })
 
@@ -143,19 +91,19 @@ module _ (l : Limits) (p : ℕ) where
         go r q ih false e = let u = ih e in (u .0, (r, q, u .1), u .2)
 
     module _ (b : Branch) (s : State) where
-      close-taken : (k : ℕ) (f : Chosen) → Pivot k f b → Ready k f b → Each (λ g. leader g ≢ suc k) (remove (f .place) (b .P)) →
+      close-taken : (k : ℕ) (f : Chosen) → Pivot k f b → Settled k f b → Each (λ g. leader g ≢ suc k) (remove (f .place) (b .P)) →
           replace l p waiting listed k (f .poly) (b .Q) (closed l p f b) ≡ next s → Taken b waiting listed s
       close-taken k f v y u e =
           let d = replace-next k (f .poly) (b .Q) (closed l p f b) s e in
           subst (Taken b waiting listed) (d .2) (by-close k f (d .0) v y u (d .1))
 
-      divide-taken : (k : ℕ) (f g : Chosen) → Pivot k f b → Ready k f b → At (g .place) (g .poly) (b .P) → f .place ≢ g .place → leader (g .poly) ≡ suc k →
+      divide-taken : (k : ℕ) (f g : Chosen) → Pivot k f b → Settled k f b → At (g .place) (g .poly) (b .P) → f .place ≢ g .place → leader (g .poly) ≡ suc k →
           after-division (remainder-by l p k (f .poly) (g .poly)) (λ r. within-room l (state l p waiting listed (divided l p g r b))) ≡ next s → Taken b waiting listed s
       divide-taken k f g v y a n h e =
           let d = after-division-next (remainder-by l p k (f .poly) (g .poly)) _ s e in
           subst (Taken b waiting listed) (within-room-next (state l p waiting listed (divided l p g (d .0) b)) s (d .2)) (by-divide k f g (d .0) v y a n h (d .1))
 
-      divide-or-close-taken : (k : ℕ) (f : Chosen) → Pivot k f b → Ready k f b → (o : Found) → OtherIs k (f .place) (b .P) o →
+      divide-or-close-taken : (k : ℕ) (f : Chosen) → Pivot k f b → Settled k f b → (o : Found) → OtherIs k (f .place) (b .P) o →
           apply l p waiting listed (divide-or-close k f o) b ≡ next s → Taken b waiting listed s
       unfolding apply
       divide-or-close-taken k f v y none u e = close-taken k f v y u e
@@ -165,7 +113,7 @@ module _ (l : Limits) (p : ℕ) where
       unfolding rule-with apply
       rule-with-taken k f v e = go (is-one (initial k (f .poly)) || member (initial k (f .poly)) (b .Q)) (λ y. y) e
         where
-          go : (c : Bool) → (T c → Ready k f b) →
+          go : (c : Bool) → (T c → Settled k f b) →
               apply l p waiting listed (elim c as (λ c. Rule) [ true ↦ divide-or-close k f (other k (f .place) (b .P)) | false ↦ split k f ]) b ≡ next s → Taken b waiting listed s
           go true y e = divide-or-close-taken k f v (y tt) (other k (f .place) (b .P)) (other-is k (f .place) (b .P)) e
           go false y e = subst (Taken b waiting listed) (within-room-next _ s e) (by-split k f v)

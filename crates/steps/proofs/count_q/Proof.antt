@@ -1,5 +1,4 @@
 -- `count_q` meets its contract: the branch's record holds the count.
-use mathlib.Core.Path.{_≡_}
 use native.Mathlib.Omega.{arith}
 use borrow.Author.Needs.{needs}
 use Rattle.branches.proofs.AreaLaws.{at-inside, q-is}

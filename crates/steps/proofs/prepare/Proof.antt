@@ -1,13 +1,11 @@
 -- `prepare` meets its contract: what the survey chose is the rule that fits.
-use mathlib.Core.Path.{_≡_, sym, subst, _∙_}
-use mathlib.Core.List.{List, _∷_, map, reverse}
+use mathlib.Core.Path.{sym, subst, _∙_}
+use mathlib.Core.List.{_∷_}
 use Prim.Native.Nat.{ℕ}
-use native.Mathlib.Omega.{arith}
 use borrow.Author.Needs.{needs}
-use lib.ListN.{length}
 use Rattle.rules.specs.Step.{Stepped}
 use Rattle.records.specs.Records.{view}
-use Rattle.branches.specs.Area.{Stored, capacity}
+use Rattle.branches.specs.Area.{capacity}
 use Rattle.survey.specs.Survey.{All-hold}
 use Rattle.representation.specs.Represent.{branch-of}
 use Rattle.representation.specs.laws.Steps.{drop-state, list-state}

@@ -1,5 +1,5 @@
 -- `prepare_division` meets its contract: another member of P is found, or the pivot is moved to T.
-use mathlib.Core.Path.{_≡_, sym, _∙_}
+use mathlib.Core.Path.{sym, _∙_}
 use borrow.Author.Needs.{needs}
 use mathlib.Core.List.{map}
 use Rattle.polynomials.specs.Packed.{terms}

@@ -1,6 +1,6 @@
 -- `with_pivot` meets its contract: the pivot and its initial are loaded, and the rule is found by the initial.
-use mathlib.Core.Path.{_≡_, sym, ap, subst, _∙_}
-use mathlib.Core.Bool.{Bool, true, false, _||_}
+use mathlib.Core.Path.{_≡_, sym, ap, _∙_}
+use mathlib.Core.Bool.{true, false}
 use mathlib.Core.List.{List, []}
 use Prim.Native.Nat.{ℕ, _<_}
 use native.Mathlib.Omega.{arith}
@@ -19,7 +19,8 @@ use Rattle.representation.specs.laws.Sounds.{sound-storable}
 use Rattle.steps.specs.Ready.{Ready, limits-in}
 use Rattle.steps.specs.Pending.{Leads}
 use Rattle.steps.proofs.Unique.{of-every}
-use Rattle.steps.proofs.PrepareLaws.{all-hold, neither}
+use Rattle.polynomials.specs.laws.Bounds.{neither}
+use Rattle.steps.proofs.PrepareLaws.{all-hold}
 use Rattle.steps.proofs.PivotLaws.{Pivot-in, pivot-in, Initial-in, initial-in, rule-found, comes}
 use Rattle.steps.proofs.SplitLaws.{split-next, split-stop}
 use Rattle.steps.proofs.with_pivot.Statement.{statement}

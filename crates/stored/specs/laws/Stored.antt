@@ -1,7 +1,7 @@
 -- Where the records are known in parts, the decoders by position find the polynomials that were encoded, and `inserted`, `removed` and `moved` are
 -- known in parts too. The test `same` decides equality.
 use mathlib.Core.Path.{_≡_, refl, sym, ap, ap₂, _∙_}
-use mathlib.Core.Bool.{Bool, true, false, _&&_}
+use mathlib.Core.Bool.{true, _&&_, and-eq-true-iff}
 use mathlib.Core.List.{List, [], _∷_, _++_, append-assoc, append-nil}
 use Prim.Native.Nat.{ℕ, _+_, _/_, _%_, _≤_}
 use native.Mathlib.Nat.{div-add-mod'}
@@ -10,7 +10,7 @@ use borrow.Author.Tests.{eqb-true, eq-eqb}
 use lib.Dec.{eqb}
 use lib.ListN.{length, take, drop, length-append}
 use lib.Seq.{take-at, drop-at, getD-at, drop-append-add}
-use Rattle.records.specs.Records.{Rec, nul, moved}
+use Rattle.records.specs.Records.{Rec, nul}
 use Rattle.stored.specs.Stored.{head, term-records, poly-records, polys-records, size-at, pairs-of, words-at, skip-to, polys-at, same, inserted, removed}
 
 -- ── encoding ──
@@ -118,29 +118,13 @@ removed-in-parts v pre out mid free i n m e at lo lm =
     ap (drop (i + n)) (e ∙ sym (append-assoc pre out (mid ++ free))) ∙ drop-at (pre ++ out) (mid ++ free) (i + n) (omega (arith, length-append pre out)) in
     λ t. (ap (take i) e ∙ take-at pre (out ++ (mid ++ free)) i at) t ++ ((ap (take m) there ∙ take-at mid free m lm) t ++ drop (i + m) v)
 
--- A block copied to the start of the free records.
-pub moved-in-parts : (v pre b mid free : List Rec) (i n to : ℕ) → v ≡ pre ++ (b ++ (mid ++ free)) → length pre ≡ i → length b ≡ n → i + (n + length mid) ≡ to
-    → moved v i n to ≡ pre ++ (b ++ (mid ++ (b ++ drop n free)))
-moved-in-parts v pre b mid free i n to e at lb lt =
-    let front : List Rec = pre ++ b ++ mid in
-    let e' : v ≡ front ++ free = e ∙ simp append-assoc in
-    let lf : length front ≡ to = omega (arith, length-append pre b, length-append (pre ++ b) mid) in
-    let behind : to + n ≡ length front + n = omega arith in
-    let there : take n (drop i v) ≡ b = ap (take n) (ap (drop i) e ∙ drop-at pre (b ++ (mid ++ free)) i at) ∙ take-at b (mid ++ free) n lb in
-    let rest : drop (to + n) v ≡ drop n free = (λ t. drop (behind t) (e' t)) ∙ drop-append-add front free n in
-    (λ t. (ap (take to) e' ∙ take-at front free to lf) t ++ there t ++ rest t) ∙ simp append-assoc
-
 -- ── equality ──
-both : (a b : Bool) → (a && b) ≡ true → (a ≡ true) × (b ≡ true)
-both true b h = (refl, h)
-both false b h = (h, absurd (let z : _≡_ {A = ℕ} 0 1 = cc in omega arith))
-
 pub equal-of-same : (s t : List ℕ) → same s t ≡ true → s ≡ t
 unfolding same
 equal-of-same [] [] h = refl
 equal-of-same [] (y ∷ t) h = cc
 equal-of-same (x ∷ s) [] h = cc
-equal-of-same (x ∷ s) (y ∷ t) h = let parts = both (eqb x y) (same s t) h in ap₂ _∷_ (eqb-true x y (parts .0)) (equal-of-same s t (parts .1))
+equal-of-same (x ∷ s) (y ∷ t) h = let parts = and-eq-true-iff (eqb x y) (same s t) .0 h in ap₂ _∷_ (eqb-true x y (parts .0)) (equal-of-same s t (parts .1))
 
 pub same-refl : (s : List ℕ) → same s s ≡ true
 unfolding same

@@ -14,7 +14,8 @@ use Rattle.stored.specs.Stored.{size-at}
 use Rattle.polynomials.specs.Packed.{bytes}
 use Rattle.rules.specs.Branch.{all-zeros}
 use Rattle.survey.proofs.Walk.{monomial-at}
-use Rattle.survey.proofs.One.{not-one-at, one-at-first, all-zeros-bytes}
+use Rattle.representation.specs.laws.Tests.{all-zeros-bytes}
+use Rattle.survey.proofs.One.{not-one-at, one-at-first}
 use Rattle.survey.proofs.one_at.Statement.{statement}
 use Rattle.survey.proofs.one_at.Tie as tie
 
@@ -61,7 +62,7 @@ returns-3 c =
     let m = monomial-at v (i + 1) in
     let small : m < 18446744073709551616 = omega (arith, c .monomial .ensures) in
     ap (λ (n : ℕ). eqb n 0) (c .monomial .ensures)
-    ∙ sym (one-at-first v i fits one ∙ ap₂ _&&_ (eq-eqb (getD v (i + 1) nul .w0) 1 first) (all-zeros-bytes 8 m small))
+    ∙ sym (one-at-first v i fits one ∙ ap₂ _&&_ (eq-eqb (getD v (i + 1) nul .w0) 1 first) (sym (all-zeros-bytes 8 m small)))
 
 pub one-at-spec : {M : Type 1} → statement M
 one-at-spec =

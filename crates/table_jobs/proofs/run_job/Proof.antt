@@ -1,6 +1,7 @@
 -- The counted words lie within the buffers, so their first words can be lent.
+use mathlib.Core.Path.{_∙_}
 use borrow.Author.Needs.{needs}
-use Rattle.table_jobs.proofs.Laws.{within, within-take}
+use Rattle.lines.proofs.InputLaws.{within, within-take}
 use Rattle.table_jobs.proofs.run_job.Statement.{statement}
 use Rattle.table_jobs.proofs.run_job.Tie as tie
 
@@ -12,6 +13,9 @@ enum-known-kind c = search needs
 
 enum-told : tie.Need-enum-told
 enum-told c = search needs
+
+same-length : tie.Need-same-length
+same-length c = search needs
 
 returns : tie.Need-returns
 returns c = search needs
@@ -25,8 +29,11 @@ enum-known-n c = search needs
 enum-told-2 : tie.Need-enum-told-2
 enum-told-2 c = search needs
 
-same-length : tie.Need-same-length
-same-length c = search needs
+same-length-2 : tie.Need-same-length-2
+same-length-2 c = search needs
+
+same-length-3 : tie.Need-same-length-3
+same-length-3 c = search needs
 
 returns-2 : tie.Need-returns-2
 returns-2 c = search needs
@@ -40,38 +47,47 @@ enum-known-m c = search needs
 enum-told-3 : tie.Need-enum-told-3
 enum-told-3 c = search needs
 
-same-length-2 : tie.Need-same-length-2
-same-length-2 c = search needs
-
-same-length-3 : tie.Need-same-length-3
-same-length-3 c = search needs
-
-returns-3 : tie.Need-returns-3
-returns-3 c = search needs
-
-slice-reshare-prefix-answer : tie.Need-slice-reshare-prefix-answer
-slice-reshare-prefix-answer c = within (c .before .before .before .before .before .before .before .before .before .before .before .before .counted .last .0) (c .before .before .before .before .before .before .before .before .before .before .before .before .counted .ensures) (c .before .before .before .before .before .before .before .before .n .given .1)
-
-slice-aggregate-answer : tie.Need-slice-aggregate-answer
-slice-aggregate-answer c = within-take (c .before .before .before .before .before .before .before .before .before .before .before .before .before .counted .last .0) (c .before .before .before .before .before .before .before .before .before .before .before .before .before .counted .ensures) (c .before .before .before .before .before .before .before .before .before .n .given .1)
-
-slice-reshare-prefix-answer-2 : tie.Need-slice-reshare-prefix-answer-2
-slice-reshare-prefix-answer-2 c = within (c .before .before .before .before .before .before .counted2 .last .0) (c .before .before .before .before .before .before .counted2 .ensures) (c .before .before .m .given .1)
-
-slice-aggregate-answer-2 : tie.Need-slice-aggregate-answer-2
-slice-aggregate-answer-2 c = within-take (c .before .before .before .before .before .before .before .counted2 .last .0) (c .before .before .before .before .before .before .before .counted2 .ensures) (c .before .before .before .m .given .1)
-
-answer-requires : tie.Need-answer-requires
-answer-requires c κs = search needs
-
-print-requires : tie.Need-print-requires
-print-requires c κs = search needs
-
 same-length-4 : tie.Need-same-length-4
 same-length-4 c = search needs
 
 same-length-5 : tie.Need-same-length-5
 same-length-5 c = search needs
+
+same-length-6 : tie.Need-same-length-6
+same-length-6 c = search needs
+
+returns-3 : tie.Need-returns-3
+returns-3 c = search needs
+
+slice-reshare-prefix-answer : tie.Need-slice-reshare-prefix-answer
+slice-reshare-prefix-answer c = within (c .before .before .before .before .before .before .before .before .before .before .before .before .before .before .before .before .before .counted .last .1 .1 .0) (c .before .before .before .before .before .before .before .before .before .before .before .before .before .before .before .before .before .counted .ensures) (c .before .before .before .before .before .before .before .before .before .before .before .n .given .1)
+
+slice-aggregate-answer : tie.Need-slice-aggregate-answer
+slice-aggregate-answer c = within-take (c .before .before .before .before .before .before .before .before .before .before .before .before .before .before .before .before .before .before .counted .last .1 .1 .0) (c .before .before .before .before .before .before .before .before .before .before .before .before .before .before .before .before .before .before .counted .ensures) (c .before .before .before .before .before .before .before .before .before .before .before .before .n .given .1)
+
+slice-reshare-prefix-answer-2 : tie.Need-slice-reshare-prefix-answer-2
+slice-reshare-prefix-answer-2 c = within (c .before .before .before .before .before .before .before .before .counted2 .last .1 .1 .0) (c .before .before .before .before .before .before .before .before .counted2 .ensures) (c .before .before .m .given .1)
+
+slice-aggregate-answer-2 : tie.Need-slice-aggregate-answer-2
+slice-aggregate-answer-2 c = within-take (c .before .before .before .before .before .before .before .before .before .counted2 .last .1 .1 .0) (c .before .before .before .before .before .before .before .before .before .counted2 .ensures) (c .before .before .before .m .given .1)
+
+answer-requires : tie.Need-answer-requires
+answer-requires c κs = search needs
+
+print-requires : tie.Need-print-requires
+print-requires c κs = c .before .before .before .before .before .before .before .before .before .before .before .before .before .before .before .before .before .before .before .before .before .before .before .before .before .before .before .before .before .before .before .before .before .before .before .pre
+
+same-length-7 : tie.Need-same-length-7
+same-length-7 c = c .before .before .before .before .before .before .before .before .before .before .before .before .before .before .counted2 .kept .0 ∙ c .before .before .before .before .before .before .before .before .before .before .before .before .before .before .before .before .before .before .before .before .before .before .before .before .counted .kept .0 ∙ c .before .before .before .before .before .before .before .before .before .before .before .before .before .before .before .before .before .before .before .before .before .before .before .before .before .before .before .before .before .before .before .before .next .kept .0
+
+same-length-8 : tie.Need-same-length-8
+same-length-8 c = search needs
+
+same-length-9 : tie.Need-same-length-9
+same-length-9 c = search needs
+
+same-length-10 : tie.Need-same-length-10
+same-length-10 c = search needs
 
 returns-4 : tie.Need-returns-4
 returns-4 c = search needs
@@ -83,17 +99,20 @@ run-job-spec =
     next-requires
     enum-known-kind
     enum-told
+    same-length
     returns
     counted-requires
     enum-known-n
     enum-told-2
-    same-length
+    same-length-2
+    same-length-3
     returns-2
     counted-requires-2
     enum-known-m
     enum-told-3
-    same-length-2
-    same-length-3
+    same-length-4
+    same-length-5
+    same-length-6
     returns-3
     slice-reshare-prefix-answer
     slice-aggregate-answer
@@ -101,6 +120,8 @@ run-job-spec =
     slice-aggregate-answer-2
     answer-requires
     print-requires
-    same-length-4
-    same-length-5
+    same-length-7
+    same-length-8
+    same-length-9
+    same-length-10
     returns-4)

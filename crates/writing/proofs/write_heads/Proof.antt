@@ -12,7 +12,8 @@ use Rattle.records.specs.Records.{view}
 use Rattle.records.proofs.Rows.{length-view}
 use Rattle.stored.specs.Stored.{size-at, skip-to, polys-at}
 use Rattle.writing.proofs.Over.{over, paste-over}
-use Rattle.writing.proofs.Laws.{heads-end, heads-turn, skip-to-turn, skip-to-le, size-polys-at}
+use Rattle.stored.proofs.Laws.{skip-le}
+use Rattle.writing.proofs.Laws.{heads-end, heads-turn, skip-to-turn, size-polys-at}
 use Rattle.writing.proofs.write_heads.Statement.{statement}
 use Rattle.writing.proofs.write_heads.Tie as tie
 
@@ -37,8 +38,8 @@ within c =
     let i = c .before .loop .i in
     let left = c .before .loop .left in
     let turn = skip-to-turn v i left (left - 1) (omega arith) in
-    let ahead = skip-to-le v (i + 1 + size-at v i) (left - 1) in
-    let behind = skip-to-le v (a .from) (a .k) in (omega arith, omega arith)
+    let ahead = skip-le v (i + 1 + size-at v i) (left - 1) in
+    let behind = skip-le v (a .from) (a .k) in (omega arith, omega arith)
 
 loop-holds : tie.Need-loop-holds Inv-loop μ-loop
 loop-holds c = (refl, refl, refl, refl)

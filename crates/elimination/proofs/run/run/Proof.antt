@@ -1,3 +1,6 @@
+-- `run::run` meets its contract. The invariants, of the run: the run from the state held gives the whole run; of the members: what is left of the step,
+-- from the branch held, gives the step; of the division: the rounds left, from the words in r, form the remainder. The measures: the steps left, the
+-- members left, the degree.
 use mathlib.Core.Path.{_≡_, refl, sym, ap, subst, _∙_}
 use mathlib.Core.Logic.{⊎-elim}
 use mathlib.Core.Bool.{true}
@@ -23,15 +26,6 @@ use Rattle.elimination.proofs.MembersLaws.{AtMember, members-open, memb
 use Rattle.elimination.proofs.RunLaws.{run-has-control, step-in, Goes-to, prepared-done, prepared-stop, prepared-members, members-first, members-done, members-stop, run-holds-some, run-finished, run-open-some, run-no-steps, run-stopped, run-goes-on}
 use Rattle.elimination.proofs.run.run.Statement.{statement}
 use Rattle.elimination.proofs.run.run.Tie as tie
-use Rattle.elimination.proofs.run.run.Reads as reads
-use Rattle.elimination.proofs.run.run.Lts as lts
-use Rattle.branches.proofs.turn.is_open.Reads as is-open-reads
-use Rattle.division.proofs.round.Reads as round-reads
-use Rattle.records.proofs.get3.Reads as get3-reads
-use Rattle.steps.proofs.prepare.Reads as prepare-reads
-use Rattle.steps.proofs.put_back.Reads as put-back-reads
-use Rattle.steps.proofs.take.Reads as take-reads
-use Rattle.terms.proofs.parts.degree.Reads as degree-reads
 
 abbrev Inv-division : tie.InvT-division
 Inv-division w p limit t i r₀ x₀ y₀ z₀ steps k degree pivot initial closing place left n₀ r x y z n =

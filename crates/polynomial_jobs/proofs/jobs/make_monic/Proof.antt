@@ -1,7 +1,6 @@
 -- `make_monic`: x holds what f holds, and keeps its length.
 use mathlib.Core.Path.{sym, subst}
 use native.Mathlib.Omega.{arith}
-use lib.ListN.{length}
 use Rattle.polynomials.specs.Working.{Holds}
 use borrow.Author.Needs.{needs}
 use Rattle.polynomial_jobs.proofs.jobs.make_monic.Statement.{statement}

@@ -1,6 +1,5 @@
 -- `monomial::at_most` meets its contract: bytes compare as the numbers do.
-use mathlib.Core.Path.{_≡_, sym, ap}
-use Prim.Native.Nat.{_<_, _^_}
+use mathlib.Core.Path.{sym, ap}
 use native.Mathlib.Omega.{arith}
 use lib.Dec.{isLe}
 use Rattle.polynomials.specs.laws.Packed.{order-bytes}

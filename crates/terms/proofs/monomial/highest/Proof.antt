@@ -1,6 +1,6 @@
 -- `monomial::highest` meets its contract. The invariant: what is left is m behind k of its eight bytes. The measure is what is left.
 use mathlib.Core.Path.{_≡_, refl, subst}
-use Prim.Native.Nat.{ℕ, _≤_, _<_, _^_}
+use Prim.Native.Nat.{ℕ}
 use native.Mathlib.Omega.{arith}
 use Rattle.polynomials.specs.laws.Highest.{Behind, behind-next, behind-end}
 use Rattle.terms.proofs.monomial.highest.Statement.{statement}

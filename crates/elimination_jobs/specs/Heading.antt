@@ -1,0 +1,32 @@
+-- The first line of a job.
+use mathlib.Core.Path.{_≡_, refl}
+use mathlib.Core.Bool.{true, false}
+use mathlib.Core.List.{List, [], _∷_}
+use Prim.Native.Nat.{ℕ, zero, suc, _≤_}
+use lib.Dec.{eqb}
+use lib.ListN.{length}
+use Rattle.tables.specs.Reason.{number}
+use Rattle.elimination.specs.declared.Answer.{Answer}
+use Rattle.elimination.specs.declared.Outcome.{Outcome}
+use Rattle.elimination.specs.declared.Outcome.the-variants.{Systems, Refused}
+use Rattle.elimination_jobs.specs.declared.job.Heading.{Heading}
+use Rattle.elimination_jobs.specs.declared.job.Job.{Job}
+use Rattle.elimination_jobs.specs.declared.job.Job.the-variants.{Next, End}
+
+-- How many words are not zero.
+unfoldable pub nonzero : List ℕ → ℕ
+nonzero [] = 0
+nonzero (x ∷ xs) = elim (eqb x 0) [ true ↦ nonzero xs | false ↦ suc (nonzero xs) ]
+
+-- 0 or the refusal's number, the steps, the count of systems or the refusal's record; and how many words of the work area are not zero.
+abbrev pub heading : ℕ → Outcome → ℕ → Heading
+heading steps (Systems count) k = record { outcome = 0; steps = steps; value = count; nonzero = k }
+heading steps (Refused why at) k = record { outcome = number why; steps = steps; value = at; nonzero = k }
+
+abbrev pub heading-of : Answer → ℕ → Heading
+heading-of a k = heading (a .steps) (a .outcome) k
+
+-- The words of a job's table stand at the start of the slice.
+abbrev pub Shaped : Job → List ℕ → Type 0
+Shaped (Next s i) w = s .table ≤ length w
+Shaped End w = Unit {0}

@@ -1,0 +1,72 @@
+-- The invariant: the words put so far and those that are left are all.
+use mathlib.Core.Path.{_≡_, refl, sym, _∙_, ap}
+use mathlib.Core.List.{_++_}
+use Prim.Native.Nat.{_+_, _*_, _-_, _/_, _≤_}
+use native.Mathlib.Omega.{arith}
+use borrow.Author.Needs.{needs}
+use lib.ListN.{length, length-set, take}
+use Rattle.lines.specs.Input.{words-from, words-of}
+use Rattle.lines.proofs.InputLaws.{Decoded, decoded-first, decoded-on, decoded-end}
+use Rattle.lines.proofs.input.decode.Statement.{statement}
+use Rattle.lines.proofs.input.decode.Tie as tie
+
+abbrev Inv-loop : tie.InvT-loop
+Inv-loop bytes words₀ n i₀ words i = (i ≤ n) × (length words ≡ length words₀) × Decoded bytes n i words
+
+abbrev μ-loop : tie.MeasureT-loop
+μ-loop bytes words₀ n i₀ words i = n - i
+
+loop-holds : tie.Need-loop-holds Inv-loop μ-loop
+loop-holds c =
+    let a = c .before .before .args in
+    (omega arith, search needs, decoded-first (a .bytes .now) (length (a .bytes .now) / 4) (a .words .now))
+
+mul-word-at : tie.Need-mul-word-at Inv-loop μ-loop
+mul-word-at c = search needs
+
+word-at-requires : tie.Need-word-at-requires Inv-loop μ-loop
+word-at-requires c κs = search needs
+
+mul-words : tie.Need-mul-words Inv-loop μ-loop
+mul-words c = search needs
+
+slice-write-words : tie.Need-slice-write-words Inv-loop μ-loop
+slice-write-words c = search needs
+
+add-i : tie.Need-add-i Inv-loop μ-loop
+add-i c = search needs
+
+loop-less : tie.Need-loop-less Inv-loop μ-loop
+loop-less c = search needs
+
+loop-again : tie.Need-loop-again Inv-loop μ-loop
+loop-again c =
+    let l = c .before .before .loop in
+    let b = c .before .before .before .before .before .args .bytes .now in
+    (omega arith, simp length-set (search needs), decoded-on b (length b / 4) (l .i) (l .words) (c .word-at .result) (c .before .loop-test .taken) (omega arith) (c .word-at .ensures) (l .inv .2))
+
+same-length : tie.Need-same-length Inv-loop μ-loop
+same-length c = search needs
+
+returns : tie.Need-returns Inv-loop μ-loop
+unfolding words-of
+returns c =
+    let b = c .before .before .before .before .args .bytes .now in
+    decoded-end b (length b / 4) (c .before .loop .i) (c .before .loop .words) (omega arith) (c .before .loop .inv .2)
+
+pub decode-spec : {M : Type 1} → statement M
+decode-spec =
+    tie.close
+    (tie.spec
+    Inv-loop
+    μ-loop
+    loop-holds
+    mul-word-at
+    word-at-requires
+    mul-words
+    slice-write-words
+    add-i
+    loop-less
+    loop-again
+    same-length
+    returns)

@@ -1,0 +1,3 @@
+pub mod Line
+pub mod Input
+pub mod Text

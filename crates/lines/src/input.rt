@@ -1,0 +1,116 @@
+// Words from bytes, and from standard input by way of a buffer.
+ghost use mathlib.Core.Path.{_≡_};
+ghost use Prim.Native.Nat.{_+_, _*_, _-_, _/_, _≤_};
+ghost use lib.ListN.{length, take};
+ghost use Rattle.lines.specs.Input.{word-at, words-of, Reached, Left, Within};
+use libc::STDIN_FILENO;
+
+// The bytes of a buffer that are read and not yet used: from `at` up to `end`.
+pub struct Input {
+    pub at: usize,
+    pub end: usize,
+}
+
+pub enum Word {
+    Read(u32, Input),
+    End,
+}
+
+pub enum Filled {
+    Full(Input),
+    CutShort,
+}
+
+// The first words of a slice, or too few.
+pub enum Words {
+    First(usize, Input),
+    CutShort,
+}
+
+// The number that four bytes spell, the lowest first.
+fn from_bytes(a: u8, b: u8, c: u8, d: u8) -> u32
+    ensures { λ r. ⌜ r ≡ a + 256 * b + 65536 * c + 16777216 * d ⌝ }
+{
+    a as u32 + 256 * (b as u32) + 65536 * (c as u32) + 16777216 * (d as u32)
+}
+
+// The word at byte i.
+fn word_at(bytes: &[u8], i: usize) -> u32
+    requires { ⌜ i + 4 ≤ length (now bytes) ⌝ }
+    ensures { λ r. ⌜ r ≡ word-at (now (bytes .entry)) i ⌝ }
+{
+    from_bytes(bytes[i], bytes[i + 1], bytes[i + 2], bytes[i + 3])
+}
+
+// Puts the whole words of the bytes to the start of `words`.
+pub fn decode(bytes: &[u8], words: &mut [u32])
+    requires { ⌜ length (now bytes) / 4 ≤ length (now words) ⌝ }
+    ensures { λ _. ⌜ take (length (now (bytes .entry)) / 4) (now (words .exit)) ≡ words-of (now (bytes .entry)) ⌝ }
+{
+    let n = bytes.len() / 4;
+    let mut i = 0;
+    while i < n {
+        words[i] = word_at(bytes, 4 * i);
+        i += 1;
+    }
+}
+
+// Nothing is read yet.
+pub fn begin() -> Input {
+    Input { at: 0, end: 0 }
+}
+
+// The next word. The buffer is filled anew when it holds no whole word more, so its length is to be a multiple of 4.
+pub fn next(buffer: &mut [u8], input: Input) -> Word
+    ensures { λ r. ⌜ Reached r (now (buffer .exit)) ⌝ }
+    ensures { λ r. ⌜ (Left input (now (buffer .entry)) → (r ≡ Word.Read (word-at (now (buffer .entry)) (input .at)) (record { at = input .at + 4; end = input .end })) × (now (buffer .exit) ≡ now (buffer .entry))) ⌝ }
+{
+    let at = input.at;
+    let end = input.end;
+    if end <= buffer.len() && at <= end && 4 <= end - at {
+        return Word::Read(
+            word_at(buffer, at),
+            Input {
+                at: at + 4,
+                end: end,
+            },
+        );
+    }
+    let n = io::read_full(STDIN_FILENO, buffer);
+    if n < 4 {
+        return Word::End;
+    }
+    Word::Read(word_at(buffer, 0), Input { at: 4, end: n })
+}
+
+// Reads as many words as the slice has.
+pub fn fill(buffer: &mut [u8], input: Input, words: &mut [u32]) -> Filled {
+    let mut rest = input;
+    let mut i = 0;
+    while i < words.len() {
+        let Word::Read(x, after) = next(buffer, rest) else {
+            return Filled::CutShort;
+        };
+        words[i] = x;
+        rest = after;
+        i += 1;
+    }
+    Filled::Full(rest)
+}
+
+// Reads a count, and as many words to the start of the slice.
+pub fn counted(buffer: &mut [u8], input: Input, words: &mut [u32]) -> Words
+    ensures { λ r. ⌜ Within r (now (words .exit)) ⌝ }
+{
+    let Word::Read(count, after) = next(buffer, input) else {
+        return Words::CutShort;
+    };
+    let n = count as usize;
+    if words.len() < n {
+        return Words::CutShort;
+    }
+    let Filled::Full(rest) = fill(buffer, after, &mut words[..n]) else {
+        return Words::CutShort;
+    };
+    Words::First(n, rest)
+}

@@ -1,0 +1,4 @@
+pub mod Held
+pub mod Readers
+pub mod PointLaws
+pub mod ListLaws

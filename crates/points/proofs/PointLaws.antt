@@ -1,0 +1,274 @@
+-- The loops of trying a point: what is left of a polynomial's value, and of the polynomials to try, along their chains.
+use mathlib.Core.Path.{_≡_, refl, sym, _∙_, ap, subst}
+use mathlib.Core.Logic.{_≢_}
+use mathlib.Core.Bool.{Bool, true, false, not, _&&_, Bool·beq, true≢false, false≢true}
+use mathlib.Core.List.{List, [], _∷_}
+use Prim.Native.Nat.{ℕ, suc, _+_, _*_, _%_, _≤_, _<_}
+use native.Mathlib.Nat.{mod-lt, zero-add, add-zero, add-mod-mod, mod-add-mod, mod-eq-of-lt}
+use native.Mathlib.Omega.{arith}
+use lib.Dec.{eqb}
+use borrow.Author.Tests.{not-true, not-false}
+use Rattle.polynomials.specs.Poly.{Term, Poly}
+use Rattle.polynomials.specs.Packed.{exponents}
+use Rattle.polynomials.specs.Value.{monomial-valueℕ, valueℕ, value-modulo, Point}
+use Rattle.tables.specs.Words.{word, records}
+use Rattle.tables.specs.declared.Reason.{Reason}
+use Rattle.tables.specs.declared.Reason.the-variants.{Point as PointReason}
+use Rattle.tables.specs.declared.Reading.{Reading}
+use Rattle.tables.specs.declared.ReadOutcome.the-variants.{Accepted, Refused as ReadRefused}
+use Rattle.tables.specs.declared.TrialOutcome.the-variants.{Yes, No, Refused as TrialRefused}
+use Rattle.tables.specs.Read.{Read, good, refused, unless, Input, Before, first, after, read-term, read-head, read-heads, read-table}
+use Rattle.tables.specs.Solve.{is-point, is-root, all-zero, none-zero, solves, reading, yes-or-no, trial, try-input}
+use Rattle.tables.specs.Walk.{Readable}
+use Rattle.points.specs.Walks.{all-match}
+use Rattle.tables.specs.laws.Chains.{term-read}
+use Rattle.tables.specs.laws.Linked.{good-same, left, Member, linked-member, linked-end, linked-less, TermChain, terms-linked, HeadChain, heads-linked}
+use Rattle.residues.specs.laws.Prime.{modulus-prime}
+use Rattle.tables.specs.laws.Accepted.{some-record, table-read}
+use Rattle.tables.specs.laws.Solved.{PointOf, point-is}
+
+pub not-point : (p n : ℕ) (x : List ℕ) → ¬ PointOf p n x → false ≡ is-point p n x
+not-point p n x h = go (is-point p n x) (point-is p n x .0)
+  where
+    go : (b : Bool) → (b ≡ true → PointOf p n x) → false ≡ b
+    go true f = absurd (h (f refl))
+    go false f = refl
+
+pub readable-modulus : (w : List ℕ) (p n : ℕ) → Readable w p n → (2 ≤ p) × (p < 2147483648)
+readable-modulus w p n r = let k = modulus-prime p (r .prime) in (k .0 .two≤, k .1)
+
+-- ── the value of a polynomial ──
+-- v and the value of the terms from index i on make the value of the polynomial with its head in record `head`.
+pub record ValueLeft (w : List ℕ) (p n head : ℕ) (x : List ℕ) (v i : ℕ) : Type 0 where
+  pub whole : Poly
+  pub is-read : read-head w p n head ≡ good whole
+  pub state : ℕ × Before
+  pub at : ℕ
+  pub rest : Poly
+  pub linked : TermChain w p n state at i rest
+  pub below : v < p
+  pub sum : (v + valueℕ rest x) % p ≡ value-modulo p whole x
+
+module _ (w : List ℕ) (p n head : ℕ) (x : List ℕ) where
+  pub value-start : (f : Poly) → 0 < p → head < records w → read-head w p n head ≡ good f → ValueLeft w p n head x 0 (word w head 0)
+  unfolding value-modulo
+  value-start f pos h e =
+      record {
+        whole = f;
+        is-read = e;
+        state = (0, first);
+        at = head;
+        rest = f;
+        linked = terms-linked w p n head f h e;
+        below = pos;
+        sum = ap (λ z. z % p) (zero-add (valueℕ f x));
+      }
+
+  module _ (v i : ℕ) (l : ValueLeft w p n head x v i) where
+    pub value-end : i ≡ 0 → (f : Poly) → read-head w p n head ≡ good f → v ≡ value-modulo p f x
+    unfolding valueℕ
+    value-end z f e =
+        let r : l .rest ≡ [] = linked-end w _ _ (l .state) (l .at) i (l .rest) z (l .linked) in
+        let s : l .whole ≡ f = good-same (sym (l .is-read) ∙ e) in
+        sym (mod-eq-of-lt (l .below)) ∙ ap (λ z. z % p) (sym (add-zero v)) ∙ ap (λ (g : Poly). (v + valueℕ g x) % p) (sym r) ∙ l .sum ∙ ap (λ (g : Poly). value-modulo p g x) s
+
+    -- The term in record i.
+    module _ (more : i ≢ 0) where
+      term : Member w (λ s j. read-term w p n (s .0) (s .1) j) (λ s t. (suc (s .0), after (t .exps))) (l .state) (l .at) i (l .rest)
+      term = linked-member w _ _ (l .state) (l .at) i (l .rest) more (l .linked)
+
+      pub value-inside : i < records w
+      value-inside = term .inside
+
+      pub value-residue : word w i 0 < p
+      value-residue = term-read w p n (term .is-read) .residue
+
+      pub value-less : left (records w) (word w i 3) < left (records w) i
+      value-less = linked-less w _ _ _ i (word w i 3) (term .behind) more (term .inside) (term .linked)
+
+      pub value-next : 0 < p → (u : ℕ) → u ≡ (v + word w i 0 * monomial-valueℕ x (exponents (word w i 1) (word w i 2)) % p) % p → ValueLeft w p n head x u (word w i 3)
+      unfolding valueℕ
+      value-next pos u e =
+          record {
+            whole = l .whole;
+            is-read = l .is-read;
+            state = _;
+            at = i;
+            rest = term .behind;
+            linked = term .linked;
+            below = subst (λ z. z < p) (sym e) (mod-lt _ pos);
+            sum = ap (λ z. (z + valueℕ (term .behind) x) % p) e
+                ∙ regroup (word w i 0 * monomial-valueℕ x (exponents (word w i 1) (word w i 2))) (valueℕ (term .behind) x)
+                ∙ ap (λ (t : Term). (v + valueℕ (t ∷ term .behind) x) % p) (sym (term-read w p n (term .is-read) .is))
+                ∙ ap (λ (g : Poly). (v + valueℕ g x) % p) (sym (term .parts))
+                ∙ l .sum;
+          }
+        where
+          regroup : (q r : ℕ) → ((v + q % p) % p + r) % p ≡ (v + (q + r)) % p
+          regroup q r = ap (λ z. (z + r) % p) (add-mod-mod v q p) ∙ mod-add-mod (v + q) p r ∙ ap (λ z. z % p) (omega arith)
+
+-- ── all polynomials of a chain ──
+match-next : (p : ℕ) (x : List ℕ) (b : Bool) (f : Poly) (fs : List Poly) → is-root p x f ≡ b → all-match p x b (f ∷ fs) ≡ all-match p x b fs
+unfolding all-zero none-zero
+match-next p x true f fs e = ap (λ r. r && all-zero p x fs) e
+match-next p x false f fs e = ap (λ r. not r && none-zero p x fs) e
+
+match-not : (p : ℕ) (x : List ℕ) (b : Bool) (f : Poly) (fs : List Poly) → is-root p x f ≢ b → all-match p x b (f ∷ fs) ≡ false
+unfolding all-zero none-zero
+match-not p x true f fs h = go (is-root p x f) h
+  where
+    go : (r : Bool) → r ≢ true → (r && all-zero p x fs) ≡ false
+    go true k = absurd (k refl)
+    go false k = refl
+match-not p x false f fs h = go (is-root p x f) h
+  where
+    go : (r : Bool) → r ≢ false → (not r && none-zero p x fs) ≡ false
+    go true k = refl
+    go false k = absurd (k refl)
+
+-- Two tests compared by the code's `!=`.
+pub differ : (a b : Bool) → not (Bool·beq a b) ≡ true → a ≢ b
+differ true true e q = false≢true e
+differ true false e q = true≢false q
+differ false true e q = false≢true q
+differ false false e q = false≢true e
+
+pub agree : (a b : Bool) → not (Bool·beq a b) ≡ false → a ≡ b
+agree true true e = refl
+agree true false e = absurd (true≢false e)
+agree false true e = absurd (true≢false e)
+agree false false e = refl
+
+-- The polynomials from index i on decide for all from the index `start` on, which record `from` holds.
+pub record MatchLeft (w : List ℕ) (p n from start : ℕ) (x : List ℕ) (b : Bool) (i : ℕ) : Type 0 where
+  pub whole : List Poly
+  pub is-read : read-heads w p n (records w) from start ≡ good whole
+  pub at : ℕ
+  pub rest : List Poly
+  pub linked : HeadChain w p n at i rest
+  pub same : all-match p x b rest ≡ all-match p x b whole
+
+module _ (w : List ℕ) (p n from start : ℕ) (x : List ℕ) (b : Bool) where
+  pub match-start : (fs : List Poly) → from < records w → read-heads w p n (records w) from start ≡ good fs → MatchLeft w p n from start x b start
+  match-start fs h e = record { whole = fs; is-read = e; at = from; rest = fs; linked = heads-linked w p n from start fs h e; same = refl }
+
+  module _ (i : ℕ) (l : MatchLeft w p n from start x b i) where
+    pub match-end : i ≡ 0 → (fs : List Poly) → read-heads w p n (records w) from start ≡ good fs → true ≡ all-match p x b fs
+    unfolding all-zero none-zero
+    match-end z fs e =
+        let r : l .rest ≡ [] = linked-end w _ _ tt (l .at) i (l .rest) z (l .linked) in
+        let s : l .whole ≡ fs = good-same (sym (l .is-read) ∙ e) in
+        none b ∙ ap (all-match p x b) (sym r) ∙ l .same ∙ ap (all-match p x b) s
+      where
+        none : (b : Bool) → true ≡ all-match p x b []
+        none true = refl
+        none false = refl
+
+    module _ (more : i ≢ 0) where
+      head : Member {S = Unit {0}} w (λ s j. read-head w p n j) (λ s f. s) tt (l .at) i (l .rest)
+      head = linked-member w _ _ tt (l .at) i (l .rest) more (l .linked)
+
+      pub match-inside : i < records w
+      match-inside = head .inside
+
+      pub match-read : (f : Poly) × (read-head w p n i ≡ good f)
+      match-read = (head .member, head .is-read)
+
+      pub match-less : left (records w) (word w i 3) < left (records w) i
+      match-less = linked-less w _ _ tt i (word w i 3) (head .behind) more (head .inside) (head .linked)
+
+      -- r is the value of the polynomial with its head in record i.
+      module _ (r : ℕ) (is-value : (f : Poly) → read-head w p n i ≡ good f → r ≡ value-modulo p f x) where
+        head-root : is-root p x (head .member) ≡ eqb r 0
+        unfolding is-root
+        head-root = ap (λ z. eqb z 0) (sym (is-value (head .member) (head .is-read)))
+
+        pub match-on : eqb r 0 ≡ b → MatchLeft w p n from start x b (word w i 3)
+        match-on e =
+            record {
+              whole = l .whole;
+              is-read = l .is-read;
+              at = i;
+              rest = head .behind;
+              linked = head .linked;
+              same = sym (match-next p x b (head .member) (head .behind) (head-root ∙ e)) ∙ ap (all-match p x b) (sym (head .parts)) ∙ l .same;
+            }
+
+        pub match-fails : eqb r 0 ≢ b → (fs : List Poly) → read-heads w p n (records w) from start ≡ good fs → false ≡ all-match p x b fs
+        match-fails k fs e =
+            let s : l .whole ≡ fs = good-same (sym (l .is-read) ∙ e) in
+            sym (match-not p x b (head .member) (head .behind) (λ q. k (sym head-root ∙ q))) ∙ ap (all-match p x b) (sym (head .parts)) ∙ l .same ∙ ap (all-match p x b) s
+
+-- ── a table ──
+refused-reading : (r : Read Input) (why : Reason) (at : ℕ) → reading r .outcome ≡ ReadRefused why at → r ≡ refused why at
+refused-reading (good t) why at e = let z : _≡_ {A = ℕ} 0 1 = cc in absurd (omega arith)
+refused-reading (refused why′ at′) why at e = cc
+
+accepted-reading : (r : Read Input) → reading r .outcome ≡ Accepted → (t : Input) × (r ≡ good t)
+accepted-reading (good t) e = (t, refl)
+accepted-reading (refused why at) e = let z : _≡_ {A = ℕ} 0 1 = cc in absurd (omega arith)
+
+-- The code's p and n are the first words of an accepted table.
+pub record AcceptedTable (w : List ℕ) : Type 0 where
+  pub input : Input
+  pub is-read : read-table w ≡ good input
+  pub readable : Readable w (word w 0 0) (word w 0 1)
+  pub zeros : read-heads w (word w 0 0) (word w 0 1) (records w) 0 (word w 0 2) ≡ good (input .P)
+  pub nonzeros : read-heads w (word w 0 0) (word w 0 1) (records w) 0 (word w 0 3) ≡ good (input .Q)
+  pub some : 0 < records w
+
+module _ (w x : List ℕ) (r : Reading) (e : r ≡ reading (read-table w)) where
+  pub table-refused : (why : Reason) (at : ℕ) → r .outcome ≡ ReadRefused why at → record { outcome = TrialRefused why at } ≡ trial (try-input w x)
+  unfolding try-input
+  table-refused why at h =
+      let q : read-table w ≡ refused why at = refused-reading (read-table w) why at (ap (λ (s : Reading). s .outcome) (sym e) ∙ h) in
+      rw q
+
+  pub table-accepted : r .outcome ≡ Accepted → AcceptedTable w
+  table-accepted h =
+      let k = accepted-reading (read-table w) (ap (λ (s : Reading). s .outcome) (sym e) ∙ h) in
+      let t = table-read w (k .0) (k .1) in
+      record {
+        input = k .0;
+        is-read = k .1;
+        readable = rw (t .modulus, t .variables) at (t .readable);
+        zeros = rw (t .modulus, t .variables) at (t .zeros);
+        nonzeros = rw (t .modulus, t .variables) at (t .nonzeros);
+        some = some-record w (t .readable .whole);
+      }
+
+-- The answers, along the code's tests: is x a point, are all of P zero there, is none of Q?
+module _ (w x : List ℕ) (k : AcceptedTable w) where
+  -- What `all_match` says of the chain from an index in the header.
+  abbrev Tried : Bool → Bool → ℕ → Type 0
+  Tried r b start =
+      (fs : List Poly) → read-heads w (word w 0 0) (word w 0 1) (records w) 0 start ≡ good fs → r ≡ all-match (word w 0 0) x b fs
+
+  answer : trial (try-input w x)
+      ≡ trial (unless (not (is-point (word w 0 0) (word w 0 1) x)) PointReason 0 (good (solves (word w 0 0) x (k .input .P) (k .input .Q))))
+  unfolding try-input
+  answer = let t = table-read w (k .input) (k .is-read) in rw (k .is-read, t .modulus, t .variables)
+
+  module _ (r : Bool) (r-is : r ≡ is-point (word w 0 0) (word w 0 1) x) where
+    pub no-point : not r ≡ true → record { outcome = TrialRefused PointReason 0 } ≡ trial (try-input w x)
+    no-point h = rw (answer, ← r-is, not-true r h)
+
+    module _ (h : not r ≡ false) where
+      pub point-residues : Point (word w 0 0) x
+      point-residues = point-is (word w 0 0) (word w 0 1) x .0 (sym r-is ∙ not-false r h) .1
+
+      module _ (a : Bool) (a-is : Tried a true (word w 0 2)) where
+        pub some-nonzero : not a ≡ true → record { outcome = No } ≡ trial (try-input w x)
+        unfolding solves
+        some-nonzero h₂ = rw (answer, ← r-is, not-false r h, ← a-is (k .input .P) (k .zeros), not-true a h₂)
+
+        module _ (h₂ : not a ≡ false) (b : Bool) (b-is : Tried b false (word w 0 3)) where
+          answer-last : trial (try-input w x) ≡ yes-or-no b
+          unfolding solves
+          answer-last = rw (answer, ← r-is, not-false r h, ← a-is (k .input .P) (k .zeros), not-false a h₂, ← b-is (k .input .Q) (k .nonzeros))
+
+          pub some-zero : not b ≡ true → record { outcome = No } ≡ trial (try-input w x)
+          some-zero h₃ = rw (answer-last, not-true b h₃)
+
+          pub all-solved : not b ≡ false → record { outcome = Yes } ≡ trial (try-input w x)
+          all-solved h₃ = rw (answer-last, not-false b h₃)

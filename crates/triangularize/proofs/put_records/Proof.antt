@@ -1,0 +1,91 @@
+-- The invariant: the text so far and the lines that are left are all.
+use mathlib.Core.Path.{_≡_}
+use mathlib.Core.List.{_++_}
+use Prim.Native.Nat.{_+_, _*_, _-_, _≤_}
+use native.Mathlib.Omega.{arith}
+use borrow.Author.Needs.{needs}
+use lib.ListN.{length, take, drop, length-take}
+use Rattle.triangularize.specs.Said.{records-text}
+use Rattle.triangularize.proofs.SaidLaws.{Recorded, recorded-first, recorded-on, recorded-end}
+use Rattle.triangularize.proofs.put_records.Statement.{statement}
+use Rattle.triangularize.proofs.put_records.Tie as tie
+
+abbrev Inv-loop : tie.InvT-loop
+Inv-loop text₀ end list n last₀ i₀ text last i = (i ≤ n) × (length text ≡ length text₀) × (last ≤ end + 85 * i) × Recorded list n (take end text₀ ++ records-text list 0 n) i (take last text)
+
+abbrev μ-loop : tie.MeasureT-loop
+μ-loop text₀ end list n last₀ i₀ text last i = n - i
+
+loop-holds : tie.Need-loop-holds Inv-loop μ-loop
+loop-holds c =
+    let a = c .before .before .args in
+    (omega arith, search needs, omega arith, recorded-first (a .list .now) (a .n) (take (a .end) (a .text .now)))
+
+mul-from : tie.Need-mul-from Inv-loop μ-loop
+mul-from c = search needs
+
+add-to : tie.Need-add-to Inv-loop μ-loop
+add-to c = search needs
+
+mul-put-line : tie.Need-mul-put-line Inv-loop μ-loop
+mul-put-line c = search needs
+
+sub-put-line : tie.Need-sub-put-line Inv-loop μ-loop
+sub-put-line c = search needs
+
+part-put-line-start : tie.Need-part-put-line-start Inv-loop μ-loop
+part-put-line-start c = search needs
+
+part-put-line-end : tie.Need-part-put-line-end Inv-loop μ-loop
+part-put-line-end c = search needs
+
+put-line-requires : tie.Need-put-line-requires Inv-loop μ-loop
+put-line-requires c κs = search needs
+
+add-i : tie.Need-add-i Inv-loop μ-loop
+add-i c = search needs
+
+loop-less : tie.Need-loop-less Inv-loop μ-loop
+loop-less c = search needs
+
+loop-again : tie.Need-loop-again Inv-loop μ-loop
+loop-again c =
+    let a = c .before .before .before .before .before .before .before .before .before .args in
+    let l = c .before .before .before .before .before .before .loop in
+    let e = c .before .before .put-line .ensures in
+    let k = 4 * l .i + 4 - 4 * l .i in
+    let w = a .list .now in (
+      omega arith,
+      search needs,
+      omega (arith, e .0, length-take k (drop (4 * l .i) w)),
+      recorded-on w (a .n) (l .i) k (take (l .last) (l .text)) (c .before .before .before .before .before .loop-test .taken) (omega arith) (l .inv .3) (e .1),
+    )
+
+same-length : tie.Need-same-length Inv-loop μ-loop
+same-length c = search needs
+
+returns : tie.Need-returns Inv-loop μ-loop
+returns c =
+    let a = c .before .before .before .before .args in
+    let l = c .before .loop in
+    (omega arith, recorded-end (a .list .now) (a .n) (l .i) (take (l .last) (l .text)) (omega arith) (l .inv .3))
+
+pub put-records-spec : {M : Type 1} → statement M
+put-records-spec =
+    tie.close
+    (tie.spec
+    Inv-loop
+    μ-loop
+    loop-holds
+    mul-from
+    add-to
+    mul-put-line
+    sub-put-line
+    part-put-line-start
+    part-put-line-end
+    put-line-requires
+    add-i
+    loop-less
+    loop-again
+    same-length
+    returns)

@@ -1,0 +1,30 @@
+-- What is printed.
+use mathlib.Core.Path.{_≡_, refl}
+use mathlib.Core.Bool.{true, false}
+use mathlib.Core.Logic.{_⊎_}
+use mathlib.Core.List.{List, [], _∷_, _++_}
+use Prim.Native.Nat.{ℕ, zero, suc, _*_, _%_, _<_}
+use lib.ListN.{length, take, drop}
+use Rattle.tables.specs.Reason.{number}
+use Rattle.lines.specs.Text.{line-text}
+use Rattle.elimination.specs.declared.Answer.{Answer}
+use Rattle.elimination.specs.declared.Outcome.{Outcome}
+use Rattle.elimination.specs.declared.Outcome.the-variants.{Systems, Refused}
+use Rattle.extent.specs.Extent.{extent}
+
+-- "Each written record on a line": so many, from record i on.
+unfoldable pub records-text : List ℕ → ℕ → ℕ → List ℕ
+records-text w i zero = []
+records-text w i (suc n) = line-text (take 4 (drop (4 * i) w)) ++ records-text w (suc i) n
+
+-- "It prints outcome (0 or the refusal), steps, then systems or the record; after an outcome of 0, each written record on a line."
+unfoldable pub said-of : ℕ → Outcome → List ℕ → List ℕ
+said-of steps (Systems count) out = line-text (0 ∷ steps ∷ count ∷ []) ++ records-text out 0 (extent out)
+said-of steps (Refused why at) out = line-text (number why ∷ steps ∷ at ∷ [])
+
+abbrev pub said : Answer → List ℕ → List ℕ
+said a out = said-of (a .steps) (a .outcome) out
+
+-- "Longer input, or a broken last word."
+abbrev pub Unread : List ℕ → Type 0
+Unread bytes = (65536 < length bytes) ⊎ (0 < length bytes % 4)

@@ -10,13 +10,13 @@ ghost use Rattle.tables.specs.Read.{System, good, read-head, read-triangle, rea
 ghost use Rattle.tables.specs.Solve.{checked, solves, first-solved, placing, try-systems};
 ghost use Rattle.tables.specs.Walk.{Readable};
 ghost use Rattle.points.specs.Walks.{counted};
+use crate::point;
+use crate::reader;
 use tables::Checked;
 use tables::PlaceOutcome;
 use tables::Placing;
 use tables::Reason;
-use crate::point;
 use tables::read;
-use crate::reader;
 use tables::words;
 use tables::words::Next;
 use terms::monomial;

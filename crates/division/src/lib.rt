@@ -8,7 +8,6 @@ ghost use Rattle.polynomials.specs.Division.{degree, coefficient, factor};
 ghost use Rattle.polynomials.specs.Packed.{terms};
 ghost use Rattle.polynomials.specs.Working.{Pairs, Holds, Written, Forms};
 use polynomials::Formed;
-use terms::monomial;
 use terms::parts;
 
 // R, the first n words of r, becomes what one round leaves. i is T's initial, t is T; x, y and z are lent besides. Stack: that of `product`.
@@ -67,7 +66,7 @@ fn factor(r: &mut [u64], n: usize, k: u32, d: u64, e: u64) -> usize
     let mut l = 0;
     while i < n {
         let m = r[i + 1];
-        if monomial::exponent(m, k) == e {
+        if monomials::exponent(m, k) == e {
             r[l] = r[i];
             r[l + 1] = m - top;
             l += 2;

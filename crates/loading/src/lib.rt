@@ -18,7 +18,6 @@ ghost use Rattle.loading.specs.Started.{Loaded, put-into, put-heads, Alo
 use branches::open;
 use branches::turn;
 use tables::words;
-use terms::monomial;
 
 // Loads the polynomial with its head in record `head` into the first words of `out`; how many.
 fn load_head(table: &[u32], p: u32, n: u32, head: usize, out: &mut [u64]) -> usize
@@ -30,7 +29,7 @@ fn load_head(table: &[u32], p: u32, n: u32, head: usize, out: &mut [u64]) -> usi
     let mut i = words::word(table, head, 0) as usize;
     while i != 0 {
         out[k] = words::word(table, i, 0) as u64;
-        out[k + 1] = monomial::packed(words::word(table, i, 1), words::word(table, i, 2));
+        out[k + 1] = monomials::packed(words::word(table, i, 1), words::word(table, i, 2));
         k += 2;
         i = words::word(table, i, 3) as usize;
     }

@@ -19,7 +19,6 @@ use tables::Reason;
 use tables::read;
 use tables::words;
 use tables::words::Next;
-use terms::monomial;
 
 // How many systems a list holds.
 pub enum Counted {
@@ -36,7 +35,7 @@ fn leader_at(table: &[u32], p: u32, n: u32, head: usize) -> u32
     if reader::is_over(r) {
         return 0;
     }
-    monomial::highest(monomial::packed(reader::word(r, 1), reader::word(r, 2)))
+    monomials::highest(monomials::packed(reader::word(r, 1), reader::word(r, 2)))
 }
 
 // The T chain of the system in record `system`.

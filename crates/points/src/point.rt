@@ -17,7 +17,6 @@ use tables::Trial;
 use tables::TrialOutcome;
 use tables::read;
 use tables::words;
-use terms::monomial;
 use terms::value;
 
 // Whether the numbers are n residues modulo p.
@@ -43,7 +42,7 @@ fn add_term(table: &[u32], p: u32, i: usize, v: u64, point: &[u32]) -> u64
     requires { ⌜ Point p (now point) ⌝ }
     ensures { λ r. ⌜ r ≡ plus-term (now (table .entry)) p (now (point .entry)) i v ⌝ }
 {
-    let m = monomial::packed(words::word(table, i, 1), words::word(table, i, 2));
+    let m = monomials::packed(words::word(table, i, 1), words::word(table, i, 2));
     let t = value::term_value(p as u64, words::word(table, i, 0) as u64, m, point);
     residues::add(p as u64, v, t)
 }

@@ -12,7 +12,6 @@ ghost use Rattle.branches.specs.Area.{Stored, Held, Opened, capacity, with-open
 ghost use Rattle.survey.specs.Rank.{rank};
 ghost use Rattle.representation.specs.Represent.{branch-of};
 ghost use Rattle.survey.specs.Survey.{All-hold, choice, other-place, pivot-place};
-use terms::monomial;
 
 // Rule 1, rule 2, or the pivot: the position k of its variable v(k+1), and its place in P.
 pub enum Choice {
@@ -85,7 +84,7 @@ fn leader_at(w: &[u32], i: usize) -> u32
     if records::get0(w, i) == 0 {
         return 0;
     }
-    monomial::highest(stored::monomial(w, i + 1))
+    monomials::highest(stored::monomial(w, i + 1))
 }
 
 // The highest leading variable among the k polynomials from record `at` on.
@@ -118,7 +117,7 @@ fn rank_at(w: &[u32], i: usize, v: u32) -> u64
     if leader_at(w, i) != v + 1 {
         return 131072;
     }
-    let degree = monomial::exponent(stored::monomial(w, i + 1), v);
+    let degree = monomials::exponent(stored::monomial(w, i + 1), v);
     512 * degree + records::get0(w, i) as u64
 }
 

@@ -12,7 +12,6 @@ use crate::Reading;
 use crate::Reason;
 use crate::words;
 use crate::words::Next;
-use terms::monomial;
 
 // The header: shape, prime and number of variables.
 pub fn check_header(table: &[u32]) -> Checked
@@ -65,7 +64,7 @@ fn check_term(table: &[u32], p: u32, n: u32, m: u32, last: u64, i: usize) -> Che
     if p <= c {
         return Checked::Refused(Reason::Coefficient, i as u32);
     }
-    let e = monomial::packed(words::word(table, i, 1), words::word(table, i, 2));
+    let e = monomials::packed(words::word(table, i, 1), words::word(table, i, 2));
     if has_above(e, n) {
         return Checked::Refused(Reason::Exponent, i as u32);
     }
@@ -96,7 +95,7 @@ fn check_terms(table: &[u32], p: u32, n: u32, head: usize) -> Checked
                 if let Checked::Refused(why, record) = check_term(table, p, n, m, last, j) {
                     return Checked::Refused(why, record);
                 }
-                last = monomial::packed(words::word(table, j, 1), words::word(table, j, 2));
+                last = monomials::packed(words::word(table, j, 1), words::word(table, j, 2));
                 m += 1;
                 at = j;
                 i = words::word(table, j, 3);

@@ -1,4 +1,4 @@
-pub mod ExponentLaws
+pub mod DegreeLaws
 pub mod PartLaws
 pub mod ValueLaws
 pub mod HeldLaws

@@ -1,4 +1,3 @@
-// Packed monomials, the parts of a polynomial, and values at a point.
-pub mod monomial;
+// The parts of a polynomial, and values at a point.
 pub mod parts;
 pub mod value;

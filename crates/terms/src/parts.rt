@@ -8,7 +8,6 @@ ghost use Rattle.polynomials.specs.Canonical.{Canonical};
 ghost use Rattle.polynomials.specs.Division.{degree, leader, initial, rest};
 ghost use Rattle.polynomials.specs.Packed.{terms, bytes};
 ghost use Rattle.polynomials.specs.Working.{Pairs, Written, Split, is-held};
-use crate::monomial;
 
 // Whether f holds a polynomial: at most 256 terms that strictly fall, with coefficients 1 to p - 1.
 pub fn is_polynomial(p: u64, f: &[u64]) -> bool
@@ -64,7 +63,7 @@ pub fn degree(f: &[u64], k: u32) -> u64
     let mut d = 0;
     let mut i = 0;
     while i < f.len() {
-        let e = monomial::exponent(f[i + 1], k);
+        let e = monomials::exponent(f[i + 1], k);
         if d < e {
             d = e;
         }
@@ -93,7 +92,7 @@ pub fn degrees_over(f: &[u64], g: &[u64]) -> bool
     requires { ⌜ Pairs (now g) ⌝ }
     ensures { λ r. ⌜ r ≡ degrees-over (at-most 255) (terms (now (f .entry))) (terms (now (g .entry))) ⌝ }
 {
-    if !monomial::passes(union(f), union(g)) {
+    if !monomials::passes(union(f), union(g)) {
         return false;
     }
     let mut k = 0;
@@ -115,7 +114,7 @@ pub fn leader(f: &[u64]) -> u32
     if f.len() == 0 {
         return 0;
     }
-    monomial::highest(f[1])
+    monomials::highest(f[1])
 }
 
 // How many words the terms of the highest power of v(k+1), the leading variable, take: they come first.
@@ -124,9 +123,9 @@ fn initial_words(f: &[u64], k: u32) -> usize
     requires { ⌜ ((p : ℕ) × Canonical p (terms (now f))) × (leader (terms (now f)) ≡ k + 1) ⌝ }
     ensures { λ r. ⌜ Split k (now (f .entry)) r ⌝ }
 {
-    let top = monomial::exponent(f[1], k);
+    let top = monomials::exponent(f[1], k);
     let mut i = 2;
-    while i < f.len() && monomial::exponent(f[i + 1], k) == top {
+    while i < f.len() && monomials::exponent(f[i + 1], k) == top {
         i += 2;
     }
     i
@@ -140,7 +139,7 @@ pub fn initial(f: &[u64], k: u32, out: &mut [u64]) -> usize
     ensures { λ r. ⌜ Written (initial k (terms (now (f .entry)))) r (now (out .exit)) ⌝ }
 {
     let n = initial_words(f, k);
-    let top = monomial::exponent(f[1], k) << (8 * k);
+    let top = monomials::exponent(f[1], k) << (8 * k);
     let mut i = 0;
     while i < n {
         out[i] = f[i];

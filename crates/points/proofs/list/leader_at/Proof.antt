@@ -38,14 +38,14 @@ use denote.Exit.{yes}
 use Rattle.polynomials.specs.Poly.{Poly}
 use Rattle.polynomials.specs.Packed.{bytes, exponents}
 use Rattle.polynomials.specs.Division.{highest, leader}
-use Rattle.terms.proofs.monomial.packed as packed
-use Rattle.terms.proofs.monomial.packed.Symbol as packed-def
-use Rattle.terms.proofs.monomial.packed.Symbol.{name as #packed}
-use Rattle.terms.proofs.monomial.packed.Met as packed-thm
-use Rattle.terms.proofs.monomial.highest as highest-of
-use Rattle.terms.proofs.monomial.highest.Symbol as highest-def
-use Rattle.terms.proofs.monomial.highest.Symbol.{name as #highest}
-use Rattle.terms.proofs.monomial.highest.Met as highest-thm
+use Rattle.monomials.proofs.packed as packed
+use Rattle.monomials.proofs.packed.Symbol as packed-def
+use Rattle.monomials.proofs.packed.Symbol.{name as #packed}
+use Rattle.monomials.proofs.packed.Met as packed-thm
+use Rattle.monomials.proofs.highest as highest-of
+use Rattle.monomials.proofs.highest.Symbol as highest-def
+use Rattle.monomials.proofs.highest.Symbol.{name as #highest}
+use Rattle.monomials.proofs.highest.Met as highest-thm
 use Rattle.tables.specs.Words.{word, records}
 use Rattle.tables.specs.Read.{good, read-head}
 use Rattle.tables.specs.Walk.{Readable}
@@ -261,6 +261,6 @@ leader-at-spec 𝓤 H 𝓜 𝓖 𝓡 =
       is-over = cited 𝓤 H (IsOver 𝓤 H (𝓖 .A) (𝓜 .mem) (𝓡 .run)) 𝓜 𝓡 code.env #is-over is-over-def.routine code.calls-points·reader·is-over (is-over-thm.met 𝓤 H 𝓜 𝓖 𝓡);
       word = cited 𝓤 H (Words 𝓤 H (𝓖 .A) (𝓜 .mem) (𝓡 .run)) 𝓜 𝓡 code.env #word word-def.routine code.calls-points·reader·word (word-thm.met 𝓤 H 𝓜 𝓖 𝓡);
       step = cited 𝓤 H (Steps 𝓤 H (𝓖 .A) (𝓜 .mem) (𝓡 .run)) 𝓜 𝓡 code.env #step step-def.routine code.calls-points·reader·step (step-thm.met 𝓤 H 𝓜 𝓖 𝓡);
-      packed = cited 𝓤 H (Packed 𝓤 H (𝓖 .A) (𝓜 .mem) (𝓡 .run)) 𝓜 𝓡 code.env #packed packed-def.routine code.calls-terms·monomial·packed (packed-thm.met 𝓤 H 𝓜 𝓖 𝓡);
-      highest = cited 𝓤 H (Highest 𝓤 H (𝓖 .A) (𝓜 .mem) (𝓡 .run)) 𝓜 𝓡 code.env #highest highest-def.routine code.calls-terms·monomial·highest (highest-thm.met 𝓤 H 𝓜 𝓖 𝓡);
+      packed = cited 𝓤 H (Packed 𝓤 H (𝓖 .A) (𝓜 .mem) (𝓡 .run)) 𝓜 𝓡 code.env #packed packed-def.routine code.calls-monomials·packed (packed-thm.met 𝓤 H 𝓜 𝓖 𝓡);
+      highest = cited 𝓤 H (Highest 𝓤 H (𝓖 .A) (𝓜 .mem) (𝓡 .run)) 𝓜 𝓡 code.env #highest highest-def.routine code.calls-monomials·highest (highest-thm.met 𝓤 H 𝓜 𝓖 𝓡);
     }))

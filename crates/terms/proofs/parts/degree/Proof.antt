@@ -7,7 +7,7 @@ use lib.ListN.{length, drop}
 use mathlib.Core.Logic.{⊎-elim}
 use Rattle.polynomials.specs.Packed.{terms}
 use Rattle.polynomials.specs.Division.{degree}
-use Rattle.terms.proofs.ExponentLaws.{degree-at, degree-end}
+use Rattle.terms.proofs.DegreeLaws.{degree-at, degree-end}
 use Rattle.terms.proofs.parts.degree.Statement.{statement}
 use Rattle.terms.proofs.parts.degree.Tie as tie
 

@@ -8,7 +8,7 @@ use borrow.Author.Tests.{not-true}
 use Rattle.polynomials.specs.Packed.{terms}
 use Rattle.polynomials.specs.Division.{degree}
 use Rattle.polynomials.specs.laws.Bounds.{degrees-over-at, degree-small}
-use Rattle.terms.proofs.ExponentLaws.{unions-within, degrees-within}
+use Rattle.terms.proofs.DegreeLaws.{unions-within, degrees-within}
 use Rattle.terms.proofs.parts.degrees_over.Statement.{statement}
 use Rattle.terms.proofs.parts.degrees_over.Tie as tie
 

@@ -6,7 +6,7 @@ use borrow.Author.Needs.{needs}
 use lib.ListN.{length, getD, drop}
 use Rattle.polynomials.specs.Packed.{bytes, terms}
 use Rattle.polynomials.specs.Division.{degree}
-use Rattle.terms.proofs.ExponentLaws.{degree-at, degree-end, or-bytes}
+use Rattle.terms.proofs.DegreeLaws.{degree-at, degree-end, or-bytes}
 use Rattle.terms.proofs.parts.union.Statement.{statement}
 use Rattle.terms.proofs.parts.union.Tie as tie
 

@@ -1,27 +1,22 @@
--- Exponents and degrees, place by place: what the loops over bytes and over terms learn.
-use mathlib.Core.Path.{_≡_, refl, sym, ap, ap₂, subst}
+-- Degrees, place by place: what the loops over terms learn.
+use mathlib.Core.Path.{_≡_, refl, sym, ap, subst}
 use mathlib.Core.List.{List}
-use mathlib.Core.Bool.{Bool, true, false, _||_}
+use mathlib.Core.Bool.{Bool, true, false}
 use Prim.Native.Nat.{ℕ, zero, suc, _+_, _/_, _%_, _≤_, _<_, max}
 use native.Mathlib.Omega.{arith}
-use borrow.Author.Tests.{le-ltb, ltb-true, ltb-false}
+use borrow.Author.Tests.{ltb-true, ltb-false}
 use lib.Bits.{bitOr, or-shr, or-mod, or-add-and, and-le-l, and-le-r}
 use lib.Dec.{ltb}
 use lib.ListN.{length, drop, getD, drop-of-length-le}
 use Rattle.polynomials.specs.Poly.{Poly, join}
 use Rattle.polynomials.specs.Division.{degree}
 use Rattle.polynomials.specs.Packed.{bytes, terms}
-use Rattle.polynomials.specs.Bounds.{at-most, over, some-over, degrees-over}
+use Rattle.polynomials.specs.Bounds.{at-most, some-over, degrees-over}
 use Rattle.polynomials.specs.laws.Degree.{at-join}
 use Rattle.polynomials.specs.laws.Terms.{terms-at}
 use Rattle.polynomials.specs.laws.Bounds.{over-none, no-degrees-over, degree-past}
 
 -- ── bytes of two words ──
-pub bytes-within : (n m a b : ℕ) → ((k : ℕ) → k < n → getD (bytes n a) k 0 + getD (bytes n b) k 0 ≤ m) → some-over (at-most m) (join (bytes n a) (bytes n b)) ≡ false
-unfolding bytes join some-over over
-bytes-within zero m a b h = refl
-bytes-within (suc n) m a b h = ap₂ _||_ (le-ltb m (a % 256 + b % 256) (h 0 (omega arith))) (bytes-within n m (a / 256) (b / 256) (λ k l. h (suc k) (omega arith)))
-
 or-above : (a b : ℕ) → (a ≤ bitOr a b) × (b ≤ bitOr a b)
 or-above a b = (omega (arith, or-add-and a b, and-le-r a b), omega (arith, or-add-and a b, and-le-l a b))
 

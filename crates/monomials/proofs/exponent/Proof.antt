@@ -1,8 +1,8 @@
 -- A shift and a remainder are the byte.
 use borrow.Author.Needs.{needs}
 use Rattle.polynomials.specs.laws.Packed.{byte-shift}
-use Rattle.terms.proofs.monomial.exponent.Statement.{statement}
-use Rattle.terms.proofs.monomial.exponent.Tie as tie
+use Rattle.monomials.proofs.exponent.Statement.{statement}
+use Rattle.monomials.proofs.exponent.Tie as tie
 
 mul-result : tie.Need-mul-result
 mul-result c = search needs

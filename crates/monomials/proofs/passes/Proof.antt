@@ -10,9 +10,9 @@ use Rattle.polynomials.specs.Poly.{join}
 use Rattle.polynomials.specs.laws.Packed.{byte-small}
 use Rattle.polynomials.specs.laws.Degree.{at-join}
 use Rattle.polynomials.specs.laws.Bounds.{over-at}
-use Rattle.terms.proofs.ExponentLaws.{bytes-within}
-use Rattle.terms.proofs.monomial.passes.Statement.{statement}
-use Rattle.terms.proofs.monomial.passes.Tie as tie
+use Rattle.monomials.proofs.ExponentLaws.{bytes-within}
+use Rattle.monomials.proofs.passes.Statement.{statement}
+use Rattle.monomials.proofs.passes.Tie as tie
 
 abbrev Inv-loop : tie.InvT-loop
 Inv-loop a b k₀ k = (j : ℕ) → j < k → getD (bytes 8 a) j 0 + getD (bytes 8 b) j 0 ≤ 255

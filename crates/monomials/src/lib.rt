@@ -1,6 +1,6 @@
 // Monomials: eight exponents packed in 64 bits, v1's in the lowest byte.
 ghost use mathlib.Core.Path.{_≡_};
-ghost use Prim.Native.Nat.{_+_, _*_, _/_, _%_, _<_};
+ghost use Prim.Native.Nat.{_+_, _*_, _<_};
 ghost use lib.Dec.{isLe};
 ghost use lib.ListN.{getD};
 ghost use Rattle.polynomials.specs.Packed.{bytes, exponents};
@@ -21,20 +21,6 @@ pub fn packed(high: u32, low: u32) -> u64
     ensures { λ r. ⌜ (r ≡ high * 4294967296 + low) × (bytes 8 r ≡ exponents high low) ⌝ }
 {
     ((high as u64) << 32) + low as u64
-}
-
-// The exponents of v8 to v5 as a table's word.
-pub fn high_word(m: u64) -> u32
-    ensures { λ r. ⌜ r ≡ m / 4294967296 ⌝ }
-{
-    (m / 4294967296) as u32
-}
-
-// The exponents of v4 to v1 as a table's word.
-pub fn low_word(m: u64) -> u32
-    ensures { λ r. ⌜ r ≡ m % 4294967296 ⌝ }
-{
-    (m % 4294967296) as u32
 }
 
 // Whether a is not above b: the order of monomials is that of numbers.

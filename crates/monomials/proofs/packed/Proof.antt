@@ -5,8 +5,8 @@ use native.Mathlib.Omega.{arith}
 use borrow.Author.Needs.{needs}
 use Rattle.polynomials.specs.Packed.{bytes}
 use Rattle.polynomials.specs.laws.Packed.{bytes-words}
-use Rattle.terms.proofs.monomial.packed.Statement.{statement}
-use Rattle.terms.proofs.monomial.packed.Tie as tie
+use Rattle.monomials.proofs.packed.Statement.{statement}
+use Rattle.monomials.proofs.packed.Tie as tie
 
 add-result : tie.Need-add-result
 add-result c = search needs

@@ -1,10 +1,10 @@
--- `monomial::highest` meets its contract. The invariant: what is left is m behind k of its eight bytes. The measure is what is left.
+-- `monomials::highest` meets its contract. The invariant: what is left is m behind k of its eight bytes. The measure is what is left.
 use mathlib.Core.Path.{_≡_, refl, subst}
 use Prim.Native.Nat.{ℕ}
 use native.Mathlib.Omega.{arith}
 use Rattle.polynomials.specs.laws.Highest.{Behind, behind-next, behind-end}
-use Rattle.terms.proofs.monomial.highest.Statement.{statement}
-use Rattle.terms.proofs.monomial.highest.Tie as tie
+use Rattle.monomials.proofs.highest.Statement.{statement}
+use Rattle.monomials.proofs.highest.Tie as tie
 
 abbrev Inv-loop : tie.InvT-loop
 Inv-loop m left₀ k₀ left k = Behind m left k

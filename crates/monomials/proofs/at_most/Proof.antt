@@ -1,10 +1,10 @@
--- `monomial::at_most` meets its contract: bytes compare as the numbers do.
+-- `monomials::at_most` meets its contract: bytes compare as the numbers do.
 use mathlib.Core.Path.{sym, ap}
 use native.Mathlib.Omega.{arith}
 use lib.Dec.{isLe}
 use Rattle.polynomials.specs.laws.Packed.{order-bytes}
-use Rattle.terms.proofs.monomial.at_most.Statement.{statement}
-use Rattle.terms.proofs.monomial.at_most.Tie as tie
+use Rattle.monomials.proofs.at_most.Statement.{statement}
+use Rattle.monomials.proofs.at_most.Tie as tie
 
 returns : tie.Need-returns
 returns c = sym (ap isLe (order-bytes 8 (c .args .a) (c .args .b) (omega arith) (omega arith)))

@@ -10,8 +10,6 @@ use lines::input;
 use lines::input::Input;
 use lines::input::Words;
 use lines::text;
-use points::list;
-use points::point;
 
 // What the table and what the list answer.
 pub struct Tried {
@@ -22,9 +20,9 @@ pub struct Tried {
 fn try_both(table: &[u32], systems: &[u32], numbers: &[u32]) -> Tried
     ensures { λ r. ⌜ r ≡ tried (now (table .entry)) (now (systems .entry)) (now (numbers .entry)) ⌝ }
 {
-    let trial = point::try_table(table, numbers);
+    let trial = points::try_table(table, numbers);
     let first = trial.outcome;
-    let placing = list::try_list(systems, numbers);
+    let placing = lists::try_list(systems, numbers);
     let second = placing.outcome;
     Tried {
         trial: lines::trial_line(first),

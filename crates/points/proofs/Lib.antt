@@ -1,4 +1,1 @@
-pub mod Held
-pub mod Readers
 pub mod PointLaws
-pub mod ListLaws

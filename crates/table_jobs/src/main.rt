@@ -14,8 +14,6 @@ use lines::input::Input;
 use lines::input::Word;
 use lines::input::Words;
 use lines::text;
-use points::list;
-use points::point;
 use tables::read;
 
 // The line of a job.
@@ -28,11 +26,11 @@ fn answer(kind: u32, table: &[u32], numbers: &[u32]) -> Line
         return lines::read_line(outcome);
     }
     if kind == 1 {
-        let trial = point::try_table(table, numbers);
+        let trial = points::try_table(table, numbers);
         let outcome = trial.outcome;
         return lines::trial_line(outcome);
     }
-    let placing = list::try_list(table, numbers);
+    let placing = lists::try_list(table, numbers);
     let outcome = placing.outcome;
     lines::place_line(outcome)
 }

@@ -3,14 +3,14 @@
 use mathlib.Core.Bool.{Bool, true, false, not, _&&_, _||_}
 use mathlib.Core.List.{List, [], _∷_}
 use Prim.Native.Nat.{ℕ, zero, suc, Ordering·lt, Ordering·eq, Ordering·gt}
-use lib.Dec.{eqb, leb, ltb, isEq}
+use lib.Dec.{eqb, leb}
 use lib.ListN.{length, drop}
 use Rattle.residues.specs.Prime.{is-modulus}
 use Rattle.polynomials.specs.Poly.{Exponents, Term, Poly, order}
 use Rattle.polynomials.specs.Division.{leader}
 use Rattle.tables.specs.declared.Reason.{Reason}
 use Rattle.tables.specs.declared.Reason.the-variants.{Shape, Prime, Variables, Index, Head, Coefficient, Exponent, Order, Terms, Broken}
-use Rattle.tables.specs.Words.{word, records, is-whole, follow, Followed, end, to, astray, term-at}
+use Rattle.tables.specs.Words.{word, records, is-whole, follow, end, to, astray, term-at}
 
 -- A table's polynomials, as they stand on its two chains.
 pub record Input : Type 0 where

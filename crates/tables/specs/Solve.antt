@@ -1,7 +1,7 @@
 -- Points: which are points of a table, what they solve, and the answers of the operations.
 use mathlib.Core.Bool.{Bool, true, false, not, _&&_}
 use mathlib.Core.List.{List, [], _∷_}
-use Prim.Native.Nat.{ℕ, zero, suc}
+use Prim.Native.Nat.{ℕ, suc}
 use lib.Dec.{eqb, ltb}
 use lib.ListN.{length}
 use Rattle.polynomials.specs.Poly.{Poly}
@@ -15,7 +15,7 @@ use Rattle.tables.specs.declared.Trial.{Trial}
 use Rattle.tables.specs.declared.TrialOutcome.the-variants.{Yes, No, Refused as TrialRefused}
 use Rattle.tables.specs.declared.Placing.{Placing}
 use Rattle.tables.specs.declared.PlaceOutcome.the-variants.{Place, Refused as PlaceRefused}
-use Rattle.tables.specs.Read.{Read, good, refused, then, unless, Input, System, Listing, read-table, read-list}
+use Rattle.tables.specs.Read.{Read, good, refused, then, unless, Input, System, read-table, read-list}
 
 -- "14 if the point has not n numbers or one is at least p."
 unfoldable pub all-below : ℕ → List ℕ → Bool

@@ -1,10 +1,10 @@
 -- The words of a table: records of four, indices, and how an index is followed.
 use mathlib.Core.Bool.{Bool, true, false, _&&_}
 use mathlib.Core.List.{List}
-use Prim.Native.Nat.{ℕ, zero, suc, _+_, _*_, _/_, _%_}
+use Prim.Native.Nat.{ℕ, _+_, _*_, _/_, _%_}
 use lib.Dec.{eqb, leb, ltb}
 use lib.ListN.{length, getD}
-use Rattle.polynomials.specs.Poly.{Exponents, Term}
+use Rattle.polynomials.specs.Poly.{Term}
 use Rattle.polynomials.specs.Packed.{exponents}
 
 -- Word j of record i.

@@ -1,7 +1,6 @@
 // The words of a table, and its indices.
 ghost use mathlib.Core.Path.{_≡_};
 ghost use Prim.Native.Nat.{_+_, _*_, _<_};
-ghost use lib.ListN.{length};
 ghost use Rattle.tables.specs.Words.{word, records, follow};
 ghost use Rattle.tables.specs.Walk.{next};
 

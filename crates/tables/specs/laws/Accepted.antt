@@ -4,11 +4,11 @@ use mathlib.Core.Bool.{Bool, true, false, not, _&&_, and-eq-true-iff, true≢fal
 use mathlib.Core.List.{List, [], _∷_, _++_}
 use Prim.Native.Nat.{ℕ, zero, suc, _+_, _-_, _%_, _≤_, _<_, Ordering, Ordering·lt, Ordering·eq, Ordering·gt}
 use native.Mathlib.Omega.{arith}
-use borrow.Author.Tests.{ltb-true, leb-true, eqb-true, not-false}
-use lib.Dec.{T, eqb, leb, ltb}
+use borrow.Author.Tests.{leb-true, eqb-true, not-false}
+use lib.Dec.{eqb, leb}
 use lib.ListN.{length, getD, drop}
 use lib.Seq.{getD-drop}
-use Rattle.residues.specs.Prime.{Prime, is-prime, is-modulus}
+use Rattle.residues.specs.Prime.{is-modulus}
 use Rattle.residues.specs.laws.Prime.{modulus-prime}
 use Rattle.polynomials.specs.Poly.{Exponents, Term, Poly, order}
 use Rattle.polynomials.specs.Canonical.{Under, Canonical, All}

@@ -32,7 +32,7 @@ fn outcome_number(answer: Answer) -> u32 {
 // Adds a line to the text.
 fn print(text: &mut [u8], end: usize, timing: Timing, answer: Answer) -> usize
     requires { ⌜ (end ≤ length (now text)) × (128 ≤ length (now text)) ⌝ }
-    ensures { λ r. ⌜ r ≤ length (now (text .entry)) ⌝ }
+    ensures { λ r. ⌜ r ≤ length (now (text .exit)) ⌝ }
 {
     let mut last = text::room(text, end);
     last = text::put_number(text, last, timing.best);
@@ -40,7 +40,7 @@ fn print(text: &mut [u8], end: usize, timing: Timing, answer: Answer) -> usize
     last = text::put_number(text, last, timing.mean);
     last = text::put_byte(text, last, b' ');
     let numbers = [answer.steps, outcome_number(answer)];
-    text::put_line(text, last, &numbers)
+    text::print_line(text, last, &numbers)
 }
 
 // Answers a job.
@@ -54,7 +54,7 @@ fn answer(
     end: usize,
 ) -> usize
     requires { ⌜ (end ≤ length (now text)) × (128 ≤ length (now text)) ⌝ }
-    ensures { λ r. ⌜ r ≤ length (now (text .entry)) ⌝ }
+    ensures { λ r. ⌜ r ≤ length (now (text .exit)) ⌝ }
 {
     let timing = timing::measure(table, work, output, limit, repetitions);
     let answer = elimination::eliminate(table, work, output, limit);

@@ -45,10 +45,6 @@ heading-systems steps count k e = ap (λ (o : Outcome). heading steps o k) (sym 
 pub heading-refused : (steps at k : ℕ) {why : Reason} {o : Outcome} {n : ℕ} → o ≡ Refused why at → n ≡ number why → _≡_ {A = Heading} (record { outcome = n; steps = steps; value = at; nonzero = k }) (heading steps o k)
 heading-refused steps at k e f = ap (λ (n : ℕ). record { outcome = n; steps = steps; value = at; nonzero = k }) f ∙ ap (λ (o : Outcome). heading steps o k) (sym e)
 
-pub heading-nonzero : (steps : ℕ) (o : Outcome) (k : ℕ) → heading steps o k .nonzero ≡ k
-heading-nonzero steps (Systems count) k = refl
-heading-nonzero steps (Refused why at) k = refl
-
 -- ── the shape ──
 pub shaped : {r : Job} {s : Shape} {i : Input} (w : List ℕ) → Shaped r w → r ≡ Next s i → s .table ≤ length w
 shaped w h e = rw e at h

@@ -1,2 +1,3 @@
 pub mod HeadingLaws
 pub mod TriedLaws
+pub mod RunLaws

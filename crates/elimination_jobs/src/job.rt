@@ -2,6 +2,8 @@
 ghost use mathlib.Core.Path.{_≡_};
 ghost use Prim.Native.Nat.{_≤_, min};
 ghost use lib.ListN.{length, replicate};
+ghost use Rattle.rules.specs.Eliminate.{eliminated, output-after};
+ghost use Rattle.elimination.specs.Answer.{answer-of};
 ghost use Rattle.elimination_jobs.specs.Heading.{heading-of, nonzero, Shaped};
 use elimination::Answer;
 use elimination::Outcome;
@@ -117,7 +119,8 @@ fn head_of(answer: Answer, count: u32) -> Heading
 // Eliminates the table, where each word of the work area and of the output holds `filling` before.
 pub fn run(table: &[u32], work: &mut [u32], output: &mut [u32], limit: u32, filling: u32) -> Heading
     requires { ⌜ length (now work) ≤ 262400 ⌝ }
-    ensures { λ r. ⌜ r .nonzero ≡ nonzero (now (work .exit)) ⌝ }
+    ensures { λ r. ⌜ r ≡ heading-of (answer-of (eliminated (now (table .entry)) (length (now (work .entry))) (length (now (output .entry))) limit)) 0 ⌝ }
+    ensures { λ _. ⌜ now (output .exit) ≡ output-after (eliminated (now (table .entry)) (length (now (work .entry))) (length (now (output .entry))) limit) (replicate (length (now (output .entry))) filling) ⌝ }
 {
     fill(work, filling);
     fill(output, filling);
@@ -128,16 +131,15 @@ pub fn run(table: &[u32], work: &mut [u32], output: &mut [u32], limit: u32, fill
 // Adds the first line to the text.
 pub fn print(text: &mut [u8], end: usize, heading: Heading) -> usize
     requires { ⌜ (end ≤ length (now text)) × (128 ≤ length (now text)) ⌝ }
-    ensures { λ r. ⌜ r ≤ length (now (text .entry)) ⌝ }
+    ensures { λ r. ⌜ r ≤ length (now (text .exit)) ⌝ }
 {
-    let start = text::room(text, end);
     let numbers = [
         heading.outcome,
         heading.steps,
         heading.value,
         heading.nonzero,
     ];
-    text::put_line(text, start, &numbers)
+    text::print_line(text, end, &numbers)
 }
 
 pub fn shorter(a: usize, b: usize) -> usize

@@ -33,13 +33,12 @@ fn try_both(table: &[u32], systems: &[u32], numbers: &[u32]) -> Tried
 // Adds a point's line to the text.
 fn print(text: &mut [u8], end: usize, tried: Tried) -> usize
     requires { ⌜ (end ≤ length (now text)) × (128 ≤ length (now text)) ⌝ }
-    ensures { λ r. ⌜ r ≤ length (now (text .entry)) ⌝ }
+    ensures { λ r. ⌜ r ≤ length (now (text .exit)) ⌝ }
 {
-    let start = text::room(text, end);
     let a = tried.trial;
     let b = tried.place;
     let numbers = [a.outcome, a.value, b.outcome, b.value];
-    text::put_line(text, start, &numbers)
+    text::print_line(text, end, &numbers)
 }
 
 // Tries the next point.

@@ -72,37 +72,49 @@ pub stored : (text : List ℕ) (end b : ℕ) → end + 1 ≤ length text → tak
 stored text end b h = rw (add-one end) (take-suc-set text end b (omega arith))
 
 -- ── lines ──
--- A line with no number.
-pub line-none : (before : List ℕ) {after : List ℕ} (numbers : List ℕ) → length numbers ≡ 0 → after ≡ before ++ (10 ∷ []) → after ≡ before ++ line-text numbers
-unfolding line-text
-line-none before [] e q = q
-line-none before (n ∷ ns) e q = absurd (omega arith)
-
 -- The text x and what is left of a line, from number i on, are the whole.
 abbrev pub Lined : List ℕ → ℕ → List ℕ → List ℕ → Type 0
 Lined numbers i whole x = x ++ rest-text (drop i numbers) ≡ whole
 
-pub lined-on : (x y : List ℕ) {whole z : List ℕ} (numbers : List ℕ) (i : ℕ) → i < length numbers → Lined numbers i whole x → y ≡ x ++ (32 ∷ []) → z ≡ y ++ decimal (getD numbers i 0) → Lined numbers (i + 1) whole z
-unfolding rest-text
-lined-on x y numbers i h l e f =
-    let n = getD numbers i 0 in
-    ap (λ (t : List ℕ). t ++ rest-text (drop (i + 1) numbers)) (f ∙ ap (λ (t : List ℕ). t ++ decimal n) e)
-    ∙ append-assoc (x ++ (32 ∷ [])) (decimal n) (rest-text (drop (i + 1) numbers))
-    ∙ append-assoc x (32 ∷ []) (decimal n ++ rest-text (drop (i + 1) numbers))
-    ∙ ap (λ (k : ℕ). x ++ (32 ∷ (decimal n ++ rest-text (drop k numbers)))) (add-one i)
-    ∙ sym (ap (λ (t : List ℕ). x ++ rest-text t) (drop-cons numbers i 0 h))
-    ∙ l
+-- So far with i numbers: the text from where the first number stands, at `first`, to its end.
+pub record Reached (numbers : List ℕ) (end : ℕ) (first : List ℕ) (text : List ℕ) (last i : ℕ) : Type 0 where
+  pub near : last + 1 ≤ end + 21 * i
+  pub lined : Lined numbers i (first ++ rest-text (drop 1 numbers)) (take last text)
 
--- After the last number the line's end is left.
-pub lined-end : (x : List ℕ) {whole y : List ℕ} (numbers : List ℕ) (i : ℕ) → i ≡ length numbers → Lined numbers i whole x → y ≡ x ++ (10 ∷ []) → y ≡ whole
-unfolding rest-text
-lined-end x numbers i h l e = e ∙ sym (ap (λ (t : List ℕ). x ++ rest-text t) (ap (λ (k : ℕ). drop k numbers) h ∙ drop-length numbers)) ∙ l
+-- A line with no number.
+pub line-none : (text : List ℕ) {end e : ℕ} {after : List ℕ} (numbers : List ℕ) → e ≡ end → length numbers ≡ 0 → after ≡ take e text ++ (10 ∷ []) → after ≡ take end text ++ line-text numbers
+unfolding line-text
+line-none text [] s e q = q ∙ ap (λ (k : ℕ). take k text ++ (10 ∷ [])) s
+line-none text (n ∷ ns) s e q = absurd (omega arith)
+
+module _ (numbers text : List ℕ) (end : ℕ) {e : ℕ} (s : e ≡ end) where
+  -- The next number is added behind a blank.
+  pub lined-on : (y : List ℕ) {whole z : List ℕ} (i : ℕ) → i < length numbers → Lined numbers i whole (take end text) → y ≡ take e text ++ (32 ∷ []) → z ≡ y ++ decimal (getD numbers i 0) → Lined numbers (i + 1) whole z
+  unfolding rest-text
+  lined-on y i h l q f =
+      let n = getD numbers i 0 in
+      let x = take end text in
+      ap (λ (t : List ℕ). t ++ rest-text (drop (i + 1) numbers)) (f ∙ ap (λ (t : List ℕ). t ++ decimal n) (q ∙ ap (λ (k : ℕ). take k text ++ (32 ∷ [])) s))
+      ∙ append-assoc (x ++ (32 ∷ [])) (decimal n) (rest-text (drop (i + 1) numbers))
+      ∙ append-assoc x (32 ∷ []) (decimal n ++ rest-text (drop (i + 1) numbers))
+      ∙ ap (λ (k : ℕ). x ++ (32 ∷ (decimal n ++ rest-text (drop k numbers)))) (add-one i)
+      ∙ sym (ap (λ (t : List ℕ). x ++ rest-text t) (drop-cons numbers i 0 h))
+      ∙ l
+
+  -- After the last number the line's end is left.
+  pub lined-end : {whole y : List ℕ} (i : ℕ) → i ≡ length numbers → Lined numbers i whole (take end text) → y ≡ take e text ++ (10 ∷ []) → y ≡ whole
+  unfolding rest-text
+  lined-end i h l q =
+      q ∙ ap (λ (k : ℕ). take k text ++ (10 ∷ [])) s
+      ∙ sym (ap (λ (t : List ℕ). take end text ++ rest-text t) (ap (λ (k : ℕ). drop k numbers) h ∙ drop-length numbers)) ∙ l
 
 -- The whole line, of which the first number stands there.
-pub lined-whole : (before x : List ℕ) {y : List ℕ} (numbers : List ℕ) → 0 < length numbers → x ≡ before ++ decimal (getD numbers 0 0) → y ≡ x ++ rest-text (drop 1 numbers) → y ≡ before ++ line-text numbers
+pub lined-whole : (text : List ℕ) {end e : ℕ} (x : List ℕ) {y : List ℕ} (numbers : List ℕ) → e ≡ end → 0 < length numbers → x ≡ take e text ++ decimal (getD numbers 0 0) → y ≡ x ++ rest-text (drop 1 numbers)
+    → y ≡ take end text ++ line-text numbers
 unfolding line-text
-lined-whole before x [] h e q = absurd (omega arith)
-lined-whole before x (n ∷ ns) h e q = q ∙ ap (λ (t : List ℕ). t ++ rest-text ns) e ∙ append-assoc before (decimal n) (rest-text ns)
+lined-whole text x [] s h e q = absurd (omega arith)
+lined-whole text {end} x (n ∷ ns) s h e q =
+    q ∙ ap (λ (t : List ℕ). t ++ rest-text ns) (e ∙ ap (λ (k : ℕ). take k text ++ decimal n) s) ∙ append-assoc (take end text) (decimal n) (rest-text ns)
 
 -- ── turns ──
 -- The text that a job leaves ends within the buffer.

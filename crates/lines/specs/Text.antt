@@ -2,9 +2,9 @@
 use mathlib.Core.Path.{_≡_, refl}
 use mathlib.Core.Bool.{true, false}
 use mathlib.Core.List.{List, [], _∷_, _++_}
-use Prim.Native.Nat.{ℕ, zero, suc, _/_, _%_, _≤_}
+use Prim.Native.Nat.{ℕ, zero, suc, _+_, _*_, _/_, _%_, _≤_}
 use lib.Dec.{eqb}
-use lib.ListN.{length}
+use lib.ListN.{length, take}
 use Rattle.io.specs.Digits.{glyph}
 use Rattle.lines.specs.declared.Turn.{Turn}
 use Rattle.lines.specs.declared.Turn.the-variants.{Next, End}
@@ -31,6 +31,11 @@ line-text (n ∷ ns) = decimal n ++ rest-text ns
 zero-and-ten : line-text (0 ∷ 10 ∷ []) ≡ 48 ∷ 32 ∷ 49 ∷ 48 ∷ 10 ∷ []
 unfolding line-text rest-text decimal digits-of
 zero-and-ten = refl
+
+-- A line was added to a text: its new end, and its bytes up to there.
+pub record Line-added (numbers : List ℕ) (end : ℕ) (text : List ℕ) (end′ : ℕ) (text′ : List ℕ) : Type 0 where
+  pub near : end′ ≤ end + 21 * length numbers + 1
+  pub is : take end′ text′ ≡ take end text ++ line-text numbers
 
 -- The text that a job leaves ends within the buffer.
 abbrev pub Ends : Turn → List ℕ → Type 0

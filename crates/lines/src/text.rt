@@ -3,7 +3,7 @@ ghost use mathlib.Core.Path.{_≡_};
 ghost use mathlib.Core.List.{[], _∷_, _++_};
 ghost use Prim.Native.Nat.{_+_, _*_, _≤_};
 ghost use lib.ListN.{length, take};
-ghost use Rattle.lines.specs.Text.{decimal, line-text};
+ghost use Rattle.lines.specs.Text.{decimal, Line-added};
 use libc::STDOUT_FILENO;
 
 pub fn put_byte(text: &mut [u8], end: usize, byte: u8) -> usize
@@ -25,24 +25,6 @@ pub fn put_number(text: &mut [u8], end: usize, n: u64) -> usize
     end + k
 }
 
-// Adds a line: the numbers, separated by single blanks.
-pub fn put_line(text: &mut [u8], end: usize, numbers: &[u32]) -> usize
-    requires { ⌜ end + 21 * length (now numbers) + 1 ≤ length (now text) ⌝ }
-    ensures { λ r. ⌜ (r ≤ end + 21 * length (now (numbers .entry)) + 1) × (take r (now (text .exit)) ≡ take end (now (text .entry)) ++ line-text (now (numbers .entry))) ⌝ }
-{
-    if numbers.len() == 0 {
-        return put_byte(text, end, b'\n');
-    }
-    let mut last = put_number(text, end, numbers[0] as u64);
-    let mut i = 1;
-    while i < numbers.len() {
-        last = put_byte(text, last, b' ');
-        last = put_number(text, last, numbers[i] as u64);
-        i += 1;
-    }
-    put_byte(text, last, b'\n')
-}
-
 // Writes the text so far to standard output. A write that fails loses it.
 pub fn write(text: &[u8], end: usize)
     requires { ⌜ end ≤ length (now text) ⌝ }
@@ -62,10 +44,11 @@ pub fn room(text: &[u8], end: usize) -> usize
     0
 }
 
-// Adds a line of any length: what is full is written.
+// Adds a line: the numbers, separated by single blanks. Where the text comes near the buffer's end it is written first.
 pub fn print_line(text: &mut [u8], end: usize, numbers: &[u32]) -> usize
     requires { ⌜ (end ≤ length (now text)) × (128 ≤ length (now text)) ⌝ }
-    ensures { λ r. ⌜ r ≤ length (now (text .entry)) ⌝ }
+    ensures { λ r. ⌜ r ≤ length (now (text .exit)) ⌝ }
+    ensures { λ r. ⌜ (end + 21 * length (now (numbers .entry)) + 128 ≤ length (now (text .entry)) → Line-added (now (numbers .entry)) end (now (text .entry)) r (now (text .exit))) ⌝ }
 {
     let mut last = room(text, end);
     if numbers.len() == 0 {

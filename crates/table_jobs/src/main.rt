@@ -38,11 +38,10 @@ fn answer(kind: u32, table: &[u32], numbers: &[u32]) -> Line
 // Adds a line to the text.
 fn print(text: &mut [u8], end: usize, line: Line) -> usize
     requires { ⌜ (end ≤ length (now text)) × (128 ≤ length (now text)) ⌝ }
-    ensures { λ r. ⌜ r ≤ length (now (text .entry)) ⌝ }
+    ensures { λ r. ⌜ r ≤ length (now (text .exit)) ⌝ }
 {
-    let start = text::room(text, end);
     let numbers = [line.outcome, line.value];
-    text::put_line(text, start, &numbers)
+    text::print_line(text, end, &numbers)
 }
 
 // Runs the next job.

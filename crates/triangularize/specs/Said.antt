@@ -1,10 +1,7 @@
 -- What is printed.
-use mathlib.Core.Path.{_≡_, refl}
-use mathlib.Core.Bool.{true, false}
-use mathlib.Core.Logic.{_⊎_}
 use mathlib.Core.List.{List, [], _∷_, _++_}
-use Prim.Native.Nat.{ℕ, zero, suc, _*_, _%_, _<_}
-use lib.ListN.{length, take, drop}
+use Prim.Native.Nat.{ℕ, zero, suc, _*_}
+use lib.ListN.{take, drop}
 use Rattle.tables.specs.Reason.{number}
 use Rattle.lines.specs.Text.{line-text}
 use Rattle.elimination.specs.declared.Answer.{Answer}
@@ -24,7 +21,3 @@ said-of steps (Refused why at) out = line-text (number why ∷ steps ∷ at ∷ 
 
 abbrev pub said : Answer → List ℕ → List ℕ
 said a out = said-of (a .steps) (a .outcome) out
-
--- "Longer input, or a broken last word."
-abbrev pub Unread : List ℕ → Type 0
-Unread bytes = (65536 < length bytes) ⊎ (0 < length bytes % 4)

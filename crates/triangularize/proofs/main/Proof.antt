@@ -34,7 +34,7 @@ slice-aggregate-respond-5 c = search needs
 respond-requires : tie.Need-respond-requires
 respond-requires c κs =
     let l = sym (length-replicate {A = ℕ} 16384 0) in
-    (l, l, l, le-of-eq (sym (length-replicate {A = ℕ} 348224 0)))
+    (l, l, l, le-of-eq (sym (length-replicate {A = ℕ} 348352 0)))
 
 slice-aggregate-write : tie.Need-slice-aggregate-write
 slice-aggregate-write c = search needs

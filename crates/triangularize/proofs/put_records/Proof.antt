@@ -27,20 +27,20 @@ mul-from c = search needs
 add-to : tie.Need-add-to Inv-loop μ-loop
 add-to c = search needs
 
-mul-put-line : tie.Need-mul-put-line Inv-loop μ-loop
-mul-put-line c = search needs
+mul-print-line : tie.Need-mul-print-line Inv-loop μ-loop
+mul-print-line c = search needs
 
-sub-put-line : tie.Need-sub-put-line Inv-loop μ-loop
-sub-put-line c = search needs
+sub-print-line : tie.Need-sub-print-line Inv-loop μ-loop
+sub-print-line c = search needs
 
-part-put-line-start : tie.Need-part-put-line-start Inv-loop μ-loop
-part-put-line-start c = search needs
+part-print-line-start : tie.Need-part-print-line-start Inv-loop μ-loop
+part-print-line-start c = search needs
 
-part-put-line-end : tie.Need-part-put-line-end Inv-loop μ-loop
-part-put-line-end c = search needs
+part-print-line-end : tie.Need-part-print-line-end Inv-loop μ-loop
+part-print-line-end c = search needs
 
-put-line-requires : tie.Need-put-line-requires Inv-loop μ-loop
-put-line-requires c κs = search needs
+print-line-requires : tie.Need-print-line-requires Inv-loop μ-loop
+print-line-requires c κs = search needs
 
 add-i : tie.Need-add-i Inv-loop μ-loop
 add-i c = search needs
@@ -52,13 +52,14 @@ loop-again : tie.Need-loop-again Inv-loop μ-loop
 loop-again c =
     let a = c .before .before .before .before .before .before .before .before .before .args in
     let l = c .before .before .before .before .before .before .loop in
-    let e = c .before .before .put-line .ensures in
     let k = 4 * l .i + 4 - 4 * l .i in
-    let w = a .list .now in (
+    let w = a .list .now in
+    let s = length-take k (drop (4 * l .i) w) in
+    let e = c .before .before .print-line .ensures .1 (omega (arith, s)) in (
       omega arith,
       search needs,
-      omega (arith, e .0, length-take k (drop (4 * l .i) w)),
-      recorded-on w (a .n) (l .i) k (take (l .last) (l .text)) (c .before .before .before .before .before .loop-test .taken) (omega arith) (l .inv .3) (e .1),
+      omega (arith, e .near, s),
+      recorded-on w (a .n) (l .i) k (take (l .last) (l .text)) (c .before .before .before .before .before .loop-test .taken) (omega arith) (l .inv .3) (e .is),
     )
 
 same-length : tie.Need-same-length Inv-loop μ-loop
@@ -79,11 +80,11 @@ put-records-spec =
     loop-holds
     mul-from
     add-to
-    mul-put-line
-    sub-put-line
-    part-put-line-start
-    part-put-line-end
-    put-line-requires
+    mul-print-line
+    sub-print-line
+    part-print-line-start
+    part-print-line-end
+    print-line-requires
     add-i
     loop-less
     loop-again

@@ -1,37 +1,41 @@
--- Where the words are lent, none of the bytes is left out.
+-- Each way out is a case of `response`.
 use mathlib.Core.Path.{_≡_, sym}
-use mathlib.Core.Logic.{⊎-elim}
 use Prim.Native.Nat.{_/_}
 use native.Mathlib.Omega.{arith}
 use borrow.Author.Needs.{needs}
-use lib.ListN.{length}
+use lib.ListN.{length, take}
 use lib.Seq.{length-take-le}
+use Rattle.triangularize.proofs.ResponseLaws.{too-long, broken, answered}
 use Rattle.triangularize.proofs.respond.Statement.{statement}
 use Rattle.triangularize.proofs.respond.Tie as tie
 
-slice-aggregate-put-line : tie.Need-slice-aggregate-put-line
-slice-aggregate-put-line c = search needs
+slice-aggregate-print-line : tie.Need-slice-aggregate-print-line
+slice-aggregate-print-line c = search needs
 
-put-line-requires : tie.Need-put-line-requires
-put-line-requires c κs = search needs
+print-line-requires : tie.Need-print-line-requires
+print-line-requires c κs = search needs
 
 same-length : tie.Need-same-length
 same-length c = search needs
 
 returns : tie.Need-returns
-returns c = search needs
+returns c =
+    let e = c .before .before .print-line .ensures in
+    (e .0, too-long (c .before .before .before .before .before .before .before .before .before .before .before .args .bytes .now) (c .before .before .before .before .before .if1 .taken) (e .1 (omega arith) .is))
 
-slice-aggregate-put-line-2 : tie.Need-slice-aggregate-put-line-2
-slice-aggregate-put-line-2 c = search needs
+slice-aggregate-print-line-2 : tie.Need-slice-aggregate-print-line-2
+slice-aggregate-print-line-2 c = search needs
 
-put-line-requires-2 : tie.Need-put-line-requires-2
-put-line-requires-2 c κs = search needs
+print-line-requires-2 : tie.Need-print-line-requires-2
+print-line-requires-2 c κs = search needs
 
 same-length-2 : tie.Need-same-length-2
 same-length-2 c = search needs
 
 returns-2 : tie.Need-returns-2
-returns-2 c = search needs
+returns-2 c =
+    let e = c .before .before .print-line2 .ensures in
+    (e .0, broken (c .before .before .before .before .before .before .before .before .before .before .before .before .args .bytes .now) (c .before .before .before .before .before .before .if1 .left) (c .before .before .before .before .before .if2 .taken) (e .1 (omega arith) .is))
 
 decode-requires : tie.Need-decode-requires
 decode-requires c κs = search needs
@@ -64,18 +68,27 @@ same-length-6 : tie.Need-same-length-6
 same-length-6 c = search needs
 
 returns-3 : tie.Need-returns-3
-returns-3 c = (search needs, λ u. absurd (⊎-elim (λ h. omega arith) (λ h. omega arith) u))
+returns-3 c =
+    let a = c .before .before .before .before .before .before .before .before .before .before .before .before .before .before .before .before .before .before .before .before .before .before .before .before .args in
+    let b = a .bytes .now in
+    let e = c .before .before .before .before .before .before .before .before .before .eliminate .ensures in
+    let l = c .before .before .before .before .before .before .before .before .before .before .before .before .before .before .before .before .before .before .before .before .before .before .before .before .pre in
+    let p = c .before .before .put-answer .ensures in (
+      p .0,
+      answered b (take (length b / 4) (c .before .before .before .before .before .before .before .before .before .before .before .before .before .before .before .decode .last .1 .0)) (a .output .now) (length (a .work .now)) (length (a .output .now)) (c .before .before .before .before .before .before .before .before .before .before .before .before .before .before .before .before .before .before .if1 .left) (c .before .before .before .before .before .before .before .before .before .before .before .before .before .before .before .before .before .if2 .left) (c .before .before .before .before .before .before .before .before .before .before .before .before .before .before .before .decode .ensures)
+          (sym (l .1)) (sym (l .2)) (e .0) (e .1 .0) (p .1),
+    )
 
 pub respond-spec : {M : Type 1} → statement M
 respond-spec =
     tie.close
     (tie.spec
-    slice-aggregate-put-line
-    put-line-requires
+    slice-aggregate-print-line
+    print-line-requires
     same-length
     returns
-    slice-aggregate-put-line-2
-    put-line-requires-2
+    slice-aggregate-print-line-2
+    print-line-requires-2
     same-length-2
     returns-2
     decode-requires

@@ -1,8 +1,6 @@
--- What is counted is the work area as the elimination leaves it.
-use mathlib.Core.Path.{_∙_, ap}
+-- The filled buffers keep their lengths, and the work area is left cleared.
 use borrow.Author.Needs.{needs}
-use Rattle.elimination_jobs.specs.declared.job.Heading.{Heading}
-use Rattle.elimination_jobs.proofs.HeadingLaws.{heading-nonzero}
+use Rattle.elimination_jobs.proofs.RunLaws.{headed, listed-after}
 use Rattle.elimination_jobs.proofs.job.run.Statement.{statement}
 use Rattle.elimination_jobs.proofs.job.run.Tie as tie
 
@@ -32,8 +30,14 @@ same-length-2 c = search needs
 
 returns : tie.Need-returns
 returns c =
-    let a = c .before .before .before .before .before .before .before .eliminate .result in
-    ap (λ (h : Heading). h .nonzero) (c .head-of .ensures) ∙ heading-nonzero (a .steps) (a .outcome) (c .before .count-nonzero .result) ∙ c .before .count-nonzero .ensures .0
+    let a = c .before .before .before .before .before .before .before .before .before .before .before .before .before .before .before .before .before .before .before .before .before .args in
+    let e = c .before .before .before .before .before .before .before .eliminate in
+    let f = c .before .before .before .before .before .before .before .before .before .before .before .before .before .before .before .before .fill .last .0 in
+    let g = c .before .before .before .before .before .before .before .before .before .before .before .before .fill2 .last .0 in
+    let n = c .before .count-nonzero in (
+      headed (a .table .now) (a .work .now) (a .output .now) f g (a .limit) (a .filling) (c .before .before .before .before .before .before .before .before .before .before .before .before .before .before .before .before .fill .ensures) (c .before .before .before .before .before .before .before .before .before .before .before .before .fill2 .ensures) (n .result) (e .last .1 .0) (c .head-of .ensures) (e .ensures .0) (n .ensures .0) (e .ensures .1 .1),
+      listed-after (a .table .now) (a .work .now) (a .output .now) f g (a .limit) (a .filling) (c .before .before .before .before .before .before .before .before .before .before .before .before .before .before .before .before .fill .ensures) (c .before .before .before .before .before .before .before .before .before .before .before .before .fill2 .ensures) (e .ensures .1 .0),
+    )
 
 pub run-spec : {M : Type 1} → statement M
 run-spec =

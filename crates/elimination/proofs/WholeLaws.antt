@@ -8,10 +8,8 @@ use lib.ListN.{length}
 use Rattle.records.specs.Records.{Rec}
 use Rattle.tables.specs.Read.{Read, Input, good, read-table}
 use Rattle.tables.specs.Read as tables
-use Rattle.tables.specs.Solve.{reading}
 use Rattle.tables.specs.declared.Reason.{Reason}
 use Rattle.tables.specs.declared.Reason.the-variants.{Room}
-use Rattle.tables.specs.declared.ReadOutcome.the-variants.{Accepted, Refused as ReadRefused}
 use Rattle.rules.specs.Room.{Limits, State}
 use Rattle.rules.specs.Step.{Stepped, next, stopped}
 use Rattle.rules.specs.Run.{Ended, after-step, run, start, run-of}
@@ -25,15 +23,6 @@ use Rattle.elimination.specs.Answer.{Ran}
 use Rattle.loading.specs.Started.{Started}
 use Rattle.elimination.specs.Delivered.{Delivered}
 use Rattle.loading.proofs.StartLaws.{limits-are}
-
--- ── reading ──
-pub refused-read : (r : Read Input) {why : Reason} {at : ℕ} → reading r .outcome ≡ ReadRefused why at → r ≡ tables.refused why at
-refused-read (good t) e = absurd (let z : _≡_ {A = ℕ} 0 1 = cc in omega arith)
-refused-read (tables.refused why at) e = cc
-
-pub accepted-read : (r : Read Input) → reading r .outcome ≡ Accepted → (t : Input) × (r ≡ good t)
-accepted-read (good t) e = (t, refl)
-accepted-read (tables.refused why at) e = absurd (let z : _≡_ {A = ℕ} 0 1 = cc in omega arith)
 
 module _ (w : List ℕ) (work output limit : ℕ) where
   abbrev by-reading : Read Input → Eliminated

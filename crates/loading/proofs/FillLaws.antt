@@ -12,7 +12,7 @@ use Rattle.polynomials.specs.Poly.{Poly, monic}
 use Rattle.polynomials.specs.Packed.{terms}
 use Rattle.tables.specs.Words.{word, records}
 use Rattle.tables.specs.Read.{good, read-head, read-heads}
-use Rattle.tables.specs.laws.Linked.{left, Member, linked-member, linked-end, linked-less, HeadChain, heads-linked}
+use Rattle.tables.specs.laws.Linked.{left, linked-end, member-less, HeadChain, HeadMember, next-head, heads-linked}
 use Rattle.rules.specs.Branch as rules
 use Rattle.rules.specs.Branch.{Branch, unless-dropped, put-all}
 use Rattle.rules.specs.Room.{polynomials-size, branch-size, branches-size, systems-size, live}
@@ -147,8 +147,8 @@ module _ (w : List ℕ) (p n : ℕ) (q : Bool) (most : ℕ) where
         record { answer = sym (le-leb (1 + branch-size whole) most (alone-fits x)); alone = λ t. x }
 
     module _ (more : i ≢ 0) where
-      head : Member {S = Unit {0}} w (λ s j. read-head w p n j) (λ s f. s) tt (l .at) i (l .rest)
-      head = linked-member w _ _ tt (l .at) i (l .rest) more (l .linked)
+      head : HeadMember w p n (l .at) i (l .rest)
+      head = next-head w p n more (l .linked)
 
       pub put-inside : i < records w
       put-inside = head .inside
@@ -157,7 +157,7 @@ module _ (w : List ℕ) (p n : ℕ) (q : Bool) (most : ℕ) where
       put-read = (head .member, head .is-read)
 
       pub put-less : left (records w) (word w i 3) < left (records w) i
-      put-less = linked-less w _ _ tt i (word w i 3) (head .behind) more (head .inside) (head .linked)
+      put-less = member-less w _ _ more head
 
       -- The branch with the polynomial of record i put.
       with-head : Branch

@@ -12,9 +12,9 @@ use Rattle.polynomials.specs.Packed.{bytes, exponents, term, terms}
 use Rattle.polynomials.specs.Working.{Written, Holds}
 use Rattle.polynomials.specs.laws.Terms.{terms-push}
 use Rattle.tables.specs.Words.{word, records, term-at}
-use Rattle.tables.specs.Read.{good, Before, first, after, read-term, read-head}
+use Rattle.tables.specs.Read.{good, Before, first, read-head}
 use Rattle.tables.specs.laws.Chains.{term-read}
-use Rattle.tables.specs.laws.Linked.{good-same, left, Member, linked-member, linked-end, linked-less, TermChain, terms-linked}
+use Rattle.tables.specs.laws.Linked.{good-same, left, linked-end, member-less, TermChain, TermMember, next-term, terms-linked}
 use Rattle.tables.specs.laws.Accepted.{head-admissible}
 
 -- The first k words of `out` and the terms from index i on make the polynomial with its head in record `head`.
@@ -69,35 +69,35 @@ module _ (w : List ℕ) (p n head : ℕ) (out : List ℕ) where
 
     -- The term in record i.
     module _ (more : i ≢ 0) where
-      next-term : Member w (λ s j. read-term w p n (s .0) (s .1) j) (λ s t. (suc (s .0), after (t .exps))) (l .state) (l .at) i (l .rest)
-      next-term = linked-member w _ _ (l .state) (l .at) i (l .rest) more (l .linked)
+      this-term : TermMember w p n (l .state) (l .at) i (l .rest)
+      this-term = next-term w p n more (l .linked)
 
       pub load-inside : i < records w
-      load-inside = next-term .inside
+      load-inside = this-term .inside
 
       pub load-room : k + 2 ≤ 512
-      load-room = let e : length (l .rest) ≡ suc (length (next-term .behind)) = ap (λ (g : Poly). length g) (next-term .parts) in omega (arith, l .few, l .count)
+      load-room = let e : length (l .rest) ≡ suc (length (this-term .behind)) = ap (λ (g : Poly). length g) (this-term .parts) in omega (arith, l .few, l .count)
 
       pub load-less : left (records w) (word w i 3) < left (records w) i
-      load-less = linked-less w _ _ _ i (word w i 3) (next-term .behind) more (next-term .inside) (next-term .linked)
+      load-less = member-less w _ _ more this-term
 
       pub load-next : (c m : ℕ) → c ≡ word w i 0 → bytes 8 m ≡ exponents (word w i 1) (word w i 2) → LoadLeft w p n head (set (set out k c) (k + 1) m) (k + 2) (word w i 3)
       load-next c m ec em =
-          let e : length (l .rest) ≡ suc (length (next-term .behind)) = ap (λ (g : Poly). length g) (next-term .parts) in
+          let e : length (l .rest) ≡ suc (length (this-term .behind)) = ap (λ (g : Poly). length g) (this-term .parts) in
           record {
             whole = l .whole;
             is-read = l .is-read;
             state = _;
             at = i;
-            rest = next-term .behind;
-            linked = next-term .linked;
+            rest = this-term .behind;
+            linked = this-term .linked;
             few = l .few;
             count = omega (arith, l .count);
             room = simp length-set (l .room);
-            front = ap (λ (g : Poly). g ++ next-term .behind) (terms-push out k c m (omega (arith, l .count)) (omega (arith, l .few, l .count, l .room)))
-                ∙ append-assoc (terms (take k out)) (term c m ∷ []) (next-term .behind)
-                ∙ ap (λ (t : Term). terms (take k out) ++ (t ∷ next-term .behind)) (is-term ∙ sym (term-read w p n (next-term .is-read) .is))
-                ∙ ap (λ (g : Poly). terms (take k out) ++ g) (sym (next-term .parts))
+            front = ap (λ (g : Poly). g ++ this-term .behind) (terms-push out k c m (omega (arith, l .count)) (omega (arith, l .few, l .count, l .room)))
+                ∙ append-assoc (terms (take k out)) (term c m ∷ []) (this-term .behind)
+                ∙ ap (λ (t : Term). terms (take k out) ++ (t ∷ this-term .behind)) (is-term ∙ sym (term-read w p n (this-term .is-read) .is))
+                ∙ ap (λ (g : Poly). terms (take k out) ++ g) (sym (this-term .parts))
                 ∙ l .front;
           }
         where

@@ -3,7 +3,7 @@ use mathlib.Core.Path.{_≡_, refl, sym, _∙_, ap, subst}
 use mathlib.Core.Logic.{_≢_}
 use mathlib.Core.Bool.{Bool, true, false, not, _&&_, Bool·beq, true≢false, false≢true}
 use mathlib.Core.List.{List, [], _∷_}
-use Prim.Native.Nat.{ℕ, suc, _+_, _*_, _%_, _≤_, _<_}
+use Prim.Native.Nat.{ℕ, _+_, _*_, _%_, _≤_, _<_}
 use native.Mathlib.Nat.{mod-lt, zero-add, add-zero, add-mod-mod, mod-add-mod, mod-eq-of-lt}
 use native.Mathlib.Omega.{arith}
 use lib.Dec.{eqb}
@@ -17,12 +17,12 @@ use Rattle.tables.specs.declared.Reason.the-variants.{Point as PointReason}
 use Rattle.tables.specs.declared.Reading.{Reading}
 use Rattle.tables.specs.declared.ReadOutcome.the-variants.{Accepted, Refused as ReadRefused}
 use Rattle.tables.specs.declared.TrialOutcome.the-variants.{Yes, No, Refused as TrialRefused}
-use Rattle.tables.specs.Read.{Read, good, refused, unless, Input, Before, first, after, read-term, read-head, read-heads, read-table}
+use Rattle.tables.specs.Read.{good, refused, unless, Input, Before, first, read-head, read-heads, read-table}
 use Rattle.tables.specs.Solve.{is-point, is-root, all-zero, none-zero, solves, reading, yes-or-no, trial, try-input}
 use Rattle.tables.specs.Walk.{Readable}
 use Rattle.points.specs.Walks.{all-match}
-use Rattle.tables.specs.laws.Chains.{term-read}
-use Rattle.tables.specs.laws.Linked.{good-same, left, Member, linked-member, linked-end, linked-less, TermChain, terms-linked, HeadChain, heads-linked}
+use Rattle.tables.specs.laws.Chains.{reading-good, reading-refused, term-read}
+use Rattle.tables.specs.laws.Linked.{good-same, left, linked-end, member-less, TermChain, TermMember, next-term, terms-linked, HeadChain, HeadMember, next-head, heads-linked}
 use Rattle.residues.specs.laws.Prime.{modulus-prime}
 use Rattle.tables.specs.laws.Accepted.{some-record, table-read}
 use Rattle.tables.specs.laws.Solved.{PointOf, point-is}
@@ -74,8 +74,8 @@ module _ (w : List ℕ) (p n head : ℕ) (x : List ℕ) where
 
     -- The term in record i.
     module _ (more : i ≢ 0) where
-      term : Member w (λ s j. read-term w p n (s .0) (s .1) j) (λ s t. (suc (s .0), after (t .exps))) (l .state) (l .at) i (l .rest)
-      term = linked-member w _ _ (l .state) (l .at) i (l .rest) more (l .linked)
+      term : TermMember w p n (l .state) (l .at) i (l .rest)
+      term = next-term w p n more (l .linked)
 
       pub value-inside : i < records w
       value-inside = term .inside
@@ -84,7 +84,7 @@ module _ (w : List ℕ) (p n head : ℕ) (x : List ℕ) where
       value-residue = term-read w p n (term .is-read) .residue
 
       pub value-less : left (records w) (word w i 3) < left (records w) i
-      value-less = linked-less w _ _ _ i (word w i 3) (term .behind) more (term .inside) (term .linked)
+      value-less = member-less w _ _ more term
 
       pub value-next : 0 < p → (u : ℕ) → u ≡ (v + word w i 0 * monomial-valueℕ x (exponents (word w i 1) (word w i 2)) % p) % p → ValueLeft w p n head x u (word w i 3)
       unfolding valueℕ
@@ -165,8 +165,8 @@ module _ (w : List ℕ) (p n from start : ℕ) (x : List ℕ) (b : Bool) where
         none false = refl
 
     module _ (more : i ≢ 0) where
-      head : Member {S = Unit {0}} w (λ s j. read-head w p n j) (λ s f. s) tt (l .at) i (l .rest)
-      head = linked-member w _ _ tt (l .at) i (l .rest) more (l .linked)
+      head : HeadMember w p n (l .at) i (l .rest)
+      head = next-head w p n more (l .linked)
 
       pub match-inside : i < records w
       match-inside = head .inside
@@ -175,7 +175,7 @@ module _ (w : List ℕ) (p n from start : ℕ) (x : List ℕ) (b : Bool) where
       match-read = (head .member, head .is-read)
 
       pub match-less : left (records w) (word w i 3) < left (records w) i
-      match-less = linked-less w _ _ tt i (word w i 3) (head .behind) more (head .inside) (head .linked)
+      match-less = member-less w _ _ more head
 
       -- r is the value of the polynomial with its head in record i.
       module _ (r : ℕ) (is-value : (f : Poly) → read-head w p n i ≡ good f → r ≡ value-modulo p f x) where
@@ -200,14 +200,6 @@ module _ (w : List ℕ) (p n from start : ℕ) (x : List ℕ) (b : Bool) where
             sym (match-not p x b (head .member) (head .behind) (λ q. k (sym head-root ∙ q))) ∙ ap (all-match p x b) (sym (head .parts)) ∙ l .same ∙ ap (all-match p x b) s
 
 -- ── a table ──
-refused-reading : (r : Read Input) (why : Reason) (at : ℕ) → reading r .outcome ≡ ReadRefused why at → r ≡ refused why at
-refused-reading (good t) why at e = let z : _≡_ {A = ℕ} 0 1 = cc in absurd (omega arith)
-refused-reading (refused why′ at′) why at e = cc
-
-accepted-reading : (r : Read Input) → reading r .outcome ≡ Accepted → (t : Input) × (r ≡ good t)
-accepted-reading (good t) e = (t, refl)
-accepted-reading (refused why at) e = let z : _≡_ {A = ℕ} 0 1 = cc in absurd (omega arith)
-
 -- The code's p and n are the first words of an accepted table.
 pub record AcceptedTable (w : List ℕ) : Type 0 where
   pub input : Input
@@ -221,12 +213,12 @@ module _ (w x : List ℕ) (r : Reading) (e : r ≡ reading (read-table w)) where
   pub table-refused : (why : Reason) (at : ℕ) → r .outcome ≡ ReadRefused why at → record { outcome = TrialRefused why at } ≡ trial (try-input w x)
   unfolding try-input
   table-refused why at h =
-      let q : read-table w ≡ refused why at = refused-reading (read-table w) why at (ap (λ (s : Reading). s .outcome) (sym e) ∙ h) in
+      let q : read-table w ≡ refused why at = reading-refused (read-table w) (ap (λ (s : Reading). s .outcome) (sym e) ∙ h) in
       rw q
 
   pub table-accepted : r .outcome ≡ Accepted → AcceptedTable w
   table-accepted h =
-      let k = accepted-reading (read-table w) (ap (λ (s : Reading). s .outcome) (sym e) ∙ h) in
+      let k = reading-good (read-table w) (ap (λ (s : Reading). s .outcome) (sym e) ∙ h) in
       let t = table-read w (k .0) (k .1) in
       record {
         input = k .0;

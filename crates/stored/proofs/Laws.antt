@@ -12,6 +12,7 @@ use lib.ListN.{length, take, drop, getD, set, length-drop, length-set, drop-of-l
 use lib.Seq.{paste, take-suc, take-suc-set, drop-cons, drop-set-lt, getD-take, getD-drop, length-take-le, drop-at, take-append-le, take-take, take-all}
 use Rattle.records.specs.Records.{Rec, nul, moved}
 use Rattle.stored.specs.Stored.{term-record, term-records, size-at, pairs-of, words-at, skip-to, polys-at, same, member, inserted}
+use Rattle.stored.specs.laws.Stored.{length-words-at}
 
 -- ── storing ──
 pub getD-term-records : (s : List ℕ) (j : ℕ) → j < length s / 2 → getD (term-records s) j nul ≡ term-record (getD s (2 * j) 0) (getD s (2 * j + 1) 0)
@@ -56,11 +57,6 @@ pub pairs-of-append : (r s : List Rec) → pairs-of (r ++ s) ≡ pairs-of r ++ p
 unfolding pairs-of
 pairs-of-append [] s = refl
 pairs-of-append (x ∷ r) s = ap (λ (l : List ℕ). x .w0 ∷ (x .w1 * 4294967296 + x .w2) ∷ l) (pairs-of-append r s)
-
-pub length-pairs-of : (r : List Rec) → length (pairs-of r) ≡ 2 * length r
-unfolding pairs-of
-length-pairs-of [] = refl
-length-pairs-of (x ∷ r) = let behind : length (pairs-of r) ≡ 2 * length r = length-pairs-of r in omega arith
 
 -- The words of one record more.
 pub pairs-of-take : (v : List Rec) (k i : ℕ) → k + i < length v
@@ -108,11 +104,6 @@ unfolding member
 member-turn f v i left h = ap (member f) (polys-turn v i left h)
 
 -- ── comparing ──
-pub length-words-at : (v : List Rec) (i : ℕ) → i + 1 + size-at v i ≤ length v → length (words-at v i) ≡ 2 * size-at v i
-unfolding words-at
-length-words-at v i h =
-    length-pairs-of (take (size-at v i) (drop (i + 1) v)) ∙ ap (λ (n : ℕ). 2 * n) (length-take-le (size-at v i) (drop (i + 1) v) (simp length-drop (omega arith)))
-
 getD-pairs-of : (r : List Rec) (j : ℕ) → (getD (pairs-of r) (2 * j) 0 ≡ getD r j nul .w0) × (getD (pairs-of r) (2 * j + 1) 0 ≡ getD r j nul .w1 * 4294967296 + getD r j nul .w2)
 unfolding pairs-of
 getD-pairs-of [] j = (refl, refl)

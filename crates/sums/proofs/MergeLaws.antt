@@ -22,7 +22,7 @@ use Rattle.polynomials.specs.Working.{Pairs, Written, Forms}
 use Rattle.polynomials.specs.laws.Order.{compare-is}
 use Rattle.polynomials.specs.laws.Canonical.{under-first}
 use Rattle.polynomials.specs.laws.Merge.{Below, below-first, below-trans, multiple-left, multiple-right, multiple-both, multiple-zeros, keep-none, keep-some, scaled, monic-scaled}
-use Rattle.polynomials.specs.laws.Packed.{order-bytes, join-bytes}
+use Rattle.polynomials.specs.laws.Packed.{fewer-bytes, order-bytes, join-bytes}
 use Rattle.polynomials.specs.laws.Places.{places-terms}
 use Rattle.polynomials.specs.laws.Terms.{terms-at, terms-push, terms-append, words-of-terms}
 
@@ -30,11 +30,8 @@ use Rattle.polynomials.specs.laws.Terms.{terms-at, terms-push, terms-append, wo
 -- Monomials of which no exponent passes 255 have a sum that fits.
 pub fits-below : (n w v : ℕ) → Fits n w v → w < 256 ^ n → v < 256 ^ n → w + v < 256 ^ n
 fits-below zero w v f h k = omega arith
-fits-below (suc n) w v f h k = subst (λ z. w + v < z) (sym (pow-suc 256 n)) (div-lt-iff-lt-mul {k = 256} (omega arith) .0 (subst (λ z. z < 256 ^ n) high (fits-below n (w / 256) (v / 256) (f .1) (shorter w h) (shorter v k))))
+fits-below (suc n) w v f h k = subst (λ z. w + v < z) (sym (pow-suc 256 n)) (div-lt-iff-lt-mul {k = 256} (omega arith) .0 (subst (λ z. z < 256 ^ n) high (fits-below n (w / 256) (v / 256) (f .1) (fewer-bytes n w h) (fewer-bytes n v k))))
   where
-    shorter : (x : ℕ) → x < 256 ^ suc n → x / 256 < 256 ^ n
-    shorter x l = div-lt-iff-lt-mul {k = 256} (omega arith) .1 (subst (λ z. x < z) (pow-suc 256 n) l)
-
     high : w / 256 + v / 256 ≡ (w + v) / 256
     high = omega (arith, f .0)
 

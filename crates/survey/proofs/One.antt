@@ -12,7 +12,8 @@ use Rattle.stored.specs.Stored.{size-at, words-at}
 use Rattle.polynomials.specs.Poly.{Poly, Term}
 use Rattle.polynomials.specs.Packed.{bytes, term, terms}
 use Rattle.rules.specs.Branch.{all-zeros, is-one}
-use Rattle.survey.proofs.Walk.{monomial-at, words-behind, terms-first, length-terms-at}
+use Rattle.representation.specs.laws.Sizes.{length-terms-at}
+use Rattle.survey.proofs.Walk.{monomial-at, words-behind, terms-first}
 
 several-not-one : (f : Poly) → length f ≢ 1 → is-one f ≡ false
 unfolding is-one

@@ -11,7 +11,7 @@ use lib.ListN.{length, take, drop, getD}
 use lib.Seq.{drop-cons}
 use Rattle.records.specs.Records.{Rec, nul}
 use Rattle.stored.specs.Stored.{size-at, pairs-of, words-at, polys-at}
-use Rattle.stored.proofs.Laws.{length-words-at, polys-turn}
+use Rattle.stored.proofs.Laws.{polys-turn}
 use Rattle.polynomials.specs.Poly.{Poly}
 use Rattle.polynomials.specs.Canonical.{Canonical}
 use Rattle.polynomials.specs.Division.{degree, degrees, highest, leader}
@@ -19,7 +19,6 @@ use Rattle.polynomials.specs.Packed.{bytes, term, terms}
 use Rattle.polynomials.specs.Working.{Holds}
 use Rattle.polynomials.specs.laws.Places.{Places, places-terms}
 use Rattle.polynomials.specs.laws.Parts.{above-leader, degree-first, leader-first}
-use Rattle.polynomials.specs.laws.Terms.{length-terms}
 use Rattle.rules.specs.Branch.{is-zero}
 use Rattle.survey.specs.Survey.{All-hold}
 
@@ -71,9 +70,6 @@ module _ (v : List Rec) (i : ℕ) (some : 0 < size-at v i) (fits : i + 1 + size-
   pub terms-first : terms (words-at v i) ≡ term (getD v (i + 1) nul .w0) (monomial-at v (i + 1)) ∷ terms (words-behind v i)
   unfolding terms
   terms-first = ap terms words-first
-
-pub length-terms-at : (v : List Rec) (i : ℕ) → i + 1 + size-at v i ≤ length v → length (terms (words-at v i)) ≡ size-at v i
-length-terms-at v i fits = omega (arith, length-terms (words-at v i), length-words-at v i fits)
 
 -- ── zero ──
 pub zero-at : (v : List Rec) (i : ℕ) → size-at v i ≡ 0 → is-zero (terms (words-at v i)) ≡ true

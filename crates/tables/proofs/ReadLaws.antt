@@ -4,7 +4,7 @@ use mathlib.Core.Logic.{_≢_}
 use mathlib.Core.Bool.{Bool, true, false, not, _&&_, _||_}
 use mathlib.Core.List.{List, _∷_}
 use Prim.Native.Nat.{ℕ, zero, suc, _+_, _*_, _/_, _%_, _^_, _≤_, _<_, Ordering, Ordering·lt, Ordering·eq, Ordering·gt}
-use native.Mathlib.Nat.{pow-suc, pow-succ', div-lt-iff-lt-mul, div-one, div-div-eq-div-mul}
+use native.Mathlib.Nat.{pow-succ', div-one, div-div-eq-div-mul}
 use native.Mathlib.Numerals.{add-one}
 use native.Mathlib.Omega.{arith}
 use native.Mathlib.Decide.{ℕ-discrete}
@@ -17,7 +17,7 @@ use Rattle.residues.specs.Prime.{is-modulus}
 use Rattle.polynomials.specs.Poly.{Term, Poly, order}
 use Rattle.polynomials.specs.Packed.{bytes, exponents}
 use Rattle.polynomials.specs.laws.Order.{Says, says}
-use Rattle.polynomials.specs.laws.Packed.{order-bytes, byte-power}
+use Rattle.polynomials.specs.laws.Packed.{fewer-bytes, order-bytes, byte-power}
 use Rattle.tables.specs.declared.Reason.the-variants.{Shape, Prime, Variables, Head, Coefficient, Exponent, Order, Terms}
 use Rattle.tables.specs.declared.Reason.{Reason}
 use Rattle.tables.specs.declared.Reading.{Reading}
@@ -71,14 +71,11 @@ pub fits-word : {w : List ℕ} {p n i : ℕ} → Readable w p n → i < records 
 fits-word {w} {p} {n} {i} r h = record { fits = omega (arith, whole-records w (r .whole) .2) }
 
 -- ── exponents ──
-shorter : (k m : ℕ) → m < 256 ^ suc k → m / 256 < 256 ^ k
-shorter k m h = div-lt-iff-lt-mul {k = 256} (omega arith) .1 (rw pow-suc at h)
-
 -- Some byte of a number is not 0 exactly if the number is not.
 not-zero-bytes : (k m : ℕ) → m < 256 ^ k → not-zero (bytes k m) ≡ not (eqb m 0)
 unfolding not-zero bytes
 not-zero-bytes zero m h = sym (ap not (eq-eqb m 0 (omega arith)))
-not-zero-bytes (suc k) m h = go (not-zero-bytes k (m / 256) (shorter k m h)) (eqb (m % 256) 0) (eqb-true (m % 256) 0) (eqb-false (m % 256) 0)
+not-zero-bytes (suc k) m h = go (not-zero-bytes k (m / 256) (fewer-bytes k m h)) (eqb (m % 256) 0) (eqb-true (m % 256) 0) (eqb-false (m % 256) 0)
   where
     same : m % 256 ≡ 0 → eqb (m / 256) 0 ≡ eqb m 0
     same e = elim (ℕ-discrete m 0) [
@@ -96,7 +93,7 @@ unfolding bytes
 above-bytes zero k m l h = not-zero-bytes k m h ∙ ap (λ (z : ℕ). not (eqb z 0)) (sym (div-one m))
 above-bytes (suc n) zero m l h = absurd (omega arith)
 above-bytes (suc n) (suc k) m l h =
-    above-bytes n k (m / 256) (omega arith) (shorter k m h)
+    above-bytes n k (m / 256) (omega arith) (fewer-bytes k m h)
     ∙ ap (λ (z : ℕ). not (eqb z 0)) (div-div-eq-div-mul m 256 (256 ^ n) ∙ ap (λ z. m / z) (sym (pow-succ' 256 n)))
 
 -- "A variable above vn has an exponent": the bits from 8 n on are not 0.

@@ -10,7 +10,7 @@ use Rattle.polynomials.specs.Division.{leader, highest, degrees, largest}
 use Rattle.polynomials.specs.Value.{value-modulo, valueℕ, monomial-valueℕ}
 use Rattle.tables.specs.declared.Reason.the-variants.{Shape, Prime, Variables, Index, Order, Broken, Point}
 use Rattle.tables.specs.Words.{is-whole, follow}
-use Rattle.tables.specs.Read.{good, refused, not-zero, has-above, not-below, read-term, read-terms, read-head, read-heads, read-triangle, read-system, read-systems, read-header, read-table, read-list, }
+use Rattle.tables.specs.Read.{good, refused, not-zero, has-above, not-below, read-term, read-terms, read-head, read-heads, read-triangle, read-system, read-systems, read-header, read-table, read-list}
 use Rattle.tables.specs.Solve.{all-below, is-point, is-root, all-zero, none-zero, solves, first-solved, try-input, try-systems}
 
 -- P = v1 v2 + 6 modulo 7, as document 01 prints it.

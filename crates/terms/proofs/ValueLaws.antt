@@ -2,7 +2,7 @@
 use mathlib.Core.Path.{_≡_, refl, sym, _∙_, ap, ap₂, subst}
 use mathlib.Core.List.{List, [], _∷_}
 use Prim.Native.Nat.{ℕ, zero, suc, _+_, _*_, _/_, _%_, _^_, _≤_, _<_}
-use native.Mathlib.Nat.{zero-add, add-zero, mul-one, mul-assoc, pow-zero, pow-suc, div-lt-iff-lt-mul, add-mod-mod, mod-add-mod, mod-eq-of-lt}
+use native.Mathlib.Nat.{zero-add, add-zero, mul-one, mul-assoc, pow-zero, add-mod-mod, mod-add-mod, mod-eq-of-lt}
 use native.Mathlib.Numerals.{add-one}
 use native.Mathlib.Omega.{arith}
 use lib.ListN.{length, drop, getD, drop-of-length-le}
@@ -11,6 +11,7 @@ use Rattle.residues.specs.laws.Inverse.{mul-mod-l, mul-mod-r}
 use Rattle.polynomials.specs.Packed.{bytes, terms}
 use Rattle.polynomials.specs.Canonical.{Canonical}
 use Rattle.polynomials.specs.Value.{monomial-valueℕ, valueℕ, value-modulo}
+use Rattle.polynomials.specs.laws.Packed.{fewer-bytes}
 use Rattle.polynomials.specs.laws.Terms.{terms-at}
 
 -- ── a term ──
@@ -24,7 +25,7 @@ has-byte zero e l b = absurd (omega arith)
 has-byte (suc n) e l b = omega arith
 
 pub bytes-above : (n k e : ℕ) → n ≡ suc k → e < 256 ^ n → e / 256 < 256 ^ k
-bytes-above n k e s b = div-lt-iff-lt-mul {k = 256} (omega arith) .1 (subst (λ z. e < z) (ap (λ z. 256 ^ z) s ∙ pow-suc 256 k) b)
+bytes-above n k e s b = fewer-bytes k e (subst (λ z. e < 256 ^ z) s b)
 
 -- The coordinate at i, to the lowest of n bytes.
 module _ (p : ℕ) (xs : List ℕ) (i n k e v : ℕ) (h : i < length xs) (s : n ≡ suc k) where

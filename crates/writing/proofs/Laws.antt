@@ -14,6 +14,7 @@ use Rattle.rules.specs.laws.Lengths.{length-terms, length-heads}
 use Rattle.records.specs.Records.{Rec, nul}
 use Rattle.stored.specs.Stored.{size-at, pairs-of, words-at, skip-to, polys-at}
 use Rattle.stored.proofs.Laws.{skip-le}
+use Rattle.representation.specs.laws.Sizes.{length-terms-at}
 use Rattle.writing.proofs.Over.{over, over-nil, paste-over, over-behind, record-behind}
 
 -- A monomial's two words.
@@ -50,12 +51,8 @@ unfolding pairs-of terms
 length-terms-of [] = refl
 length-terms-of (x ∷ r) = ap suc (length-terms-of r)
 
-pub length-terms-in : (v : List Rec) (j m : ℕ) → j + m ≤ length v → length (terms-in v j m) ≡ m
+length-terms-in : (v : List Rec) (j m : ℕ) → j + m ≤ length v → length (terms-in v j m) ≡ m
 length-terms-in v j m h = length-terms-of (take m (drop j v)) ∙ length-take-le m (drop j v) (simp length-drop (omega arith))
-
-pub length-words-terms : (v : List Rec) (i : ℕ) → i + 1 + size-at v i ≤ length v → length (terms (words-at v i)) ≡ size-at v i
-unfolding words-at
-length-words-terms v i h = length-terms-in v (i + 1) (size-at v i) h
 
 -- A term written, then those behind it.
 pub terms-turn : (v : List Rec) (out out' : List ℕ) (p p' j j' m m' a b x y : ℕ) → out' ≡ paste out (4 * p) (a ∷ b ∷ x ∷ y ∷ []) 4
@@ -98,7 +95,7 @@ unfolding polynomials-size
 size-polys-at v i zero h = omega arith
 size-polys-at v i (suc k) h =
     let j : ℕ = i + 1 + size-at v i in
-    omega (arith, size-polys-at v j k h, length-words-terms v i (omega (arith, skip-le v j k)))
+    omega (arith, size-polys-at v j k h, length-terms-at v i (omega (arith, skip-le v j k)))
 
 -- A head and its terms written, then the heads behind them.
 pub heads-turn : (v : List Rec) (out mid out' : List ℕ) (p p' i k k' n first next : ℕ)
@@ -111,7 +108,7 @@ unfolding heads-words
 heads-turn v out mid out' p p' i k k' n first next e₁ e₂ same en ep ek inside fits some none more last =
     let f : Poly = terms (words-at v i) in
     let fs : List Poly = map terms (polys-at v (i + 1 + size-at v i) k') in
-    let lf : length f ≡ size-at v i = length-words-terms v i (omega arith) in
+    let lf : length f ≡ size-at v i = length-terms-at v i (omega arith) in
     let lt : length (terms-words (p + 1) f) ≡ 4 * size-at v i = omega (arith, length-terms (p + 1) f) in
     let lfs : length fs ≡ k' = length-polys-at v (i + 1 + size-at v i) k' in
     let sp : p + 1 ≡ suc p = omega arith in

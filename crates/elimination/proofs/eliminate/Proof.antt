@@ -7,14 +7,15 @@ use Rattle.tables.specs.Read.{Input, good, read-table}
 use Rattle.tables.specs.declared.Reading.{Reading}
 use Rattle.rules.specs.Eliminate.{Eliminated, output-after}
 use Rattle.elimination.specs.Answer.{answer-of}
-use Rattle.elimination.proofs.WholeLaws.{refused-read, accepted-read, eliminated-refused, eliminated-accepted}
+use Rattle.tables.specs.laws.Chains.{reading-good, reading-refused}
+use Rattle.elimination.proofs.WholeLaws.{eliminated-refused, eliminated-accepted}
 use Rattle.elimination.proofs.eliminate.Statement.{statement}
 use Rattle.elimination.proofs.eliminate.Tie as tie
 
 -- The table of an accepting answer.
 accepted : (c : tie.After-enum-told) → (t : Input) × (read-table (c .before .before .before .before .before .before .args .table .now) ≡ good t)
 accepted c =
-    accepted-read (read-table (c .before .before .before .before .before .before .args .table .now)) (sym (ap (λ (r : Reading). r .outcome) (c .before .before .read-table .ensures)) ∙ c .enum-told .given .1)
+    reading-good (read-table (c .before .before .before .before .before .before .args .table .now)) (sym (ap (λ (r : Reading). r .outcome) (c .before .before .read-table .ensures)) ∙ c .enum-told .given .1)
 
 read-table-requires : tie.Need-read-table-requires
 read-table-requires c κs = search needs
@@ -32,7 +33,7 @@ returns : tie.Need-returns
 returns c =
     let a = c .before .before .before .before .before .before .before .before .before .before .before .args in
     let k = c .before .before .before .before .before .before .before in
-    let e = eliminated-refused (a .table .now) (length (a .work .now)) (length (a .output .now)) (a .limit) (refused-read (read-table (a .table .now)) (sym (ap (λ (r : Reading). r .outcome) (k .read-table .ensures)) ∙ c .before .before .before .before .before .outcome .given .1)) in
+    let e = eliminated-refused (a .table .now) (length (a .work .now)) (length (a .output .now)) (a .limit) (reading-refused (read-table (a .table .now)) (sym (ap (λ (r : Reading). r .outcome) (k .read-table .ensures)) ∙ c .before .before .before .before .before .outcome .given .1)) in
     (sym (ap answer-of e), (sym (ap (λ (d : Eliminated). output-after d (a .output .now)) e), c .before .before .clear .ensures))
 
 enum-told : tie.Need-enum-told

@@ -17,7 +17,7 @@ use Rattle.polynomials.specs.Division.{coefficient, without}
 use Rattle.polynomials.specs.Value.{weigh}
 use Rattle.polynomials.specs.laws.Order.{order-eq, order-refl, order-trans, order-flip, flip, compare-is}
 
-under-trans : (a b : Exponents) → order a b ≡ Ordering·lt → (f : Poly) → Under a f → Under b f
+pub under-trans : (a b : Exponents) → order a b ≡ Ordering·lt → (f : Poly) → Under a f → Under b f
 under-trans a b h [] u = tt
 under-trans a b h (t ∷ f) u = (order-trans (t .exps) a b (u .0) h, under-trans a b h f (u .1))
 

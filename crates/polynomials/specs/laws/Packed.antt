@@ -18,15 +18,16 @@ says-bytes w v Ordering·eq Ordering·lt h k = omega arith
 says-bytes w v Ordering·eq Ordering·eq h k = omega arith
 says-bytes w v Ordering·eq Ordering·gt h k = omega arith
 
-shorter : (n w : ℕ) → w < 256 ^ suc n → w / 256 < 256 ^ n
-shorter n w h = div-lt-iff-lt-mul {k = 256} (omega arith) .1 (subst (λ z. w < z) (pow-suc 256 n) h)
+-- A number of n + 1 bytes without its lowest.
+pub fewer-bytes : (n w : ℕ) → w < 256 ^ suc n → w / 256 < 256 ^ n
+fewer-bytes n w h = div-lt-iff-lt-mul {k = 256} (omega arith) .1 (subst (λ z. w < z) (pow-suc 256 n) h)
 
 -- Numbers compare as their bytes do.
 pub order-bytes : (n w v : ℕ) → w < 256 ^ n → v < 256 ^ n → order (bytes n w) (bytes n v) ≡ compare w v
 unfolding order bytes
 order-bytes zero w v h k = sym (compare-is w v Ordering·eq (omega arith))
 order-bytes (suc n) w v h k =
-    ap (λ o. andThen o (compare (w % 256) (v % 256))) (order-bytes n (w / 256) (v / 256) (shorter n w h) (shorter n v k))
+    ap (λ o. andThen o (compare (w % 256) (v % 256))) (order-bytes n (w / 256) (v / 256) (fewer-bytes n w h) (fewer-bytes n v k))
     ∙ sym (compare-is w v _ (says-bytes w v (compare (w / 256) (v / 256)) (compare (w % 256) (v % 256)) (says (w / 256) (v / 256)) (says (w % 256) (v % 256))))
 
 -- Then the sum of the numbers has the sums of the bytes.
@@ -85,7 +86,7 @@ join-words a b c d f g = ap₂ _++_ (join-bytes 4 b d g) (join-bytes 4 a c f) �
 pub word-bytes : (n w : ℕ) → w < 256 ^ n → word (bytes n w) ≡ w
 unfolding word bytes
 word-bytes zero w h = omega arith
-word-bytes (suc n) w h = ap (λ z. w % 256 + 256 * z) (word-bytes n (w / 256) (shorter n w h)) ∙ omega arith
+word-bytes (suc n) w h = ap (λ z. w % 256 + 256 * z) (word-bytes n (w / 256) (fewer-bytes n w h)) ∙ omega arith
 
 abbrev pub Small : Exponents → Type 0
 Small [] = Unit {0}

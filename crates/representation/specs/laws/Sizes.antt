@@ -7,11 +7,12 @@ use native.Mathlib.Omega.{arith}
 use borrow.Author.Tests.{ltb-true, ltb-false, le-leb, lt-leb}
 use lib.Dec.{leb, ltb}
 use lib.ListN.{length, length-append}
+use Rattle.records.specs.Records.{Rec}
 use Rattle.polynomials.specs.Packed.{terms}
 use Rattle.polynomials.specs.Bounds.{at-most, over}
 use Rattle.polynomials.specs.laws.Terms.{length-terms}
-use Rattle.stored.specs.Stored.{poly-records, polys-records}
-use Rattle.stored.specs.laws.Stored.{length-poly-records}
+use Rattle.stored.specs.Stored.{poly-records, polys-records, size-at, words-at}
+use Rattle.stored.specs.laws.Stored.{length-poly-records, length-words-at}
 use Rattle.tables.specs.Read.{System}
 use Rattle.rules.specs.Room.{polynomials-size, branch-size, branches-size, systems-size, live}
 use Rattle.branches.specs.Area.{Stored, Area, branch-records, stack, systems-records, size}
@@ -20,6 +21,10 @@ use Rattle.representation.specs.Represent.{All-listed, branch-of, system
 -- A polynomial takes a record, and each of its terms one.
 pub length-poly-records-terms : (s : List ℕ) → length (poly-records s) ≡ 1 + length (terms s)
 length-poly-records-terms s = omega (arith, length-poly-records s, length-terms s)
+
+-- The polynomial at record i has as many terms as its head says.
+pub length-terms-at : (v : List Rec) (i : ℕ) → i + 1 + size-at v i ≤ length v → length (terms (words-at v i)) ≡ size-at v i
+length-terms-at v i h = omega (arith, length-terms (words-at v i), length-words-at v i h)
 
 pub length-polys-records-terms : (fs : List (List ℕ)) → polynomials-size (map terms fs) ≡ length (polys-records fs)
 unfolding polynomials-size polys-records

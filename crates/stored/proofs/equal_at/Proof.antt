@@ -8,7 +8,8 @@ use lib.ListN.{length, drop, getD}
 use Rattle.records.specs.Records.{nul, view}
 use Rattle.records.proofs.Rows.{length-view}
 use Rattle.stored.specs.Stored.{size-at, words-at, same}
-use Rattle.stored.proofs.Laws.{length-words-at, same-lengths, eqb-and-unequal, eqb-and-equal, same-turn, same-end}
+use Rattle.stored.specs.laws.Stored.{length-words-at}
+use Rattle.stored.proofs.Laws.{same-lengths, eqb-and-unequal, eqb-and-equal, same-turn, same-end}
 use Rattle.stored.proofs.equal_at.Statement.{statement}
 use Rattle.stored.proofs.equal_at.Tie as tie
 

@@ -3,13 +3,13 @@
 use mathlib.Core.Path.{_≡_, refl, sym, ap, ap₂, _∙_}
 use mathlib.Core.Bool.{true, _&&_, and-eq-true-iff}
 use mathlib.Core.List.{List, [], _∷_, _++_, append-assoc, append-nil}
-use Prim.Native.Nat.{ℕ, _+_, _/_, _%_, _≤_}
+use Prim.Native.Nat.{ℕ, _+_, _*_, _/_, _%_, _≤_}
 use native.Mathlib.Nat.{div-add-mod'}
 use native.Mathlib.Omega.{arith}
 use borrow.Author.Tests.{eqb-true, eq-eqb}
 use lib.Dec.{eqb}
-use lib.ListN.{length, take, drop, length-append}
-use lib.Seq.{take-at, drop-at, getD-at, drop-append-add}
+use lib.ListN.{length, take, drop, length-append, length-drop}
+use lib.Seq.{length-take-le, take-at, drop-at, getD-at, drop-append-add}
 use Rattle.records.specs.Records.{Rec, nul}
 use Rattle.stored.specs.Stored.{head, term-records, poly-records, polys-records, size-at, pairs-of, words-at, skip-to, polys-at, same, inserted, removed}
 
@@ -49,6 +49,17 @@ pairs-of-term-records [] h = refl
 pairs-of-term-records (c ∷ []) h = absurd (omega arith)
 pairs-of-term-records (c ∷ (m ∷ s)) h =
     ap₂ (λ (k : ℕ) (l : List ℕ). c ∷ k ∷ l) (div-add-mod' m 4294967296) (pairs-of-term-records s (omega arith))
+
+length-pairs-of : (r : List Rec) → length (pairs-of r) ≡ 2 * length r
+unfolding pairs-of
+length-pairs-of [] = refl
+length-pairs-of (x ∷ r) = let behind : length (pairs-of r) ≡ 2 * length r = length-pairs-of r in omega arith
+
+-- The words of a polynomial are two for each term.
+pub length-words-at : (v : List Rec) (i : ℕ) → i + 1 + size-at v i ≤ length v → length (words-at v i) ≡ 2 * size-at v i
+unfolding words-at
+length-words-at v i h =
+    length-pairs-of (take (size-at v i) (drop (i + 1) v)) ∙ ap (λ (n : ℕ). 2 * n) (length-take-le (size-at v i) (drop (i + 1) v) (simp length-drop (omega arith)))
 
 module _ (v pre : List Rec) (i : ℕ) (at : length pre ≡ i) (s : List ℕ) (post : List Rec) (e : v ≡ pre ++ (poly-records s ++ post)) where
   pub size-at-poly-records : size-at v i ≡ length s / 2

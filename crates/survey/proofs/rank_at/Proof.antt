@@ -10,7 +10,8 @@ use Rattle.stored.specs.Stored.{size-at, words-at}
 use Rattle.polynomials.specs.Division.{degree, leader}
 use Rattle.polynomials.specs.Packed.{bytes, terms}
 use Rattle.polynomials.specs.laws.Packed.{byte-small}
-use Rattle.survey.proofs.Walk.{monomial-at, length-terms-at, led-some, degree-at-first}
+use Rattle.representation.specs.laws.Sizes.{length-terms-at}
+use Rattle.survey.proofs.Walk.{monomial-at, led-some, degree-at-first}
 use Rattle.survey.proofs.Pass.{rank-led, rank-unled}
 use Rattle.survey.proofs.rank_at.Statement.{statement}
 use Rattle.survey.proofs.rank_at.Tie as tie

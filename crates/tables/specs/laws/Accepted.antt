@@ -14,7 +14,7 @@ use Rattle.polynomials.specs.Poly.{Exponents, Term, Poly, order}
 use Rattle.polynomials.specs.Canonical.{Under, Canonical, All}
 use Rattle.polynomials.specs.Packed.{bytes, exponents}
 use Rattle.polynomials.specs.laws.Packed.{byte-small}
-use Rattle.polynomials.specs.laws.Order.{order-trans}
+use Rattle.polynomials.specs.laws.Canonical.{under-trans}
 use Rattle.tables.specs.declared.Reason.{Reason}
 use Rattle.tables.specs.declared.Reason.the-variants.{Shape, Prime as PrimeReason, Variables, Broken}
 use Rattle.tables.specs.Words.{word, records, is-whole}
@@ -55,10 +55,6 @@ absent-above n e h k l =
     ap (λ (j : ℕ). getD e j 0) (omega arith) ∙ sym (getD-drop n e (k - n) 0) ∙ zero-places (drop n e) h (k - n)
 
 -- ── terms ──
-under-trans : (a b : Exponents) → order a b ≡ Ordering·lt → (f : Poly) → Under a f → Under b f
-under-trans a b l [] u = tt
-under-trans a b l (t ∷ f) u = (order-trans (t .exps) a b (u .0) l, under-trans a b l f (u .1))
-
 not-below-false : (e b : Exponents) → not-below e (after b) ≡ false → order e b ≡ Ordering·lt
 unfolding not-below
 not-below-false e b = go (order e b)

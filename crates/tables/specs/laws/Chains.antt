@@ -1,7 +1,7 @@
 -- The header of a table, and its chains, step by step. Terms, heads, T chains and systems are read in one way, so the laws are said once, of any chain.
 use mathlib.Core.Path.{_≡_, refl, sym, _∙_, ap, fun-ext}
 use mathlib.Core.Logic.{_≢_}
-use mathlib.Core.Bool.{Bool, true, false, not, _&&_, _||_}
+use mathlib.Core.Bool.{Bool, true, false, not, _&&_, _||_, and-eq-true-iff}
 use mathlib.Core.List.{List, [], _∷_}
 use Prim.Native.Nat.{ℕ, zero, suc, _+_, _*_, _%_, _≤_, _<_}
 use native.Mathlib.Omega.{arith}
@@ -11,14 +11,16 @@ use lib.ListN.{length}
 use Rattle.residues.specs.Prime.{is-modulus}
 use Rattle.polynomials.specs.Poly.{Term, Poly}
 use Rattle.polynomials.specs.Division.{leader}
+use Rattle.polynomials.specs.laws.Bounds.{neither}
 use Rattle.tables.specs.declared.Reason.{Reason}
 use Rattle.tables.specs.declared.Reason.the-variants.{Shape, Prime, Variables, Index, Coefficient, Exponent, Order, Terms, Broken}
 use Rattle.tables.specs.declared.Checked.{Checked}
 use Rattle.tables.specs.declared.Checked.the-variants.{Good, Refused as CheckedRefused}
+use Rattle.tables.specs.declared.ReadOutcome.the-variants.{Accepted, Refused as ReadRefused}
 use Rattle.tables.specs.declared.words.Next.the-variants.{End, To, Astray}
 use Rattle.tables.specs.Words.{word, records, is-whole, follow, Followed, end, to, astray, term-at}
-use Rattle.tables.specs.Read.{Read, good, refused, then, unless, Before, after, not-below, has-above, read-term, read-terms, read-head, read-heads, read-triangle, read-system, read-systems, read-header}
-use Rattle.tables.specs.Solve.{checked}
+use Rattle.tables.specs.Read.{Read, good, refused, then, unless, Input, Before, after, not-below, has-above, read-term, read-terms, read-head, read-heads, read-triangle, read-system, read-systems, read-header}
+use Rattle.tables.specs.Solve.{checked, reading}
 use Rattle.tables.specs.Walk.{Readable, accepted, next}
 
 -- ── what was read ──
@@ -30,6 +32,14 @@ pub checked-refused : {A : Type 0} (r : Read A) {why : Reason} {at : ℕ} → ch
 checked-refused (good a) e = let z : _≡_ {A = ℕ} 0 1 = cc in absurd (omega arith)
 checked-refused (refused why at) e = cc
 
+pub reading-good : (r : Read Input) → reading r .outcome ≡ Accepted → (t : Input) × (r ≡ good t)
+reading-good (good t) e = (t, refl)
+reading-good (refused why at) e = let z : _≡_ {A = ℕ} 0 1 = cc in absurd (omega arith)
+
+pub reading-refused : (r : Read Input) {why : Reason} {at : ℕ} → reading r .outcome ≡ ReadRefused why at → r ≡ refused why at
+reading-refused (good t) e = let z : _≡_ {A = ℕ} 0 1 = cc in absurd (omega arith)
+reading-refused (refused why at) e = cc
+
 -- What was read passed the test.
 pub unless-good : {A : Type 0} (b : Bool) (why : Reason) (at : ℕ) (r : Read A) {a : A} → unless b why at r ≡ good a → (b ≡ false) × (r ≡ good a)
 unless-good true why at r e = let z : _≡_ {A = ℕ} 0 1 = cc in absurd (omega arith)
@@ -40,14 +50,6 @@ then-good (good a) k e = (a, refl, e)
 then-good (refused why at) k e = let z : _≡_ {A = ℕ} 0 1 = cc in absurd (omega arith)
 
 -- ── the header ──
-and-true : (a b : Bool) → a && b ≡ true → (a ≡ true) × (b ≡ true)
-and-true true b e = (refl, e)
-and-true false b e = let z : _≡_ {A = ℕ} 0 1 = cc in absurd (omega arith)
-
-or-false : (a b : Bool) → a || b ≡ false → (a ≡ false) × (b ≡ false)
-or-false true b e = let z : _≡_ {A = ℕ} 0 1 = cc in absurd (omega arith)
-or-false false b e = (refl, e)
-
 header-tests : (a b c : Bool) → checked (unless a Shape 0 (unless b Prime 0 (unless c Variables 0 accepted))) ≡ Good → (a ≡ false) × (b ≡ false) × (c ≡ false)
 header-tests true b c e = let z : _≡_ {A = ℕ} 0 1 = cc in absurd (omega arith)
 header-tests false true c e = let z : _≡_ {A = ℕ} 0 1 = cc in absurd (omega arith)
@@ -59,7 +61,7 @@ pub header-readable : (w : List ℕ) → checked (read-header w accepted) ≡ Go
 unfolding read-header
 header-readable w e =
     let h = header-tests (not (is-whole w)) (not (is-modulus (word w 0 0))) (not (leb 1 (word w 0 1) && leb (word w 0 1) 8)) e in
-    let v = and-true (leb 1 (word w 0 1)) (leb (word w 0 1) 8) (not-false _ (h .2)) in
+    let v = and-eq-true-iff (leb 1 (word w 0 1)) (leb (word w 0 1) 8) .0 (not-false _ (h .2)) in
     record { whole = not-false _ (h .0); prime = not-false _ (h .1); some = leb-true 1 _ (v .0); few = leb-true _ 8 (v .1) }
 
 -- Then what is read is what follows.
@@ -85,8 +87,8 @@ header-refuses {A} w r {why} {at} = go (not (is-whole w)) (not (is-modulus (word
 pub whole-records : (w : List ℕ) → is-whole w ≡ true → (length w ≡ 4 * records w) × (1 ≤ records w) × (records w ≤ 65536)
 unfolding is-whole
 whole-records w e =
-    let a = and-true (eqb (length w % 4) 0) _ e in
-    let b = and-true (leb 1 (records w)) (leb (records w) 65536) (a .1) in
+    let a = and-eq-true-iff (eqb (length w % 4) 0) _ .0 e in
+    let b = and-eq-true-iff (leb 1 (records w)) (leb (records w) 65536) .0 (a .1) in
     (omega (arith, eqb-true (length w % 4) 0 (a .0)), leb-true 1 (records w) (b .0), leb-true (records w) 65536 (b .1))
 
 pub readable-words : {w : List ℕ} {p n : ℕ} → Readable w p n → 4 ≤ length w
@@ -350,7 +352,7 @@ module _ (w : List ℕ) (p n : ℕ) where
       let e₂ = unless-good (eqb (word w i 0) 0 || leb p (word w i 0)) Coefficient i _ (e₁ .1) in
       let e₃ = unless-good (has-above n (term-at w i .exps)) Exponent i _ (e₂ .1) in
       let e₄ = unless-good (not-below (term-at w i .exps) b) Order i _ (e₃ .1) in
-      let c = or-false (eqb (word w i 0) 0) (leb p (word w i 0)) (e₂ .0) in
+      let c = neither (eqb (word w i 0) 0) (leb p (word w i 0)) (e₂ .0) in
       let q = e₄ .1 in
       record {
         few = leb-false 256 m (e₁ .0);

@@ -53,11 +53,14 @@ module _ {A S : Type 0} (w : List ℕ) (step : S → ℕ → Read A) (on : S →
   linked-each P f s at i [] l = tt
   linked-each P f s at i (a ∷ xs) l = (f s i a (l .1) (l .2), linked-each P f (on s a) i (word w i 3) xs (l .3))
 
-  pub linked-less : (s : S) (i j : ℕ) (xs : List A) → i ≢ 0 → i < records w → Linked s i j xs → left (records w) j < left (records w) i
+  linked-less : (s : S) (i j : ℕ) (xs : List A) → i ≢ 0 → i < records w → Linked s i j xs → left (records w) j < left (records w) i
   linked-less s zero j xs h l k = absurd (h refl)
   linked-less s (suc i) zero xs h l k = omega arith
   linked-less s (suc i) (suc j) [] h l k = absurd (omega (arith, k))
   linked-less s (suc i) (suc j) (a ∷ xs) h l k = omega (arith, k .0, k .1)
+
+  pub member-less : {s : S} {at i : ℕ} {xs : List A} → i ≢ 0 → Member s at i xs → left (records w) (word w i 3) < left (records w) i
+  member-less {i = i} h m = linked-less (on _ (m .member)) i (word w i 3) (m .behind) h (m .inside) (m .linked)
 
 -- A chain that was read with enough fuel.
 pub chain-linked : {A S : Type 0} {w : List ℕ} {step : S → ℕ → Read A} {on : S → A → S} {X : ℕ → S → ℕ → ℕ → Read (List A)} → Chain w step on X →
@@ -88,6 +91,12 @@ module _ (w : List ℕ) (p n : ℕ) where
   abbrev pub TermChain : (ℕ × Before) → ℕ → ℕ → Poly → Type 0
   TermChain = Linked w (λ s j. read-term w p n (s .0) (s .1) j) (λ s t. (suc (s .0), after (t .exps)))
 
+  abbrev pub TermMember : (ℕ × Before) → ℕ → ℕ → Poly → Type 0
+  TermMember = Member w (λ s j. read-term w p n (s .0) (s .1) j) (λ s t. (suc (s .0), after (t .exps)))
+
+  pub next-term : {s : ℕ × Before} {at i : ℕ} {f : Poly} → i ≢ 0 → TermChain s at i f → TermMember s at i f
+  next-term more l = linked-member w _ _ _ _ _ _ more l
+
   pub terms-linked : (i : ℕ) (f : Poly) → i < records w → read-head w p n i ≡ good f → TermChain (0, first) i (word w i 0) f
   unfolding read-head
   terms-linked i f h e =
@@ -96,6 +105,12 @@ module _ (w : List ℕ) (p n : ℕ) where
 
   abbrev pub HeadChain : ℕ → ℕ → List Poly → Type 0
   HeadChain = Linked {S = Unit {0}} w (λ s j. read-head w p n j) (λ s f. s) tt
+
+  abbrev pub HeadMember : ℕ → ℕ → List Poly → Type 0
+  HeadMember = Member {S = Unit {0}} w (λ s j. read-head w p n j) (λ s f. s) tt
+
+  pub next-head : {at i : ℕ} {fs : List Poly} → i ≢ 0 → HeadChain at i fs → HeadMember at i fs
+  next-head more l = linked-member w _ _ tt _ _ _ more l
 
   pub heads-linked : (at i : ℕ) (fs : List Poly) → at < records w → read-heads w p n (records w) at i ≡ good fs → HeadChain at i fs
   heads-linked at i fs h e = chain-linked (heads-chain w p n) (records w) tt at i fs (whole-chain w at h) e

@@ -10,8 +10,9 @@ use Rattle.rules.specs.laws.Lengths.{length-terms}
 use Rattle.records.specs.Records.{view}
 use Rattle.records.proofs.Rows.{length-view}
 use Rattle.stored.specs.Stored.{size-at, words-at}
+use Rattle.representation.specs.laws.Sizes.{length-terms-at}
 use Rattle.writing.proofs.Over.{over, paste-over}
-use Rattle.writing.proofs.Laws.{terms-end, terms-in, terms-turn, length-words-terms}
+use Rattle.writing.proofs.Laws.{terms-end, terms-in, terms-turn}
 use Rattle.writing.proofs.write_terms.Statement.{statement}
 use Rattle.writing.proofs.write_terms.Tie as tie
 
@@ -123,7 +124,7 @@ returns c =
     let i = c .before .loop .i in
     let f = terms (words-at v (a .from)) in
     let l : length (terms-words (a .to) f) ≡ 4 * size-at v (a .from) =
-    omega (arith, length-terms (a .to) f, length-words-terms v (a .from) (omega (arith, length-view (a .w .now)))) in
+    omega (arith, length-terms (a .to) f, length-terms-at v (a .from) (omega (arith, length-view (a .w .now)))) in
     sym (terms-end v (c .before .loop .out) (a .to + i) (a .from + 1 + i) (n - i) (omega arith)) ∙ c .before .loop .inv .2
     ∙ sym (paste-over (a .out .now) (4 * a .to) (terms-words (a .to) f) (4 * size-at v (a .from)) l)
 

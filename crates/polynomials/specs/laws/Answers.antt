@@ -9,12 +9,12 @@ use lib.Seq.{length-take-le}
 use Rattle.polynomials.specs.Poly.{Poly}
 use Rattle.polynomials.specs.Canonical.{Canonical}
 use Rattle.polynomials.specs.Packed.{terms}
-use Rattle.polynomials.specs.Bounds.{standard, Bounded, within, degree-passed, terms-passed, and-then, bounded-product, bounded-difference, bounded-round}
+use Rattle.polynomials.specs.Bounds.{standard, Bounded, within, degree-passed, terms-passed, and-then, bounded-product, bounded-round}
 use Rattle.polynomials.specs.Working.{Holds, Written, Forms}
 use Rattle.polynomials.specs.declared.Formed.{Formed}
 use Rattle.polynomials.specs.declared.Formed.the-variants.{Words, OverDegree, OverTerms}
-use Rattle.polynomials.specs.laws.Canonical.{canonical-difference, canonical-product}
-use Rattle.polynomials.specs.laws.Bounded.{product-formed, product-few, difference-formed, difference-few, canonical-round, round-formed, round-few}
+use Rattle.polynomials.specs.laws.Canonical.{canonical-product}
+use Rattle.polynomials.specs.laws.Bounded.{product-formed, product-few, canonical-round, round-formed, round-few}
 
 pub written-holds : (p : ℕ) (f : Poly) (n : ℕ) (s : List ℕ) → Written f n s → n ≤ 512 → Canonical p f → Holds p (take n s)
 written-holds p f n s W few c = record {
@@ -48,11 +48,6 @@ module _ (p : ℕ) (h : 1 ≤ p) (n : ℕ) (r : Formed) (s : List ℕ) (q : r �
   product-answered f g =
       answered p (bounded-product standard p f g) n r s
       (λ x e. (product-few p f g x e, subst (Canonical p) (sym (product-formed standard p f g x e .same)) (canonical-product p f g h))) q
-
-  pub difference-answered : (f g : Poly) → Canonical p f → Forms (bounded-difference standard p f g) r s → Answered p (bounded-difference standard p f g) n s
-  difference-answered f g c =
-      answered p (bounded-difference standard p f g) n r s
-      (λ x e. (difference-few p f g x e, subst (Canonical p) (sym (difference-formed standard p f g x e .same)) (canonical-difference p f g h c))) q
 
   pub round-answered : (k d : ℕ) (G R : Poly) → Forms (bounded-round standard p k d G R) r s → Answered p (bounded-round standard p k d G R) n s
   round-answered k d G R =

@@ -143,9 +143,6 @@ difference-few p f g h e = over-at-most 256 (length h) (difference-formed standa
 pub round-few : (p k d : ℕ) (G R h : Poly) → bounded-round standard p k d G R ≡ within h → length h ≤ 256
 round-few p k d G R h e = over-at-most 256 (length h) (round-formed standard p k d G R h e .few)
 
-pub remainder-few : (p k d : ℕ) (G : Poly) (n : ℕ) (R h : Poly) → length R ≤ 256 → bounded-remainder standard p k d G n R ≡ within h → length h ≤ 256
-remainder-few p k d G n R h l e = over-at-most 256 (length h) (remainder-formed standard p k d G n R h e .1 (at-most-over 256 (length R) l))
-
 -- ── without bounds all is formed ──
 abbrev pub no-bounds : Bounds
 no-bounds = record { of-degree = unbounded; of-terms = unbounded }

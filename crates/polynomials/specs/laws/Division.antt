@@ -180,11 +180,6 @@ module _ {ℓ} {K : Type ℓ} (F : Field K) (p : ℕ) (P : Prime p) (char : cast
 
   infixl 60 _⊕_
   infixl 70 _⊗_
-  -- A nonzero residue is not zero in K.
-  pub cast-nonzero : (c : ℕ) → 1 ≤ c → c < p → cast (F .ring) c ≢ 𝟘
-  cast-nonzero c h l = unit-nonzero F (cast (F .ring) c) (cast (F .ring) (inverse p c))
-      (sym (cast-product (F .ring) p char c (inverse p c)) ∙ ap (cast (F .ring)) (inverse-ok p c P h l) ∙ cast-one (F .ring))
-
   pub cast-inverse-nonzero : (c : ℕ) → 1 ≤ c → c < p → cast (F .ring) (inverse p c) ≢ 𝟘
   cast-inverse-nonzero c h l = unit-nonzero F (cast (F .ring) (inverse p c)) (cast (F .ring) c)
       (mul-comm (F .ring) _ _ ∙ sym (cast-product (F .ring) p char c (inverse p c)) ∙ ap (cast (F .ring)) (inverse-ok p c P h l) ∙ cast-one (F .ring))

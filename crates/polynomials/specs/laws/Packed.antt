@@ -1,6 +1,6 @@
 -- Packed exponents: numbers compare as their bytes do, and sums of numbers have the sums of bytes where none passes 255.
 use mathlib.Core.Path.{_≡_, refl, sym, _∙_, ap, ap₂, subst}
-use mathlib.Core.List.{[], _∷_, _++_}
+use mathlib.Core.List.{[], _∷_}
 use Prim.Native.Nat.{ℕ, zero, suc, _+_, _*_, _/_, _%_, _^_, _≤_, _<_, compare, Ordering, Ordering·lt, Ordering·eq, Ordering·gt}
 use native.Mathlib.Nat.{pow-suc, pow-succ', div-lt-iff-lt-mul, div-one, div-div-eq-div-mul}
 use native.Mathlib.Omega.{arith}
@@ -50,38 +50,6 @@ byte-at (suc n) zero w h = ap (λ z. z % 256) (sym (div-one w))
 byte-at (suc n) (suc k) w h =
     byte-at n k (w / 256) (omega arith) ∙ ap (λ z. z % 256) (div-div-eq-div-mul w 256 (256 ^ k) ∙ ap (λ z. w / z) (sym (pow-succ' 256 k)))
 
-then-assoc : (o₁ o₂ o₃ : Ordering) → andThen (andThen o₁ o₂) o₃ ≡ andThen o₁ (andThen o₂ o₃)
-then-assoc Ordering·lt o₂ o₃ = refl
-then-assoc Ordering·eq o₂ o₃ = refl
-then-assoc Ordering·gt o₂ o₃ = refl
-
-order-append : (n b d : ℕ) (s t : Exponents) → order (bytes n b ++ s) (bytes n d ++ t) ≡ andThen (order s t) (order (bytes n b) (bytes n d))
-unfolding order bytes
-order-append zero b d s t = sym (then-eq-r (order s t))
-  where
-    then-eq-r : (o : Ordering) → andThen o Ordering·eq ≡ o
-    then-eq-r Ordering·lt = refl
-    then-eq-r Ordering·eq = refl
-    then-eq-r Ordering·gt = refl
-order-append (suc n) b d s t =
-    ap (λ o. andThen o (compare (b % 256) (d % 256))) (order-append n (b / 256) (d / 256) s t)
-    ∙ then-assoc (order s t) (order (bytes n (b / 256)) (bytes n (d / 256))) (compare (b % 256) (d % 256))
-
--- Two words compare as their exponents do: the high word first.
-pub order-words : (a b c d : ℕ) → a < 256 ^ 4 → b < 256 ^ 4 → c < 256 ^ 4 → d < 256 ^ 4 → order (exponents a b) (exponents c d) ≡ andThen (compare a c) (compare b d)
-unfolding exponents
-order-words a b c d ha hb hc hd = order-append 4 b d (bytes 4 a) (bytes 4 c) ∙ ap₂ andThen (order-bytes 4 a c ha hc) (order-bytes 4 b d hb hd)
-
-join-append : (n b d : ℕ) (s t : Exponents) → join (bytes n b ++ s) (bytes n d ++ t) ≡ join (bytes n b) (bytes n d) ++ join s t
-unfolding join bytes
-join-append zero b d s t = refl
-join-append (suc n) b d s t = ap (λ z. (b % 256 + d % 256) ∷ z) (join-append n (b / 256) (d / 256) s t)
-
--- The words of a product of terms are the sums of the words.
-pub join-words : (a b c d : ℕ) → Fits 4 a c → Fits 4 b d → exponents (a + c) (b + d) ≡ join (exponents a b) (exponents c d)
-unfolding exponents
-join-words a b c d f g = ap₂ _++_ (join-bytes 4 b d g) (join-bytes 4 a c f) ∙ sym (join-append 4 b d (bytes 4 a) (bytes 4 c))
-
 -- ── back to a word ──
 pub word-bytes : (n w : ℕ) → w < 256 ^ n → word (bytes n w) ≡ w
 unfolding word bytes
@@ -129,12 +97,6 @@ unfolding bytes exponents
 bytes-words hi lo h =
     ap₂ _∷_ (omega arith) (ap₂ _∷_ (omega arith) (ap₂ _∷_ (omega arith) (ap₂ _∷_ (omega arith)
     (ap₂ _∷_ (omega arith) (ap₂ _∷_ (omega arith) (ap₂ _∷_ (omega arith) (ap₂ _∷_ (omega arith) refl)))))))
-
-pub words-bytes : (m : ℕ) → exponents (m / 4294967296) (m % 4294967296) ≡ bytes 8 m
-words-bytes m = sym (bytes-words (m / 4294967296) (m % 4294967296) (omega arith)) ∙ ap (bytes 8) same
-  where
-    same : m / 4294967296 * 4294967296 + m % 4294967296 ≡ m
-    same = omega arith
 
 -- A byte by a shift.
 pub byte-power : (k : ℕ) → 256 ^ k ≡ 2 ^ (8 * k)

@@ -19,7 +19,7 @@ use Rattle.polynomials.specs.Division.{degree, degrees, highest, leader,
 use Rattle.polynomials.specs.Value.{value}
 use Rattle.polynomials.specs.laws.Order.{Says, says, then-lt, order-eq, order-refl}
 use Rattle.polynomials.specs.laws.Canonical.{canonical-coefficient, canonical-without}
-use Rattle.polynomials.specs.laws.Degree.{all-degree, degree-at-most, degree-coefficient, degree-without}
+use Rattle.polynomials.specs.laws.Degree.{all-degree, degree-at-most, degree-without}
 use Rattle.polynomials.specs.laws.Bounds.{at-degrees}
 use Rattle.polynomials.specs.laws.Division.{value-split}
 use Rattle.polynomials.specs.laws.Free.{Free}
@@ -86,10 +86,6 @@ at-leader f k h = omega (arith, at-highest (degrees f) k h, at-degrees k f)
 pub leader-at-most : (f : Poly) (m : ℕ) → ((j : ℕ) → m ≤ j → Free j f) → leader f ≤ m
 unfolding leader
 leader-at-most f m h = highest-at-most (degrees f) m (λ j l. at-degrees j f ∙ degree-free j f (h j l))
-
-pub below-leader : (f : Poly) (k : ℕ) → 1 ≤ degree k f → k < leader f
-unfolding leader
-below-leader f k h = below-highest (degrees f) k (omega (arith, at-degrees k f))
 
 pub leader-places : (n : ℕ) (f : Poly) → Places n f → leader f ≤ n
 leader-places n f u =
@@ -179,11 +175,6 @@ pub free-rest : (j k : ℕ) (f : Poly) → Free j f → Free j (rest k f)
 unfolding rest
 free-rest j k f u = without-all (λ e. getD e j 0 ≡ 0) k (degree k f) f u
 
--- v(k+1) does not stand in the initial.
-pub initial-free : (k : ℕ) (f : Poly) → Free k (initial k f)
-unfolding initial
-initial-free k f = free-degree k (initial k f) (degree-coefficient k (degree k f) f)
-
 -- f is its initial times the highest power of v(k+1), plus the rest.
 pub value-parts {ℓ} : {K : Type ℓ} (𝓡 : CommRing K) (k : ℕ) (f : Poly) (x : List K) →
     value 𝓡 f x ≡ 𝓡 .add (𝓡 .mul (pow 𝓡 (getD x k (𝓡 .one)) (degree k f)) (value 𝓡 (initial k f) x)) (value 𝓡 (rest k f) x)
@@ -191,15 +182,6 @@ unfolding initial rest
 value-parts 𝓡 k f x = value-split 𝓡 k (degree k f) f x
 
 module _ (k : ℕ) (f : Poly) (led : leader f ≡ k + 1) where
-  pub leader-initial : leader (initial k f) ≤ k
-  leader-initial = leader-at-most (initial k f) k from
-    where
-      from : (j : ℕ) → k ≤ j → Free j (initial k f)
-      from j l = elim (decLt k j) [ yes h ↦ free-initial j k f (above-leader f j (omega arith)) | no h ↦ let h′ : ¬ (k < j) = h in subst (λ i. Free i (initial k f)) (omega arith) (initial-free k f) ]
-
-  pub leader-rest : leader (rest k f) ≤ k + 1
-  leader-rest = leader-at-most (rest k f) (k + 1) (λ j l. free-rest j k f (above-leader f j (omega arith)))
-
   pub degree-rest : degree k (rest k f) < degree k f
   unfolding rest
   degree-rest = degree-without k (degree k f) f (at-leader f k led) (le-refl (degree k f))

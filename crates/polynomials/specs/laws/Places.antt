@@ -7,7 +7,7 @@ use native.Mathlib.Omega.{arith}
 use lib.Dec.{eqb, leb}
 use lib.ListN.{length, getD, set, length-set}
 use Rattle.residues.specs.Residue.{inverse}
-use Rattle.polynomials.specs.Poly.{Exponents, Poly, join, add-multiple, sum, difference, product, monic}
+use Rattle.polynomials.specs.Poly.{Exponents, Poly, join, add-multiple, difference, product, monic}
 use Rattle.polynomials.specs.Canonical.{All}
 use Rattle.polynomials.specs.Division.{degree, coefficient, without, initial, rest, pure-power, shift, factor, round, remainder}
 use Rattle.polynomials.specs.Packed.{terms}
@@ -92,10 +92,6 @@ module _ (n : ℕ) where
   pub places-add-multiple : (p c : ℕ) (e : Exponents) (g f : Poly) → length e ≤ n → Places n g → Places n f → Places n (add-multiple p c e g f)
   places-add-multiple p c e g f l u v =
       all-add-multiple (λ b. length b ≡ n) (λ b. length b ≡ n) p c e g f (λ (b : Exponents) (h : length b ≡ n). omega (arith, length-join e b)) u v
-
-  pub places-sum : (p : ℕ) (f g : Poly) → Places n f → Places n g → Places n (sum p f g)
-  unfolding sum
-  places-sum p f g u v = places-add-multiple p 1 [] f g (omega arith) u v
 
   pub places-difference : (p : ℕ) (f g : Poly) → Places n f → Places n g → Places n (difference p f g)
   unfolding difference

@@ -66,9 +66,6 @@ module _ (p : ℕ) (h : 1 ≤ p) where
   pub same : (f g : Canon) → ((w : Exponents → Fin p) → weigh 𝓕 w (f .0) ≡ weigh 𝓕 w (g .0)) → f ≡ g
   same f g e = Σ-prop-path (canonical-prop p) (canonical-ext p h (f .0) (g .0) (f .1) (g .1) e)
 
-  pub canon-same : (f g : Poly) → ((w : Exponents → Fin p) → weigh 𝓕 w f ≡ weigh 𝓕 w g) → canon f ≡ canon g
-  canon-same f g e = same (canon f) (canon g) (λ w. weigh-canon w f ∙ e w ∙ sym (weigh-canon w g))
-
   pub canon-is : (f : Canon) → canon (f .0) ≡ f
   canon-is f = same (canon (f .0)) f (λ w. weigh-canon w (f .0))
 

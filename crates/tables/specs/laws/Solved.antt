@@ -5,17 +5,14 @@ use mathlib.Core.Bool.{Bool, true, false, not, and-eq-true-iff, false≢true}
 use mathlib.Core.List.{List, [], _∷_, _++_}
 use Prim.Native.Nat.{ℕ, zero, suc, _+_, _≤_}
 use native.Mathlib.Omega.{arith}
-use borrow.Author.Tests.{ltb-true, lt-ltb, eqb-true, eqb-false, eq-eqb, ne-eqb, not-true, not-false}
+use borrow.Author.Tests.{ltb-true, lt-ltb, eqb-true, eqb-false, eq-eqb, ne-eqb, not-true}
 use lib.Dec.{eqb, ltb}
 use lib.ListN.{length}
 use Rattle.polynomials.specs.Poly.{Poly}
 use Rattle.polynomials.specs.Value.{value-modulo, Point}
-use Rattle.tables.specs.declared.Reason.the-variants.{Point as PointReason}
 use Rattle.tables.specs.Read.{good, Input, System, Listing, read-table, read-list}
 use Rattle.tables.specs.Solve.{all-below, is-point, is-root, all-zero, none-zero, solves, first-solved, try-input, try-systems}
 use Rattle.tables.specs.Admissible.{Each}
-use Rattle.tables.specs.laws.Chains.{unless-good}
-use Rattle.tables.specs.laws.Linked.{good-same}
 
 -- ── points ──
 -- "A point is n residues, v1's first."
@@ -152,16 +149,6 @@ module _ (p : ℕ) (x : List ℕ) where
 pub table-answers : (w x : List ℕ) (t : Input) → read-table w ≡ good t → PointOf (t .modulus) (t .variables) x → try-input w x ≡ good (solves (t .modulus) x (t .P) (t .Q))
 unfolding try-input
 table-answers w x t e h = rw (e, point-is (t .modulus) (t .variables) x .1 h)
-
--- Yes exactly where the numbers are a point that solves the input.
-pub yes-is : (w x : List ℕ) (t : Input) → read-table w ≡ good t → try-input w x ≡ good true ↔ (PointOf (t .modulus) (t .variables) x × Solves (t .modulus) x (t .P) (t .Q))
-unfolding try-input
-yes-is w x t e = (there, λ h. table-answers w x t e (h .0) ∙ ap good (solves-is (t .modulus) x (t .P) (t .Q) .1 (h .1)))
-  where
-    there : try-input w x ≡ good true → PointOf (t .modulus) (t .variables) x × Solves (t .modulus) x (t .P) (t .Q)
-    there y =
-        let k = unless-good (not (is-point (t .modulus) (t .variables) x)) PointReason 0 (good (solves (t .modulus) x (t .P) (t .Q))) (rw e at y) in
-        (point-is (t .modulus) (t .variables) x .0 (not-false (is-point (t .modulus) (t .variables) x) (k .0)), solves-is (t .modulus) x (t .P) (t .Q) .0 (good-same (k .1)))
 
 -- A point tried against an accepted list is not refused.
 pub list-answers : (w x : List ℕ) (l : Listing) → read-list w ≡ good l → PointOf (l .modulus) (l .variables) x → try-systems w x ≡ good (first-solved (l .modulus) x 1 (l .systems))

@@ -23,12 +23,11 @@ use Rattle.branches.specs.Words.{put-Q, put-Q-before, remove}
 use Rattle.branches.specs.Area.{Stored, Held, Opened, with-open, without-P, without-Q, capacity}
 use Rattle.branches.proofs.LengthLaws.{same-capacity}
 use Rattle.branches.proofs.OpenLaws.{length-remove}
-use Rattle.representation.specs.Represent.{Sound, branch-of, system-of, state-of}
+use Rattle.representation.specs.Represent.{Sound, branch-of, system-of, state-of, with-new, Monic}
 use Rattle.representation.specs.laws.Lists.{each-remove, sound-at}
 use Rattle.representation.specs.laws.Sounds.{put-into-P-sound, put-into-Q-sound, without-P-sound, without-Q-sound}
-use Rattle.representation.specs.laws.Monics.{Monic, stored-monic, remove-monic, put-P-monic}
+use Rattle.representation.specs.laws.Monics.{stored-monic, remove-monic, put-P-monic}
 use Rattle.representation.specs.laws.Steps.{if-fits}
-use Rattle.representation.specs.laws.Replaced.{with-new}
 use Rattle.steps.specs.Ready.{Ready, limits-in}
 use Rattle.steps.specs.Pending.{Has-left, Has-members, Has-behind, next-member, taken-out, put-in, rest-of-step}
 use Rattle.steps.proofs.SplitLaws.{put-P-nonzero}

@@ -15,7 +15,7 @@ use Rattle.tables.specs.declared.Reason.{Reason}
 use Rattle.tables.specs.declared.Reason.the-variants.{Shape, Prime, Variables, Index, Head, Coefficient, Exponent, Order, Terms, Degree, Room, Steps, Output, Point, Broken}
 use Rattle.tables.specs.declared.Trial.{Trial}
 use Rattle.tables.specs.declared.Placing.{Placing}
-use Rattle.tables.specs.laws.Solved.{PointOf, Solves, Solved, First}
+use Rattle.tables.specs.Solved.{PointOf, Solves, Solved, First}
 use Rattle.rules.specs.Written.{list-records}
 use Rattle.rules.specs.Writable.{Each}
 use Rattle.rules.specs.Eliminate.{Eliminated, listed, turned-back, eliminated, output-after}

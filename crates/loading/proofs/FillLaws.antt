@@ -19,12 +19,12 @@ use Rattle.rules.specs.Room.{polynomials-size, branch-size, branches-size, syst
 use Rattle.rules.specs.Writable.{Each}
 use Rattle.records.specs.Records.{Rec}
 use Rattle.branches.specs.Area.{Stored, Held, Leaves, size, with-open}
-use Rattle.representation.specs.Represent.{Sound, Branch-sound, branch-of}
+use Rattle.representation.specs.Represent.{Sound, Branch-sound, branch-of, Monic, All-monic}
 use Rattle.representation.specs.laws.Lists.{map-put-P, map-put-Q, put-Q-before-none}
 use Rattle.representation.specs.laws.Sounds.{put-into-P-sound, put-into-Q-sound}
 use Rattle.representation.specs.laws.Sizes.{length-stack, size-live}
 use Rattle.representation.specs.laws.Replaced.{polynomials-size-append}
-use Rattle.representation.specs.laws.Monics.{Monic, All-monic, put-P-monic}
+use Rattle.representation.specs.laws.Monics.{put-P-monic}
 use Rattle.steps.proofs.SplitLaws.{put-P-nonzero}
 use Rattle.loading.specs.Started.{Loaded, put-into, put-heads, Alone, Filled}
 

@@ -15,8 +15,7 @@ use Rattle.rules.specs.Step.{Stepped, next, stopped}
 use Rattle.rules.specs.Writable.{Each}
 use Rattle.records.specs.Records.{Rec}
 use Rattle.branches.specs.Area.{Stored, Area, Held, with-open, put-into-P, put-into-Q}
-use Rattle.representation.specs.Represent.{Sound, Branch-sound, branch-of, state-of}
-use Rattle.representation.specs.laws.Monics.{All-monic, Monic}
+use Rattle.representation.specs.Represent.{Sound, Branch-sound, branch-of, state-of, Monic, All-monic}
 use Rattle.steps.specs.Ready.{Ready}
 
 -- The first m words hold the monic polynomial of f.

@@ -25,7 +25,8 @@ use Rattle.tables.specs.laws.Chains.{reading-good, reading-refused, term-read}
 use Rattle.tables.specs.laws.Linked.{good-same, left, linked-end, member-less, TermChain, TermMember, next-term, terms-linked, HeadChain, HeadMember, next-head, heads-linked}
 use Rattle.residues.specs.laws.Prime.{modulus-prime}
 use Rattle.tables.specs.laws.Accepted.{some-record, table-read}
-use Rattle.tables.specs.laws.Solved.{PointOf, point-is}
+use Rattle.tables.specs.Solved.{PointOf}
+use Rattle.tables.specs.laws.Solved.{point-is}
 
 pub not-point : (p n : ℕ) (x : List ℕ) → ¬ PointOf p n x → false ≡ is-point p n x
 not-point p n x h = go (is-point p n x) (point-is p n x .0)

@@ -4,10 +4,12 @@ use mathlib.Core.Path.{_≡_}
 use mathlib.Core.List.{List, [], _∷_, map, reverse}
 use Prim.Native.Nat.{ℕ, _<_}
 use lib.ListN.{getD}
+use Rattle.polynomials.specs.Poly.{Poly}
 use Rattle.polynomials.specs.Packed.{terms}
 use Rattle.polynomials.specs.Working.{Holds}
 use Rattle.tables.specs.Read.{System}
-use Rattle.rules.specs.Branch.{Branch}
+use Rattle.tables.specs.Admissible.{Each}
+use Rattle.rules.specs.Branch.{Branch, Chosen}
 use Rattle.rules.specs.Room.{State}
 use Rattle.branches.specs.Area.{Stored, Area}
 
@@ -22,6 +24,14 @@ system-of b = record { T = map terms (b .T); U = map terms (b .Q) }
 abbrev pub state-of : Area → State
 state-of a = record { branches = map branch-of (a .branches); systems = reverse (map system-of (a .systems)) }
 
+-- A member of P by its place, as the rules choose it.
+abbrev pub chosen : Stored → ℕ → Chosen
+chosen b i = record { place = i; poly = terms (getD (b .P) i []) }
+
+-- In rule 5, "the new Q is built by putting them": the branch with the new members only.
+abbrev pub with-new : Stored → List (List ℕ) → Branch
+with-new b new = record { P = map terms (b .P); Q = map terms new; T = map terms (b .T) }
+
 -- A stored polynomial: canonical modulo p, at most 256 terms, words of 64 bits.
 pub record Sound (p : ℕ) (s : List ℕ) : Type 0 where
   pub holds : Holds p s
@@ -30,6 +40,14 @@ pub record Sound (p : ℕ) (s : List ℕ) : Type 0 where
 abbrev pub All-sound : ℕ → List (List ℕ) → Type 0
 All-sound p [] = Unit {0}
 All-sound p (f ∷ fs) = Sound p f × All-sound p fs
+
+-- The first coefficient is 1, if there is one.
+abbrev pub Monic : Poly → Type 0
+Monic [] = Unit {0}
+Monic (t ∷ f) = t .coef ≡ 1
+
+abbrev pub All-monic : List (List ℕ) → Type 0
+All-monic fs = Each (λ f. Monic (terms f)) fs
 
 pub record Branch-sound (p : ℕ) (b : Stored) : Type 0 where
   pub in-P : All-sound p (b .P)

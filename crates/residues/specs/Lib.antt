@@ -1,4 +1,5 @@
 pub mod Prime
+pub mod Wheel
 pub mod Residue
 pub mod Field
 pub mod laws

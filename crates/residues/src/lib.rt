@@ -3,7 +3,7 @@ ghost use mathlib.Core.Path.{_≡_};
 ghost use Prim.Native.Nat.{_%_, _^_, _≤_, _<_};
 ghost use Rattle.residues.specs.Prime.{Prime, is-prime, is-modulus};
 ghost use Rattle.residues.specs.Residue.{sum, difference, product, inverse};
-ghost use Rattle.residues.specs.laws.Wheel.{Coprime30, Turn};
+ghost use Rattle.residues.specs.Wheel.{Coprime30, Turn};
 
 // Whether p is a prime below 2^31.
 pub fn is_prime(p: u32) -> bool

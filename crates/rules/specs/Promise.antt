@@ -14,7 +14,8 @@ use Rattle.polynomials.specs.Division.{leader, initial}
 use Rattle.polynomials.specs.Value.{value-modulo}
 use Rattle.tables.specs.Read.{good, Input, System, read-table, read-list}
 use Rattle.tables.specs.Solve.{solves, first-solved, try-input, try-systems}
-use Rattle.tables.specs.laws.Solved.{PointOf, Solves, Solved, First, solves-is, place-is, none-is, table-answers, list-answers}
+use Rattle.tables.specs.Solved.{PointOf, Solves, Solved, First}
+use Rattle.tables.specs.laws.Solved.{solves-is, place-is, none-is, table-answers, list-answers}
 use Rattle.rules.specs.Run.{finished, run-of}
 use Rattle.rules.specs.Written.{list-records}
 use Rattle.rules.specs.Eliminate.{limits-of, listed, eliminated, output-after}

@@ -26,9 +26,8 @@ use Rattle.survey.specs.Survey.{choice, choice-of-P}
 use Rattle.survey.proofs.Choices.{leaders-at-most-8}
 use Rattle.survey.specs.declared.Choice.{Choice}
 use Rattle.survey.specs.declared.Choice.the-variants.{Drop, List as Lists, Pivot}
-use Rattle.representation.specs.Represent.{Sound, All-sound, branch-of, system-of}
-use Rattle.representation.specs.laws.Monics.{Monic, All-monic}
-use Rattle.representation.specs.laws.Steps.{chosen, chosen-at}
+use Rattle.representation.specs.Represent.{Sound, All-sound, branch-of, system-of, chosen, Monic, All-monic}
+use Rattle.representation.specs.laws.Steps.{chosen-at}
 use Rattle.steps.specs.Ready.{Ready}
 use Rattle.steps.specs.Pending.{Leads}
 

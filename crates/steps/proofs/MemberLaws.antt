@@ -16,9 +16,9 @@ use Rattle.rules.specs.Branch.{Branch}
 use Rattle.rules.specs.Step.{Stepped, stopped, within-room, after-division, remainder-by, divided, with-Q, state, replace}
 use Rattle.branches.specs.Words.{put-Q}
 use Rattle.branches.specs.Area.{Stored, size, with-open, put-into-P, put-into-Q, without-P, without-Q}
-use Rattle.representation.specs.Represent.{Sound, All-sound, Branch-sound, All-listed, branch-of, system-of}
-use Rattle.representation.specs.laws.Steps.{chosen, if-fits, tested-room, within-room-fits, divide-state}
-use Rattle.representation.specs.laws.Replaced.{with-new, turned, turned-Q, turned-size, with-new-turned}
+use Rattle.representation.specs.Represent.{Sound, All-sound, Branch-sound, All-listed, branch-of, system-of, chosen, with-new}
+use Rattle.representation.specs.laws.Steps.{if-fits, tested-room, within-room-fits, divide-state}
+use Rattle.representation.specs.laws.Replaced.{turned, turned-Q, turned-size, with-new-turned}
 use Rattle.representation.specs.laws.Lists.{append-sound}
 use Rattle.steps.specs.Pending.{Has-left, Has-members, next-member, taken-out, put-in, rest-of-step}
 

@@ -25,13 +25,13 @@ use Rattle.rules.specs.laws.Pivot.{OtherIs, other-is}
 use Rattle.records.specs.Records.{Rec}
 use Rattle.branches.specs.Words.{is-one}
 use Rattle.branches.specs.Area.{Stored, Held, with-open, closed}
-use Rattle.representation.specs.Represent.{Sound, All-sound, branch-of, system-of}
+use Rattle.representation.specs.Represent.{Sound, All-sound, branch-of, system-of, chosen, with-new}
 use Rattle.representation.specs.laws.Lists.{sound-at, each-remove}
 use Rattle.representation.specs.laws.Sounds.{closed-sound}
 use Rattle.representation.specs.laws.Monics.{remove-monic}
 use Rattle.representation.specs.laws.Tests.{is-one-terms, member-terms}
-use Rattle.representation.specs.laws.Steps.{chosen, chosen-at}
-use Rattle.representation.specs.laws.Replaced.{with-new, apply-close}
+use Rattle.representation.specs.laws.Steps.{chosen-at}
+use Rattle.representation.specs.laws.Replaced.{apply-close}
 use Rattle.steps.specs.declared.Division.{Division}
 use Rattle.steps.specs.Ready.{Ready}
 use Rattle.steps.specs.Pending.{Leads, Pivoted, Comes, division-of, aimed, rest-of-step}

@@ -19,11 +19,11 @@ use Rattle.rules.specs.Writable.{Each}
 use Rattle.records.specs.Records.{Rec}
 use Rattle.branches.specs.Words.{put-P, is-zero, remove}
 use Rattle.branches.specs.Area.{Stored, Area, Held, Leaves, with-open, split-area}
-use Rattle.representation.specs.Represent.{Sound, branch-of, system-of, state-of}
+use Rattle.representation.specs.Represent.{Sound, branch-of, system-of, state-of, chosen, Monic}
 use Rattle.representation.specs.laws.Lists.{sound-at, each-remove, each-put-P}
 use Rattle.representation.specs.laws.Sounds.{split-area-sound}
-use Rattle.representation.specs.laws.Monics.{Monic, initial-monic, stored-initial-own, stored-monic, remove-monic, put-P-monic, monic-at}
-use Rattle.representation.specs.laws.Steps.{chosen, if-fits, apply-split}
+use Rattle.representation.specs.laws.Monics.{initial-monic, stored-initial-own, stored-monic, remove-monic, put-P-monic, monic-at}
+use Rattle.representation.specs.laws.Steps.{if-fits, apply-split}
 use Rattle.steps.specs.Ready.{Ready, limits-in}
 use Rattle.steps.specs.Pending.{Leads}
 

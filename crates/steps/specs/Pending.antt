@@ -18,9 +18,7 @@ use Rattle.steps.specs.declared.Division.{Division}
 use Rattle.steps.specs.declared.Prepared.{Prepared}
 use Rattle.steps.specs.declared.Prepared.the-variants.{Done, Members, Stop}
 use Rattle.steps.specs.Ready.{Ready}
-use Rattle.representation.specs.Represent.{branch-of, system-of, state-of}
-use Rattle.representation.specs.laws.Steps.{chosen}
-use Rattle.representation.specs.laws.Replaced.{with-new}
+use Rattle.representation.specs.Represent.{branch-of, system-of, state-of, chosen, with-new}
 
 -- There is a member to be divided.
 abbrev pub Has-left : Bool → ℕ → ℕ → Stored → Type 0

@@ -2,6 +2,7 @@ pub mod Reason
 pub mod Words
 pub mod Read
 pub mod Solve
+pub mod Solved
 pub mod Walk
 mod Examples
 pub mod laws

@@ -15,15 +15,9 @@ use Rattle.polynomials.specs.Division.{degree, leader, initial, coefficient}
 use Rattle.polynomials.specs.laws.Merge.{scaled, multiple-scaled, monic-scaled}
 use Rattle.polynomials.specs.laws.Places.{Places, places-terms}
 use Rattle.polynomials.specs.laws.Parts.{above-leader, degree-first, canonical-initial, coefficient-of}
-use Rattle.rules.specs.Writable.{Each}
 use Rattle.branches.specs.Words.{put-P, remove}
-use Rattle.representation.specs.Represent.{Sound}
+use Rattle.representation.specs.Represent.{Monic, All-monic, Sound}
 use Rattle.representation.specs.laws.Lists.{each-remove, each-put-P, each-at}
-
--- The first coefficient is 1, if there is one.
-abbrev pub Monic : Poly → Type 0
-Monic [] = Unit {0}
-Monic (t ∷ f) = t .coef ≡ 1
 
 inverse-one : (p : ℕ) → inverse p 1 ≡ 1
 unfolding inverse inverse-from
@@ -68,9 +62,6 @@ module _ (p k n : ℕ) (f : Poly) (c : Canonical p f) (u : Places n f) (led : le
   initial-own = monic-own p (initial k f) (canonical-initial p k f c) initial-monic
 
 -- ── stored polynomials ──
-abbrev pub All-monic : List (List ℕ) → Type 0
-All-monic fs = Each (λ f. Monic (terms f)) fs
-
 pub stored-initial-own : (p k : ℕ) (s : List ℕ) → Sound p s → leader (terms s) ≡ k + 1 → Monic (terms s) → monic p (initial k (terms s)) ≡ initial k (terms s)
 stored-initial-own p k s h led m = initial-own p k 8 (terms s) (h .holds .canonical) (places-terms s) led m
 

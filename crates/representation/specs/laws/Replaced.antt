@@ -7,17 +7,15 @@ use lib.ListN.{length, getD}
 use Rattle.polynomials.specs.Poly.{Poly, monic}
 use Rattle.polynomials.specs.Packed.{terms}
 use Rattle.rules.specs.Branch as rules
-use Rattle.rules.specs.Branch.{Branch}
 use Rattle.rules.specs.Room.{Limits, polynomials-size, branch-size, branches-size, live}
 use Rattle.rules.specs.Rule.{close}
 use Rattle.rules.specs.Step as step
 use Rattle.rules.specs.Step.{with-Q, state, replace, apply}
 use Rattle.branches.specs.Words.{put-Q, put-Q-before, remove}
 use Rattle.branches.specs.Area.{Stored, size, with-open, put-into-Q, without-Q, closed}
-use Rattle.representation.specs.Represent.{All-listed, branch-of, system-of, Sound, All-sound}
+use Rattle.representation.specs.Represent.{All-listed, branch-of, system-of, chosen, with-new, Sound, All-sound}
 use Rattle.representation.specs.laws.Lists.{map-remove, put-Q-before-in-parts, map-put-Q, map-put-Q-before}
 use Rattle.representation.specs.laws.Sizes.{size-live}
-use Rattle.representation.specs.laws.Steps.{chosen}
 
 remove-at : (new : List (List ℕ)) (g : List ℕ) (old : List (List ℕ)) → remove (length new) (new ++ (g ∷ old)) ≡ new ++ old
 unfolding remove
@@ -28,10 +26,6 @@ pub polynomials-size-append : (fs gs : List Poly) → polynomials-size (fs ++ gs
 unfolding polynomials-size
 polynomials-size-append [] gs = omega arith
 polynomials-size-append (f ∷ fs) gs = omega (arith, polynomials-size-append fs gs)
-
--- The branch of the rules, whose Q holds the new members only.
-abbrev pub with-new : Stored → List (List ℕ) → Branch
-with-new b new = record { P = map terms (b .P); Q = map terms new; T = map terms (b .T) }
 
 -- Before the first turn there are no new members.
 pub with-new-closed : (l : Limits) (p : ℕ) (b : Stored) (i : ℕ) → with-new (closed i b) [] ≡ step.closed l p (chosen b i) (branch-of b)

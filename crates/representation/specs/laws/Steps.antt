@@ -20,7 +20,7 @@ use Rattle.rules.specs.Step.{Stepped, next, stopped, within-room, split-open, s
 use Rattle.rules.specs.laws.Lists.{At}
 use Rattle.branches.specs.Words.{put-P, put-Q-before, remove}
 use Rattle.branches.specs.Area.{Stored, Area, size, with-open, put-into-P, without-P, split-area}
-use Rattle.representation.specs.Represent.{All-listed, branch-of, system-of, state-of, Sound, Branch-sound}
+use Rattle.representation.specs.Represent.{All-listed, branch-of, system-of, state-of, chosen, Sound, Branch-sound}
 use Rattle.representation.specs.laws.Lists.{map-remove, map-put-P, map-put-Q, put-Q-before-none, remove-sound, put-P-sound}
 use Rattle.representation.specs.laws.Sizes.{room-of-count, size-live}
 
@@ -46,10 +46,6 @@ unfolding within-room
 within-room-fits l most bound some a h = tested-room l most bound some (live (state-of a)) (size a) (size-live a h) (next (state-of a))
 
 -- ── the rules ──
--- A member of P by its place, as the rules choose it.
-abbrev pub chosen : Stored → ℕ → Chosen
-chosen b i = record { place = i; poly = terms (getD (b .P) i []) }
-
 member-at : (i : ℕ) (f : Poly) (fs : List (List ℕ)) → At i f (map terms fs) → f ≡ terms (getD fs i [])
 member-at i f [] a = absurd a
 member-at zero f (g ∷ fs) a = a

@@ -11,18 +11,9 @@ use native.Mathlib.Omega.{arith}
 use lib.Dec.{T, eqb, ltb, eqb→eq, ltb→lt}
 use borrow.Author.Tests.{eq-eqb, ne-eqb}
 use Rattle.residues.specs.Prime.{Prime, is-prime, no-divisor-from}
+use Rattle.residues.specs.Wheel.{Coprime30, Turn}
 use Rattle.residues.specs.laws.Booleans.{and-l, and-r, or-cases, true-of}
 use Rattle.residues.specs.laws.Prime.{is-prime-sound, is-prime-complete, test-no, test-small}
-
--- Neither 2 nor 3 nor 5 divides e.
-pub record Coprime30 (e : ℕ) : Type 0 where
-  pub two : e % 2 ≢ 0
-  pub three : e % 3 ≢ 0
-  pub five : e % 5 ≢ 0
-
--- What a turn of the wheel from d tells of p: a number from d to d + 24 divides p, or none coprime to 30 from d up to d + 30 does.
-abbrev pub Turn : ℕ → ℕ → Bool → Type 0
-Turn p d r = elim r [ true ↦ (e : ℕ) × (d ≤ e) × (e ≤ d + 24) × (p % e ≡ 0) | false ↦ (e : ℕ) → d ≤ e → e < d + 30 → Coprime30 e → p % e ≢ 0 ]
 
 -- ── divisors of a number coprime to 30 ──
 divides-on : (p e q : ℕ) → p % e ≡ 0 → e % q ≡ 0 → p % q ≡ 0

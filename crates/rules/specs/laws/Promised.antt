@@ -12,7 +12,8 @@ use Rattle.tables.specs.Read as tables
 use Rattle.tables.specs.Solve.{first-solved}
 use Rattle.tables.specs.declared.Reason.the-variants.{Output}
 use Rattle.tables.specs.laws.Linked.{good-same}
-use Rattle.tables.specs.laws.Solved.{Solved, First, place-is, none-is}
+use Rattle.tables.specs.Solved.{Solved, First}
+use Rattle.tables.specs.laws.Solved.{place-is, none-is}
 use Rattle.rules.specs.Run.{finished, run-of}
 use Rattle.rules.specs.Written.{list-words, list-records}
 use Rattle.rules.specs.Eliminate.{limits-of, Eliminated, listed, turned-back, delivered, eliminated}

@@ -13,12 +13,9 @@ use Rattle.polynomials.specs.Value.{value-modulo, Point}
 use Rattle.tables.specs.Read.{good, Input, System, Listing, read-table, read-list}
 use Rattle.tables.specs.Solve.{all-below, is-point, is-root, all-zero, none-zero, solves, first-solved, try-input, try-systems}
 use Rattle.tables.specs.Admissible.{Each}
+use Rattle.tables.specs.Solved.{PointOf, Solves, Solved, First}
 
 -- ── points ──
--- "A point is n residues, v1's first."
-abbrev pub PointOf : ℕ → ℕ → List ℕ → Type 0
-PointOf p n x = (length x ≡ n) × Point p x
-
 all-below-point : (p : ℕ) (x : List ℕ) → all-below p x ≡ true → Point p x
 unfolding all-below
 all-below-point p [] e i h = absurd (omega arith)
@@ -40,10 +37,6 @@ point-is p n x = (
 
 module _ (p : ℕ) (x : List ℕ) where
   -- ── solutions ──
-  -- "Every polynomial of the one has value 0 there and none of the other has."
-  abbrev pub Solves : List Poly → List Poly → Type 0
-  Solves zeros nonzeros = Each (λ f. value-modulo p f x ≡ 0) zeros × Each (λ f. value-modulo p f x ≢ 0) nonzeros
-
   zeros-are : (fs : List Poly) → all-zero p x fs ≡ true ↔ Each (λ f. value-modulo p f x ≡ 0) fs
   unfolding all-zero is-root
   zeros-are [] = (λ e. tt, λ h. refl)
@@ -61,7 +54,7 @@ module _ (p : ℕ) (x : List ℕ) where
     λ h. and-eq-true-iff (not (is-root p x f)) (none-zero p x fs) .1 (ap not (ne-eqb (value-modulo p f x) 0 (h .0)), nonzeros-are fs .1 (h .1)),
   )
 
-  pub solves-is : (zeros nonzeros : List Poly) → solves p x zeros nonzeros ≡ true ↔ Solves zeros nonzeros
+  pub solves-is : (zeros nonzeros : List Poly) → solves p x zeros nonzeros ≡ true ↔ Solves p x zeros nonzeros
   unfolding solves
   solves-is zeros nonzeros = (
     λ e. let k = and-eq-true-iff (all-zero p x zeros) (none-zero p x nonzeros) .0 e in (zeros-are zeros .0 (k .0), nonzeros-are nonzeros .0 (k .1)),
@@ -69,38 +62,25 @@ module _ (p : ℕ) (x : List ℕ) where
   )
 
   -- ── the first system solved ──
-  abbrev pub Solved : System → Type 0
-  Solved s = Solves (s .T) (s .U)
-
-  -- Place r, counted from k, is that of a system solved, and those before it are not.
-  pub record First (k r : ℕ) (ss : List System) : Type 0 where
-    pub before : List System
-    pub system : System
-    pub behind : List System
-    pub parts : ss ≡ before ++ (system ∷ behind)
-    pub place : r ≡ k + length before
-    pub unsolved : Each (λ s. ¬ Solved s) before
-    pub solved : Solved system
-
-  solves-not : (s : System) → solves p x (s .T) (s .U) ≡ false → ¬ Solved s
+  solves-not : (s : System) → solves p x (s .T) (s .U) ≡ false → ¬ Solved p x s
   solves-not s e h = false≢true (sym e ∙ solves-is (s .T) (s .U) .1 h)
 
-  not-solves : (s : System) → ¬ Solved s → solves p x (s .T) (s .U) ≡ false
+  not-solves : (s : System) → ¬ Solved p x s → solves p x (s .T) (s .U) ≡ false
   not-solves s h = go (solves p x (s .T) (s .U)) (solves-is (s .T) (s .U) .0)
     where
-      go : (b : Bool) → (b ≡ true → Solved s) → b ≡ false
+      go : (b : Bool) → (b ≡ true → Solved p x s) → b ≡ false
       go true f = absurd (h (f refl))
       go false f = refl
 
-  pub first-or-none : (k : ℕ) (ss : List System) → First k (first-solved p x k ss) ss ⊎ ((first-solved p x k ss ≡ 0) × Each (λ s. ¬ Solved s) ss)
+  pub first-or-none : (k : ℕ) (ss : List System) → First p x k (first-solved p x k ss) ss ⊎ ((first-solved p x k ss ≡ 0) × Each (λ s. ¬ Solved p x s) ss)
   unfolding first-solved
   first-or-none k [] = inr (refl, tt)
   first-or-none k (s ∷ ss) = go (solves p x (s .T) (s .U)) refl (first-or-none (suc k) ss)
     where
       go : (b : Bool) → solves p x (s .T) (s .U) ≡ b →
-          First (suc k) (first-solved p x (suc k) ss) ss ⊎ ((first-solved p x (suc k) ss ≡ 0) × Each (λ s. ¬ Solved s) ss) →
-          First k (elim b [ true ↦ k | false ↦ first-solved p x (suc k) ss ]) (s ∷ ss)
-          ⊎ ((_≡_ {A = ℕ} (elim b [ true ↦ k | false ↦ first-solved p x (suc k) ss ]) 0) × Each (λ s. ¬ Solved s) (s ∷ ss))
+          First p x (suc k) (first-solved p x (suc k) ss) ss ⊎ ((first-solved p x (suc k) ss ≡ 0) × Each (λ s. ¬ Solved p x s) ss) →
+          First p x k (elim b [ true ↦ k | false ↦ first-solved p x (suc k) ss ]) (s ∷ ss)
+          ⊎ ((_≡_ {A = ℕ} (elim b [ true ↦ k | false ↦ first-solved p x (suc k) ss ]) 0) × Each (λ s. ¬ Solved p x s) (s ∷ ss))
       go true e ih = inl (record { before = []; system = s; behind = ss; parts = refl; place = omega arith; unsolved = tt; solved = solves-is (s .T) (s .U) .0 e })
       go false e (inl f) =
           inl
@@ -115,33 +95,33 @@ module _ (p : ℕ) (x : List ℕ) where
           })
       go false e (inr h) = inr (h .0, (solves-not s e, h .1))
 
-  first-found : (k : ℕ) (before : List System) (s : System) (behind : List System) → Each (λ s. ¬ Solved s) before → Solved s →
+  first-found : (k : ℕ) (before : List System) (s : System) (behind : List System) → Each (λ s. ¬ Solved p x s) before → Solved p x s →
       first-solved p x k (before ++ (s ∷ behind)) ≡ k + length before
   unfolding first-solved
   first-found k [] s behind u h = rw (solves-is (s .T) (s .U) .1 h, first-solved) (omega arith)
   first-found k (b ∷ before) s behind u h = rw (not-solves b (u .0), first-solved) (omega (arith, first-found (suc k) before s behind (u .1) h))
 
   -- "The place of the first system solved, from 1, or 0."
-  pub place-is : (r : ℕ) (ss : List System) → 1 ≤ r → first-solved p x 1 ss ≡ r ↔ First 1 r ss
+  pub place-is : (r : ℕ) (ss : List System) → 1 ≤ r → first-solved p x 1 ss ≡ r ↔ First p x 1 r ss
   place-is r ss h = (λ e. there e (first-or-none 1 ss), λ f. ap (first-solved p x 1) (f .parts) ∙ first-found 1 (f .before) (f .system) (f .behind) (f .unsolved) (f .solved) ∙ sym (f .place))
     where
-      there : first-solved p x 1 ss ≡ r → First 1 (first-solved p x 1 ss) ss ⊎ ((first-solved p x 1 ss ≡ 0) × Each (λ s. ¬ Solved s) ss) → First 1 r ss
-      there e (inl f) = subst (λ q. First 1 q ss) e f
+      there : first-solved p x 1 ss ≡ r → First p x 1 (first-solved p x 1 ss) ss ⊎ ((first-solved p x 1 ss ≡ 0) × Each (λ s. ¬ Solved p x s) ss) → First p x 1 r ss
+      there e (inl f) = subst (λ q. First p x 1 q ss) e f
       there e (inr n) = absurd (omega (arith, n .0))
 
   each-there : (P : System → Type 0) (before : List System) (s : System) (behind : List System) → Each P (before ++ (s ∷ behind)) → P s
   each-there P [] s behind h = h .0
   each-there P (b ∷ before) s behind h = each-there P before s behind (h .1)
 
-  pub none-is : (ss : List System) → first-solved p x 1 ss ≡ 0 ↔ Each (λ s. ¬ Solved s) ss
+  pub none-is : (ss : List System) → first-solved p x 1 ss ≡ 0 ↔ Each (λ s. ¬ Solved p x s) ss
   none-is ss = (λ e. there e (first-or-none 1 ss), λ u. back u (first-or-none 1 ss))
     where
-      there : first-solved p x 1 ss ≡ 0 → First 1 (first-solved p x 1 ss) ss ⊎ ((first-solved p x 1 ss ≡ 0) × Each (λ s. ¬ Solved s) ss) → Each (λ s. ¬ Solved s) ss
+      there : first-solved p x 1 ss ≡ 0 → First p x 1 (first-solved p x 1 ss) ss ⊎ ((first-solved p x 1 ss ≡ 0) × Each (λ s. ¬ Solved p x s) ss) → Each (λ s. ¬ Solved p x s) ss
       there e (inl f) = absurd (omega (arith, f .place))
       there e (inr n) = n .1
 
-      back : Each (λ s. ¬ Solved s) ss → First 1 (first-solved p x 1 ss) ss ⊎ ((first-solved p x 1 ss ≡ 0) × Each (λ s. ¬ Solved s) ss) → first-solved p x 1 ss ≡ 0
-      back u (inl f) = absurd (each-there (λ s. ¬ Solved s) (f .before) (f .system) (f .behind) (subst (Each (λ s. ¬ Solved s)) (f .parts) u) (f .solved))
+      back : Each (λ s. ¬ Solved p x s) ss → First p x 1 (first-solved p x 1 ss) ss ⊎ ((first-solved p x 1 ss ≡ 0) × Each (λ s. ¬ Solved p x s) ss) → first-solved p x 1 ss ≡ 0
+      back u (inl f) = absurd (each-there (λ s. ¬ Solved p x s) (f .before) (f .system) (f .behind) (subst (Each (λ s. ¬ Solved p x s)) (f .parts) u) (f .solved))
       back u (inr n) = n .0
 
 -- ── the tests ──

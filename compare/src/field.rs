@@ -2,7 +2,7 @@
 
 /// True exactly for the primes from 2 to 2^31 - 1.
 pub fn is_prime(p: u32) -> bool {
-    if p < 2 || p >= 1 << 31 {
+    if !(2..1 << 31).contains(&p) {
         return false;
     }
     for q in [2, 3, 5] {
@@ -10,6 +10,7 @@ pub fn is_prime(p: u32) -> bool {
             return p == q;
         }
     }
+    // All other primes are one of these steps past 7, 37, 67, ..
     let mut d = 7;
     while d * d <= p {
         for step in [0, 4, 6, 10, 12, 16, 22, 24] {

@@ -8,15 +8,17 @@ pub struct Poly {
     pub c: Vec<u32>,
 }
 
-/// Which bound an operation passes: refusal 10 or 9.
+/// Which bound an operation passes, 255 or 256: refusal 10 or 9.
 #[derive(Clone, Copy, Debug, PartialEq, Eq)]
 pub enum Over {
     Degree,
     Terms,
 }
 
+/// The most terms of a polynomial.
 pub const TERMS: usize = 256;
 
+/// The exponent of v(k+1).
 pub fn exponent(m: u64, k: u32) -> u32 {
     (m >> (8 * k)) as u32 & 255
 }
@@ -28,7 +30,18 @@ fn carries(a: u64, b: u64) -> bool {
     ((a & b) | ((a | b) & s)) & !LOW != 0
 }
 
+impl FromIterator<(u32, u64)> for Poly {
+    fn from_iter<I: IntoIterator<Item = (u32, u64)>>(terms: I) -> Poly {
+        let (c, m) = terms.into_iter().unzip();
+        Poly { m, c }
+    }
+}
+
 impl Poly {
+    fn with_room() -> Poly {
+        Poly { m: Vec::with_capacity(TERMS), c: Vec::with_capacity(TERMS) }
+    }
+
     pub fn len(&self) -> usize {
         self.m.len()
     }
@@ -40,6 +53,28 @@ impl Poly {
     pub fn push(&mut self, c: u32, m: u64) {
         self.c.push(c);
         self.m.push(m);
+    }
+
+    /// Adds a term unless its coefficient is zero; a 257th is refused.
+    fn push_tested(&mut self, c: u32, m: u64) -> Result<(), Over> {
+        if c != 0 {
+            if self.len() == TERMS {
+                return Err(Over::Terms);
+            }
+            self.push(c, m);
+        }
+        Ok(())
+    }
+
+    /// The coefficients with their monomials, in falling order.
+    pub fn terms(&self) -> impl DoubleEndedIterator<Item = (u32, u64)> + '_ {
+        self.c.iter().copied().zip(self.m.iter().copied())
+    }
+
+    /// Keeps the first so many terms.
+    pub fn truncate(&mut self, terms: usize) {
+        self.c.truncate(terms);
+        self.m.truncate(terms);
     }
 
     pub fn is_one(&self) -> bool {
@@ -77,34 +112,24 @@ impl Poly {
 
     /// The coefficient of v(k+1)^d, with the power divided by v(k+1)^by: by = d leaves none of it.
     fn part(&self, k: u32, d: u32, by: u32) -> Poly {
-        let mut f = Poly::default();
-        for (&c, &m) in self.c.iter().zip(&self.m) {
-            if exponent(m, k) == d {
-                f.push(c, m - ((by as u64) << (8 * k)));
-            }
-        }
-        f
+        self.terms().filter(|&(_, m)| exponent(m, k) == d).map(|(c, m)| (c, m - ((by as u64) << (8 * k)))).collect()
     }
 
+    /// The coefficient of the highest power of v(k+1).
     pub fn initial(&self, k: u32) -> Poly {
         let d = self.degree(k);
         self.part(k, d, d)
     }
 
+    /// The polynomial without the highest power of v(k+1).
     pub fn rest(&self, k: u32) -> Poly {
         let d = self.degree(k);
-        let mut f = Poly::default();
-        for (&c, &m) in self.c.iter().zip(&self.m) {
-            if exponent(m, k) != d {
-                f.push(c, m);
-            }
-        }
-        f
+        self.terms().filter(|&(_, m)| exponent(m, k) != d).collect()
     }
 
     pub fn value(&self, p: u32, point: &[u32]) -> u32 {
         let mut v = 0;
-        for (&c, &m) in self.c.iter().zip(&self.m) {
+        for (c, m) in self.terms() {
             let mut t = c;
             for (k, &x) in point.iter().enumerate() {
                 let e = exponent(m, k as u32);
@@ -143,13 +168,15 @@ pub fn product(p: u32, f: &Poly, g: &Poly) -> Result<Poly, Over> {
     }
 }
 
+/// A term times g.
 fn row(p: u32, c: u32, m: u64, g: &Poly) -> Poly {
     Poly { c: g.c.iter().map(|&d| field::mul(p, c, d)).collect(), m: g.m.iter().map(|&n| m + n).collect() }
 }
 
+/// The product by one merge, where a has two terms.
 fn two_rows(p: u32, a: &Poly, b: &Poly) -> Result<Poly, Over> {
     let (n, mut i, mut j) = (b.len(), 0, 0);
-    let mut out = Poly { m: Vec::with_capacity(TERMS), c: Vec::with_capacity(TERMS) };
+    let mut out = Poly::with_room();
     while j < n {
         let y = a.m[1] + b.m[j];
         let x = if i < n { a.m[0] + b.m[i] } else { 0 };
@@ -162,64 +189,61 @@ fn two_rows(p: u32, a: &Poly, b: &Poly) -> Result<Poly, Over> {
             s += a.c[1] as u64 * b.c[j] as u64;
             j += 1;
         }
-        let c = (s % p as u64) as u32;
-        if c != 0 {
-            if out.len() == TERMS {
-                return Err(Over::Terms);
-            }
-            out.push(c, m);
-        }
+        out.push_tested((s % p as u64) as u32, m)?;
     }
     Ok(out)
 }
 
+/// A sum of at most 256 products of residues, in two halves that can't overflow.
+#[derive(Default)]
+struct Sum {
+    low: u64,
+    high: u64,
+}
+
+impl Sum {
+    fn add(&mut self, a: u32, b: u32) {
+        let t = a as u64 * b as u64;
+        self.low += t & 0xffff_ffff;
+        self.high += t >> 32;
+    }
+
+    fn modulo(&self, p: u32) -> u32 {
+        let p = p as u64;
+        ((((self.high % p) << 32) + self.low) % p) as u32
+    }
+}
+
 /// Terms straight in falling order: one position for each row, and a pass over the rows for each monomial.
 fn rows(p: u32, a: &Poly, b: &Poly) -> Result<Poly, Over> {
-    let (na, nb) = (a.len(), b.len());
+    let (rows, width) = (a.len(), b.len());
     let mut at = [0u16; TERMS];
-    let mut out = Poly { m: Vec::with_capacity(TERMS), c: Vec::with_capacity(TERMS) };
-    let (mut from, mut m) = (0, a.m[0] + b.m[0]);
-    // Rows before `to` have been begun; a row begins once its first monomial is reached.
-    let mut to = 1;
-    while from < na {
-        while to < na && a.m[to] + b.m[0] >= m {
+    let mut out = Poly::with_room();
+    let mut m = a.m[0] + b.m[0];
+    // Rows before `from` are used up; those before `to` have begun, as a row does once its first monomial is reached.
+    let (mut from, mut to) = (0, 1);
+    while from < rows {
+        while to < rows && a.m[to] + b.m[0] >= m {
             to += 1;
         }
-        let (mut low, mut high) = (0u64, 0u64);
-        let mut next = if to < na { a.m[to] + b.m[0] } else { 0 };
-        for i in from..to {
-            let j = at[i] as usize;
-            if j == nb {
-                continue;
+        let mut sum = Sum::default();
+        let mut next = if to < rows { a.m[to] + b.m[0] } else { 0 };
+        let begun = a.c[from..to].iter().zip(&a.m[from..to]);
+        for ((&c, &x), at) in begun.zip(&mut at[from..to]) {
+            let mut j = *at as usize;
+            if j < width && x + b.m[j] == m {
+                sum.add(c, b.c[j]);
+                j += 1;
+                *at += 1;
             }
-            let x = a.m[i] + b.m[j];
-            let x = if x == m {
-                let t = a.c[i] as u64 * b.c[j] as u64;
-                low += t & 0xffff_ffff;
-                high += t >> 32;
-                at[i] += 1;
-                if j + 1 == nb {
-                    continue;
-                }
-                a.m[i] + b.m[j + 1]
-            } else {
-                x
-            };
-            if x > next {
-                next = x;
+            if j < width {
+                next = next.max(x + b.m[j]);
             }
         }
-        while from < to && at[from] as usize == nb {
+        while from < to && at[from] as usize == width {
             from += 1;
         }
-        let q = p as u64;
-        let c = ((((high % q) << 32) + low) % q) as u32;
-        if c != 0 {
-            if out.len() == TERMS {
-                return Err(Over::Terms);
-            }
-            out.push(c, m);
-        }
+        out.push_tested(sum.modulo(p), m)?;
         m = next;
     }
     Ok(out)
@@ -227,9 +251,9 @@ fn rows(p: u32, a: &Poly, b: &Poly) -> Result<Poly, Over> {
 
 /// f minus c·m times g, tested for terms.
 fn subtract(p: u32, f: &Poly, c: u32, m: u64, g: &Poly) -> Result<Poly, Over> {
-    let mut out = Poly { m: Vec::with_capacity(TERMS), c: Vec::with_capacity(TERMS) };
+    let mut out = Poly::with_room();
     let mut i = 0;
-    for (&d, &n) in g.c.iter().zip(&g.m) {
+    for (d, n) in g.terms() {
         let (d, n) = (if c == 1 { d } else { field::mul(p, c, d) }, m + n);
         while i < f.len() && f.m[i] > n {
             out.push(f.c[i], f.m[i]);

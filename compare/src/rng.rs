@@ -5,7 +5,7 @@ use crate::field;
 pub struct Rng(pub u64);
 
 impl Rng {
-    pub fn next(&mut self) -> u64 {
+    pub fn draw(&mut self) -> u64 {
         self.0 = self.0.wrapping_add(0x9e37_79b9_7f4a_7c15);
         let z = (self.0 ^ (self.0 >> 30)).wrapping_mul(0xbf58_476d_1ce4_e5b9);
         let z = (z ^ (z >> 27)).wrapping_mul(0x94d0_49bb_1331_11eb);
@@ -13,7 +13,7 @@ impl Rng {
     }
 
     pub fn below(&mut self, n: u32) -> u32 {
-        (self.next() % n as u64) as u32
+        (self.draw() % n as u64) as u32
     }
 
     pub fn one_in(&mut self, n: u32) -> bool {
@@ -22,6 +22,11 @@ impl Rng {
 
     pub fn pick<T: Copy>(&mut self, from: &[T]) -> T {
         from[self.below(from.len() as u32) as usize]
+    }
+
+    /// A monomial in v1 to vn with exponents below the bound; about half of them are 0.
+    pub fn monomial(&mut self, n: u32, bound: u32) -> u64 {
+        (0..n).fold(0, |m, _| m << 8 | if self.one_in(2) { self.below(bound) as u64 } else { 0 })
     }
 
     pub fn point(&mut self, p: u32, n: u32) -> Vec<u32> {

@@ -14,7 +14,7 @@ type Shared = Rc<Member>;
 
 fn shared(poly: Poly) -> Shared {
     let mut hash = poly.len() as u64;
-    for (&c, &m) in poly.c.iter().zip(&poly.m) {
+    for (c, m) in poly.terms() {
         hash = (hash ^ m).wrapping_mul(0x9e37_79b9_7f4a_7c15).rotate_left(29) ^ c as u64;
     }
     Rc::new(Member { hash, poly })
@@ -24,10 +24,12 @@ fn holds(list: &[Shared], f: &Shared) -> bool {
     list.iter().any(|g| g.hash == f.hash && g.poly == f.poly)
 }
 
+/// The records that a list takes.
 fn size(list: &[Shared]) -> usize {
     list.iter().map(|f| 1 + f.poly.len()).sum()
 }
 
+/// P, Q and T of document 01.
 #[derive(Clone, Default)]
 struct Branch {
     zeros: Vec<Shared>,
@@ -39,39 +41,72 @@ impl Branch {
     fn size(&self) -> usize {
         1 + size(&self.zeros) + size(&self.nonzeros) + size(&self.triangle)
     }
+
+    /// Whether rule 1 drops it.
+    fn is_contradictory(&self) -> bool {
+        self.zeros.iter().any(|f| f.poly.is_one()) || self.nonzeros.iter().any(|f| f.poly.is_empty())
+    }
+
+    /// The places in P of the polynomials led by v(k+1).
+    fn led(&self, k: u32) -> impl Iterator<Item = usize> + '_ {
+        (0..self.zeros.len()).filter(move |&i| self.zeros[i].poly.leader() == k + 1)
+    }
+
+    /// k for the highest leading variable v(k+1), and the pivot's place in P; none if P is empty.
+    fn pivot(&self) -> Option<(u32, usize)> {
+        let k = self.zeros.iter().map(|f| f.poly.leader()).max()? - 1;
+        let degree_and_terms = |&i: &usize| {
+            let f = &self.zeros[i].poly;
+            (poly::exponent(f.m[0], k), f.len())
+        };
+        Some((k, self.led(k).min_by_key(degree_and_terms)?))
+    }
 }
 
-/// The records in use, and how many may be.
-struct Room {
+/// The prime, the records in use, and how many may be.
+struct Store {
+    p: u32,
     live: usize,
-    most: usize,
+    room: usize,
 }
 
-impl Room {
+impl Store {
     fn take(&mut self, records: usize) -> Result<(), u32> {
         self.live += records;
-        if self.live > self.most {
+        if self.live > self.room {
             return Err(11);
         }
         Ok(())
     }
-}
 
-fn put(p: u32, room: &mut Room, list: &mut Vec<Shared>, f: Poly, to_zeros: bool) -> Result<(), u32> {
-    if if to_zeros { f.is_empty() } else { false } {
-        return Ok(());
+    fn put(&mut self, list: &mut Vec<Shared>, f: Poly, dropped: fn(&Poly) -> bool) -> Result<(), u32> {
+        let f = f.monic(self.p);
+        if dropped(&f) {
+            return Ok(());
+        }
+        let f = shared(f);
+        if holds(list, &f) {
+            return Ok(());
+        }
+        self.take(1 + f.poly.len())?;
+        list.push(f);
+        Ok(())
     }
-    let f = f.monic(p);
-    if !to_zeros && f.is_one() {
-        return Ok(());
+
+    fn put_zero(&mut self, branch: &mut Branch, f: Poly) -> Result<(), u32> {
+        self.put(&mut branch.zeros, f, Poly::is_empty)
     }
-    let f = shared(f);
-    if holds(list, &f) {
-        return Ok(());
+
+    fn put_nonzero(&mut self, branch: &mut Branch, f: Poly) -> Result<(), u32> {
+        self.put(&mut branch.nonzeros, f, Poly::is_one)
     }
-    room.take(1 + f.poly.len())?;
-    list.push(f);
-    Ok(())
+
+    /// The remainder of g by the pivot in v(k+1); g is freed then.
+    fn replaced(&mut self, k: u32, pivot: &Shared, g: Shared) -> Result<Poly, u32> {
+        let r = poly::remainder(self.p, k, &pivot.poly, &g.poly)?;
+        self.live -= 1 + g.poly.len();
+        Ok(r)
+    }
 }
 
 impl From<Over> for u32 {
@@ -83,90 +118,84 @@ impl From<Over> for u32 {
     }
 }
 
+/// Errors are the numbers of refusals.
 struct Run {
-    p: u32,
-    room: Room,
-    waiting: Vec<Branch>,
+    store: Store,
+    /// The last one is open.
+    branches: Vec<Branch>,
     systems: Vec<Branch>,
 }
 
 impl Run {
     fn start(&mut self, input: Input) -> Result<(), u32> {
-        let mut b = Branch::default();
-        self.room.take(1)?;
+        let mut first = Branch::default();
+        self.store.take(1)?;
         for f in input.zeros {
-            put(self.p, &mut self.room, &mut b.zeros, f, true)?;
+            self.store.put_zero(&mut first, f)?;
         }
         for f in input.nonzeros {
-            put(self.p, &mut self.room, &mut b.nonzeros, f, false)?;
+            self.store.put_nonzero(&mut first, f)?;
         }
-        self.waiting.push(b);
+        self.branches.push(first);
         Ok(())
     }
 
-    /// One step on the branch that was opened last.
+    /// Applies the first rule that fits the open branch.
     fn step(&mut self) -> Result<(), u32> {
-        let p = self.p;
-        let b = self.waiting.last_mut().unwrap();
-        if b.zeros.iter().any(|f| f.poly.is_one()) || b.nonzeros.iter().any(|f| f.poly.is_empty()) {
-            self.room.live -= b.size();
-            self.waiting.pop();
+        let open = self.branches.last_mut().unwrap();
+        if open.is_contradictory() {
+            self.store.live -= open.size();
+            self.branches.pop();
             return Ok(());
         }
-        if b.zeros.is_empty() {
-            let b = self.waiting.pop().unwrap();
-            self.systems.push(b);
+        let Some((k, place)) = open.pivot() else {
+            self.systems.extend(self.branches.pop());
             return Ok(());
-        }
-        let lead = b.zeros.iter().map(|f| f.poly.leader()).max().unwrap();
-        let k = lead - 1;
-        let led = |f: &Shared| f.poly.leader() == lead;
-        let pivot = (0..b.zeros.len()).filter(|&i| led(&b.zeros[i])).min_by_key(|&i| (poly::exponent(b.zeros[i].poly.m[0], k), b.zeros[i].poly.len())).unwrap();
-        let f = b.zeros[pivot].clone();
-        let initial = f.poly.initial(k);
+        };
+        let pivot = open.zeros[place].clone();
+        // Its first coefficient is the pivot's, which is 1.
+        let initial = pivot.poly.initial(k);
         if !initial.is_one() {
-            let i = shared(initial);
-            if !holds(&b.nonzeros, &i) {
-                return self.split(k, pivot, f, i);
+            let initial = shared(initial);
+            if !holds(&open.nonzeros, &initial) {
+                return self.split(k, place, initial);
             }
         }
-        if let Some(j) = (0..b.zeros.len()).find(|&j| j != pivot && led(&b.zeros[j])) {
-            let g = b.zeros.remove(j);
-            let r = poly::remainder(p, k, &f.poly, &g.poly)?;
-            self.room.live -= 1 + g.poly.len();
-            return put(p, &mut self.room, &mut b.zeros, r, true);
+        let other = open.led(k).find(|&i| i != place);
+        if let Some(i) = other {
+            let g = open.zeros.remove(i);
+            let r = self.store.replaced(k, &pivot, g)?;
+            return self.store.put_zero(open, r);
         }
-        b.zeros.remove(pivot);
-        b.triangle.insert(0, f.clone());
-        for g in std::mem::take(&mut b.nonzeros) {
-            let r = poly::remainder(p, k, &f.poly, &g.poly)?;
-            self.room.live -= 1 + g.poly.len();
-            put(p, &mut self.room, &mut b.nonzeros, r, false)?;
+        open.triangle.insert(0, open.zeros.remove(place));
+        for g in std::mem::take(&mut open.nonzeros) {
+            let r = self.store.replaced(k, &pivot, g)?;
+            self.store.put_nonzero(open, r)?;
         }
         Ok(())
     }
 
-    fn split(&mut self, k: u32, pivot: usize, f: Shared, i: Shared) -> Result<(), u32> {
-        let p = self.p;
-        let mut main = self.waiting.pop().unwrap();
-        let mut aside = main.clone();
-        self.room.take(1 + i.poly.len())?;
-        main.nonzeros.push(i.clone());
-        aside.zeros.remove(pivot);
-        self.room.take(aside.size())?;
-        put(p, &mut self.room, &mut aside.zeros, i.poly.clone(), true)?;
-        put(p, &mut self.room, &mut aside.zeros, f.poly.rest(k), true)?;
-        self.waiting.push(aside);
-        self.waiting.push(main);
+    /// Rule 3: the branch set aside waits under the open one.
+    fn split(&mut self, k: u32, place: usize, initial: Shared) -> Result<(), u32> {
+        let mut open = self.branches.pop().unwrap();
+        let mut aside = open.clone();
+        self.store.take(1 + initial.poly.len())?;
+        open.nonzeros.push(initial.clone());
+        let pivot = aside.zeros.remove(place);
+        self.store.take(aside.size())?;
+        self.store.put_zero(&mut aside, initial.poly.clone())?;
+        self.store.put_zero(&mut aside, pivot.poly.rest(k))?;
+        self.branches.extend([aside, open]);
         Ok(())
     }
 
+    /// The steps, and how the run ends.
     fn run(&mut self, input: Input, limit: u32) -> (u32, Result<(), u32>) {
         if let Err(number) = self.start(input) {
             return (0, Err(number));
         }
         let mut steps = 0;
-        while !self.waiting.is_empty() {
+        while !self.branches.is_empty() {
             if steps == limit {
                 return (steps, Err(12));
             }
@@ -198,9 +227,9 @@ fn eliminate_into(words: &[u32], work: usize, out: &mut [u32], limit: u32) -> An
         Ok(input) => input,
         Err(refusal) => return Answer { steps: 0, outcome: Err(refusal) },
     };
-    let most = (work / 4).min(65536).saturating_sub(1);
     let (p, n) = (input.p, input.n);
-    let mut run = Run { p, room: Room { live: 0, most }, waiting: Vec::new(), systems: Vec::new() };
+    let room = (work / 4).min(65536).saturating_sub(1);
+    let mut run = Run { store: Store { p, live: 0, room }, branches: Vec::new(), systems: Vec::new() };
     let (steps, ended) = run.run(input, limit);
     let refused = |number| Answer { steps, outcome: Err(Refusal { number, record: 0 }) };
     if let Err(number) = ended {
@@ -214,6 +243,7 @@ fn eliminate_into(words: &[u32], work: usize, out: &mut [u32], limit: u32) -> An
     Answer { steps, outcome: Ok(run.systems.len() as u32) }
 }
 
+/// Writes records one after another.
 struct Writer<'a> {
     out: &'a mut [u32],
     next: usize,
@@ -227,22 +257,23 @@ impl Writer<'_> {
         at
     }
 
+    /// Lets word j of a record lead to the next one.
     fn link(&mut self, at: usize, j: usize) {
         self.out[4 * at + j] = self.next as u32;
     }
 
-    fn chain(&mut self, from: usize, j: usize, list: &[Shared]) {
-        let (mut at, mut word) = (from, j);
+    /// The heads, each followed by its terms, as a chain from word j of a record.
+    fn chain(&mut self, mut at: usize, mut j: usize, list: &[Shared]) {
         for f in list {
-            self.link(at, word);
+            self.link(at, j);
             let head = self.record([0; 4]);
-            let (mut last, mut word_of_last) = (head, 0);
-            for (&c, &m) in f.poly.c.iter().zip(&f.poly.m) {
-                self.link(last, word_of_last);
+            let (mut last, mut word) = (head, 0);
+            for (c, m) in f.poly.terms() {
+                self.link(last, word);
                 last = self.record([c, (m >> 32) as u32, m as u32, 0]);
-                word_of_last = 3;
+                word = 3;
             }
-            (at, word) = (head, 3);
+            (at, j) = (head, 3);
         }
     }
 }

@@ -27,6 +27,13 @@ pub struct System {
     pub u: Vec<Poly>,
 }
 
+#[derive(Clone, Debug, PartialEq, Eq)]
+pub struct List {
+    pub p: u32,
+    pub n: u32,
+    pub systems: Vec<System>,
+}
+
 struct Reader<'a> {
     words: &'a [u32],
     p: u32,
@@ -47,6 +54,7 @@ impl Reader<'_> {
         Ok(i)
     }
 
+    /// The polynomial of a head.
     fn head(&self, head: usize) -> Result<Poly, Refusal> {
         if self.word(head, 1) != 0 || self.word(head, 2) != 0 {
             return refuse(5, head);
@@ -74,6 +82,7 @@ impl Reader<'_> {
         Ok(f)
     }
 
+    /// The polynomials on the chain from word j of `at`; with leading variables that rise, if asked.
     fn chain(&self, at: usize, j: usize, rising: bool) -> Result<Vec<Poly>, Refusal> {
         let mut fs: Vec<Poly> = Vec::new();
         let mut last = 0;
@@ -93,6 +102,7 @@ impl Reader<'_> {
     }
 }
 
+/// The first record, which tables and lists share.
 fn header(words: &[u32]) -> Result<Reader<'_>, Refusal> {
     if words.len() % 4 != 0 || words.is_empty() || words.len() > 4 * 65536 {
         return refuse(1, 0);
@@ -114,7 +124,7 @@ pub fn read(words: &[u32]) -> Result<Input, Refusal> {
     Ok(Input { p: r.p, n: r.n, zeros, nonzeros })
 }
 
-pub fn read_list(words: &[u32]) -> Result<(u32, u32, Vec<System>), Refusal> {
+pub fn read_list(words: &[u32]) -> Result<List, Refusal> {
     let r = header(words)?;
     let mut systems = Vec::new();
     let mut i = r.follow(0, 2)?;
@@ -130,7 +140,7 @@ pub fn read_list(words: &[u32]) -> Result<(u32, u32, Vec<System>), Refusal> {
     if systems.len() as u32 != words[3] {
         return refuse(15, 0);
     }
-    Ok((r.p, r.n, systems))
+    Ok(List { p: r.p, n: r.n, systems })
 }
 
 fn test_point(p: u32, n: u32, point: &[u32]) -> Result<(), Refusal> {
@@ -151,8 +161,8 @@ pub fn try_table(words: &[u32], point: &[u32]) -> Result<bool, Refusal> {
 }
 
 pub fn try_list(words: &[u32], point: &[u32]) -> Result<u32, Refusal> {
-    let (p, n, systems) = read_list(words)?;
-    test_point(p, n, point)?;
-    let place = systems.iter().position(|s| solves(p, &s.t, &s.u, point));
+    let list = read_list(words)?;
+    test_point(list.p, list.n, point)?;
+    let place = list.systems.iter().position(|s| solves(list.p, &s.t, &s.u, point));
     Ok(place.map_or(0, |i| i as u32 + 1))
 }

@@ -35,10 +35,7 @@ fn digit_sum(mut j: u64, base: u64) -> u64 {
 
 /// The monomials of top, top − gap, .. in the base; the coefficient is c where the exponents have an odd sum, else 1.
 fn regular(top: u64, gap: u64, base: u64, c: u64) -> Vec<u64> {
-    (0..=top / gap)
-        .map(|i| top - i * gap)
-        .flat_map(|j| [if digit_sum(j, base) % 2 == 1 { c } else { 1 }, monomial(j, base, 1)])
-        .collect()
+    (0..=top / gap).map(|i| top - i * gap).flat_map(|j| [if digit_sum(j, base) % 2 == 1 { c } else { 1 }, monomial(j, base, 1)]).collect()
 }
 
 /// What random operands are made of: digits in a base, with so many places in all, each digit times the scale.
@@ -104,12 +101,11 @@ fn read(p: u64, words: &[u64]) -> Option<Poly> {
 }
 
 fn print(tag: &str, f: &Poly) {
-    let terms = f.c.iter().zip(&f.m);
     if f.len() <= 6 {
-        let listed: String = terms.map(|(c, m)| format!(" {c}:{m:x}")).collect();
+        let listed: String = f.terms().map(|(c, m)| format!(" {c}:{m:x}")).collect();
         println!("{tag} {}{listed}", f.len());
     } else {
-        let sum = terms.flat_map(|(&c, &m)| [c as u64, m]).fold(0, |h, w| (h * 1000003 + w % 2147483647) % 2147483647);
+        let sum = f.terms().flat_map(|(c, m)| [c as u64, m]).fold(0, |h, w| (h * 1000003 + w % 2147483647) % 2147483647);
         println!("{tag} {} #{sum}", f.len());
     }
 }

@@ -1,10 +1,10 @@
 //! Products and differences at 255 and 256: what is tested in a division, in which order, and what is not.
 
 use crate::fixed::{job, Jobs};
-use crate::layout;
-use crate::systems::{gathered, power};
+use crate::systems::gathered;
 use crate::text::polynomial;
 use crate::Job;
+use reference::jobs::{power, straight};
 use reference::poly::{product, Poly};
 use reference::table::Input;
 
@@ -23,13 +23,12 @@ fn times(f: &Poly, g: &Poly) -> Poly {
 }
 
 fn plus(f: &Poly, g: &Poly) -> Poly {
-    let terms = |f: &Poly| f.c.iter().copied().zip(f.m.iter().copied()).collect::<Vec<_>>();
-    gathered(7, [terms(f), terms(g)].concat())
+    gathered(7, f.terms().chain(g.terms()).collect())
 }
 
 fn with(zeros: Vec<Poly>, nonzeros: Vec<Poly>) -> Job {
     let input = Input { p: 7, n: 3, zeros, nonzeros };
-    Job { work: 16384, output: 4, ..job(layout::straight(&input)) }
+    Job { work: 16384, output: 4, ..job(straight(&input)) }
 }
 
 /// Refused inside a step, or for the output, which has one record: room for a list of no systems.
@@ -45,7 +44,7 @@ fn degrees(jobs: &mut Jobs) {
             // With 200 and 55 in two terms: their bits together are more than the degree.
             for first in [led(200), plus(&led(200), &gathered(7, vec![(1, power(k, 55) | power(8, 1))]))] {
                 let input = Input { p: 7, n: 8, zeros: vec![first, led(e)], nonzeros: vec![] };
-                jobs.stated(Job { output: 4, ..job(layout::straight(&input)) }, (number, 0), steps);
+                jobs.stated(Job { output: 4, ..job(straight(&input)) }, (number, 0), steps);
             }
         }
     }
@@ -56,7 +55,7 @@ fn degrees(jobs: &mut Jobs) {
     // Every exponent 255: no product is formed.
     let all = gathered(7, vec![(1, u64::MAX), (1, 0)]);
     let input = Input { p: 7, n: 8, zeros: vec![all], nonzeros: vec![] };
-    jobs.stated(Job { output: 28, ..job(layout::straight(&input)) }, (0, 1), 4);
+    jobs.stated(Job { output: 28, ..job(straight(&input)) }, (0, 1), 4);
 }
 
 /// Terms: of the initial times the dividend, of the other product, of the difference.

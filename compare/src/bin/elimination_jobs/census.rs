@@ -57,6 +57,17 @@ impl Census {
     }
 }
 
+/// Prints the census of some jobs, and fails if a refusal is missing.
+pub fn print(jobs: impl Iterator<Item = Job>) {
+    let mut census = Census::default();
+    jobs.for_each(|job| census.count(&job, &job.answer()));
+    census.print();
+    if !census.missing().is_empty() {
+        eprintln!("these refusals do not occur: {:?}", census.missing());
+        std::process::exit(1);
+    }
+}
+
 #[cfg(test)]
 mod tests {
     use super::*;

@@ -4,8 +4,8 @@ use crate::layout;
 use crate::measure;
 use crate::random::fill;
 use crate::systems;
-use crate::{batches, Job};
-use reference::jobs::damage;
+use crate::Job;
+use reference::jobs::{batches, damaged};
 use reference::poly::Poly;
 use reference::rng::Rng;
 
@@ -44,9 +44,7 @@ fn everywhere(rng: &mut Rng, table: &[u32], point: &[u32], jobs: &mut Vec<Job>) 
 
 /// As many terms as a polynomial may have, or some more or less.
 fn long(rng: &mut Rng) -> Poly {
-    let mut f = Poly::default();
-    (0..252 + rng.below(9) as u64).rev().for_each(|m| f.push(1, m));
-    f
+    (0..252 + rng.below(9) as u64).rev().map(|m| (1, m)).collect()
 }
 
 fn batch(rng: &mut Rng) -> Vec<Job> {
@@ -55,16 +53,15 @@ fn batch(rng: &mut Rng) -> Vec<Job> {
         let list = if rng.one_in(2) { &mut input.zeros } else { &mut input.nonzeros };
         list.push(long(rng));
     }
-    let table = if rng.one_in(2) { layout::shared(&input, rng) } else { layout::straight(&input) };
+    let table = layout::shared_one_in(2, &input, rng);
     let point = rng.point(input.p, input.n);
     let mut jobs = vec![job(rng, table.clone(), &point)];
     if table.len() < 80 && rng.one_in(60) {
         everywhere(rng, &table, &point, &mut jobs);
     }
     for _ in 0..8 {
-        let mut damaged = table.clone();
-        (0..rng.pick(&[1, 1, 1, 2, 3])).for_each(|_| damage(rng, &mut damaged));
-        jobs.push(job(rng, damaged, &point));
+        let table = damaged(rng, &table);
+        jobs.push(job(rng, table, &point));
     }
     jobs
 }

@@ -1,28 +1,17 @@
 //! Document 01's jobs, every refusal, and the order of the causes, each with the answer that document 01 gives.
 
-use crate::{bounds, Job, Outcome};
-use reference::jobs::{all_points, table, Term};
+use crate::{bounds, rules, Job};
+use reference::jobs::{all_points, edited, table, with_terms, Outcome, Term, INPUT};
 
 /// Modulo 7: v1 v2 + 6.
-const PAIR: &[Term] = &[(1, &[1, 1]), (6, &[])];
+pub const PAIR: &[Term] = &[(1, &[1, 1]), (6, &[])];
 
 /// The job that document 01 prints: P = v1 v2 + 6 modulo 7, and its list.
 const PRINTED: [u32; 16] = [7, 2, 1, 0, 2, 0, 0, 0, 1, 0, 257, 3, 6, 0, 0, 0];
-const PRINTED_LIST: [u32; 28] = [7, 2, 1, 1, 2, 5, 0, 0, 3, 0, 0, 0, 1, 0, 257, 4, 6, 0, 0, 0, 6, 0, 0, 0, 1, 0, 1, 0];
+const PRINTED_LIST: &str = "7 2 1 1, 2 5 0 0, 3 0 0 0, 1 0 257 4, 6 0 0 0, 6 0 0 0, 1 0 1 0";
 
-/// Modulo 7, two variables: P = v1 v2 + 6, 2 v1^2 + 3 v1; Q = v1 + 4.
-const INPUT: [[u32; 4]; 10] = [
-    [7, 2, 1, 7],
-    [2, 0, 0, 4],
-    [1, 0, 257, 3],
-    [6, 0, 0, 0],
-    [5, 0, 0, 0],
-    [2, 0, 2, 6],
-    [3, 0, 1, 0],
-    [8, 0, 0, 0],
-    [1, 0, 1, 9],
-    [4, 0, 0, 0],
-];
+/// The list of no systems modulo 7 in two variables.
+pub const NOTHING: &str = "7 2 0 0";
 
 #[derive(Default)]
 pub struct Jobs(pub Vec<Job>);
@@ -30,6 +19,11 @@ pub struct Jobs(pub Vec<Job>);
 /// A job with room for 63 records, an output of 20, and a limit of 100 steps.
 pub fn job(table: Vec<u32>) -> Job {
     Job { limit: 100, work: 256, output: 80, fill: 9, list: 0, table, points: Vec::new() }
+}
+
+/// The words of records written as text.
+fn records(text: &str) -> Vec<u32> {
+    text.replace(',', " ").split_whitespace().map(|word| word.parse().unwrap()).collect()
 }
 
 impl Jobs {
@@ -47,162 +41,93 @@ impl Jobs {
         self.stated(Job { points: vec![vec![2, 4]], ..job(table) }, (number, record), 0);
     }
 
-    /// A job with the list as stated, in an output of a record more, and every point of a small field tried against both.
-    fn listed(&mut self, table: Vec<u32>, list: &[u32], steps: u32) -> usize {
+    /// A job with the list as stated, in an output of a record more, and every point of a small field tried against both: so many solve it.
+    pub fn listed(&mut self, table: Vec<u32>, list: &str, steps: u32, solutions: usize) {
+        let list = records(list);
         let points = all_points(list[0], list[1], 400);
         let job = Job { output: list.len() + 4, list: list.len(), points, ..job(table) };
         let answer = job.answer();
-        assert_eq!(answer.output[..list.len()], *list);
+        assert_eq!(answer.output[..list.len()], list);
         assert_eq!(answer.output[list.len()..], [9; 4]);
         let solved = answer.points.iter().filter(|(_, (_, place))| *place > 0).count();
+        assert_eq!(solved, solutions, "table {:?}", job.table);
         self.stated(job, (0, list[3]), steps);
-        solved
     }
 }
 
-/// The table of jobs in document 01, in its order.
-fn document(jobs: &mut Jobs) {
+/// The starred jobs of document 01's table, in its order.
+fn starred(jobs: &mut Jobs) {
     let empty = || table(7, 2, &[], &[]);
-    assert_eq!(jobs.listed(empty(), &[7, 2, 1, 1, 0, 0, 0, 0], 1), 49);
+    let pair = || job(table(7, 2, &[PAIR], &[]));
+    jobs.listed(empty(), "7 2 1 1, 0 0 0 0", 1, 49);
     jobs.stated(Job { limit: 0, ..job(empty()) }, (12, 0), 0);
-    assert_eq!(jobs.listed(table(7, 2, &[&[(3, &[])]], &[]), &[7, 2, 0, 0], 1), 0);
-    assert_eq!(jobs.listed(table(7, 2, &[], &[&[]]), &[7, 2, 0, 0], 1), 0);
-    assert_eq!(jobs.listed(table(7, 2, &[&[(1, &[1])]], &[&[(1, &[1])]]), &[7, 2, 0, 0], 2), 0);
-    assert_eq!(jobs.listed(table(7, 2, &[PAIR], &[]), &PRINTED_LIST, 4), 6);
-    jobs.stated(Job { work: 4 * 11, ..job(table(7, 2, &[PAIR], &[])) }, (11, 0), 0);
-    jobs.stated(Job { work: 4 * 12, output: 28, ..job(table(7, 2, &[PAIR], &[])) }, (0, 1), 4);
+    jobs.listed(table(7, 2, &[&[(3, &[])]], &[]), NOTHING, 1, 0);
+    jobs.listed(table(7, 2, &[], &[&[]]), NOTHING, 1, 0);
+    jobs.listed(table(7, 2, &[&[(1, &[1])]], &[&[(1, &[1])]]), NOTHING, 2, 0);
+    jobs.listed(pair().table, PRINTED_LIST, 4, 6);
+    jobs.stated(Job { work: 4 * 11, ..pair() }, (11, 0), 0);
+    jobs.stated(Job { work: 4 * 12, output: 28, ..pair() }, (0, 1), 4);
     let two = table(7, 1, &[&[(1, &[2]), (6, &[])], &[(1, &[2]), (1, &[1]), (5, &[])]], &[]);
-    assert_eq!(jobs.listed(two, &[7, 1, 1, 1, 2, 0, 0, 0, 3, 0, 0, 0, 1, 0, 1, 4, 6, 0, 0, 0], 4), 1);
-    let list = [2, 1, 1, 1, 2, 0, 0, 0, 3, 0, 0, 0, 1, 0, 2, 4, 1, 0, 1, 5, 1, 0, 0, 0];
-    assert_eq!(jobs.listed(table(2, 1, &[&[(1, &[2]), (1, &[1]), (1, &[])]], &[]), &list, 2), 0);
+    jobs.listed(two, "7 1 1 1, 2 0 0 0, 3 0 0 0, 1 0 1 4, 6 0 0 0", 4, 1);
+    let no_point = table(2, 1, &[&[(1, &[2]), (1, &[1]), (1, &[])]], &[]);
+    jobs.listed(no_point, "2 1 1 1, 2 0 0 0, 3 0 0 0, 1 0 2 4, 1 0 1 5, 1 0 0 0", 2, 0);
+}
+
+/// The others, and the printed job with the areas and the limit of the program.
+fn unstarred(jobs: &mut Jobs) {
     let three: [&[Term]; 3] = [&[(1, &[2]), (6, &[1])], PAIR, &[(1, &[1, 0, 1]), (6, &[0, 0, 1]), (1, &[0, 1])]];
-    let list = [
-        [7, 3, 1, 1],
-        [2, 12, 0, 0],
-        [3, 0, 0, 5],
-        [1, 0, 2, 4],
-        [6, 0, 1, 0],
-        [6, 0, 0, 8],
-        [1, 0, 257, 7],
-        [6, 0, 0, 0],
-        [9, 0, 0, 0],
-        [1, 0, 65537, 10],
-        [6, 0, 65536, 11],
-        [1, 0, 256, 0],
-        [13, 0, 0, 15],
-        [1, 0, 1, 14],
-        [6, 0, 0, 0],
-        [16, 0, 0, 0],
-        [1, 0, 1, 0],
-    ];
-    assert_eq!(jobs.listed(table(7, 3, &three, &[]), &list.concat(), 9), 0);
+    let list = "7 3 1 1, 2 12 0 0, 3 0 0 5, 1 0 2 4, 6 0 1 0, 6 0 0 8, 1 0 257 7, 6 0 0 0, 9 0 0 0, 1 0 65537 10, 6 0 65536 11, 1 0 256 0,
+        13 0 0 15, 1 0 1 14, 6 0 0 0, 16 0 0 0, 1 0 1 0";
+    jobs.listed(table(7, 3, &three, &[]), list, 9, 0);
     let high = |e: u32| table(7, 2, &[&[(1, &[200, 1]), (1, &[])], &[(1, &[e, 1]), (1, &[])]], &[]);
-    let list = [
-        [7, 2, 1, 1],
-        [2, 8, 0, 0],
-        [3, 0, 0, 5],
-        [1, 0, 200, 4],
-        [6, 0, 55, 0],
-        [6, 0, 0, 0],
-        [1, 0, 256 + 200, 7],
-        [1, 0, 0, 0],
-        [9, 0, 0, 0],
-        [1, 0, 55, 0],
-    ];
-    jobs.listed(high(55), &list.concat(), 6);
+    let list = "7 2 1 1, 2 8 0 0, 3 0 0 5, 1 0 200 4, 6 0 55 0, 6 0 0 0, 1 0 456 7, 1 0 0 0, 9 0 0 0, 1 0 55 0";
+    jobs.listed(high(55), list, 6, 1);
     jobs.stated(job(high(56)), (10, 0), 1);
     for p in [1, 9, 2147483648] {
         jobs.refused(table(p, 2, &[], &[]), 2, 0);
     }
-    jobs.listed(table(2, 2, &[], &[]), &[2, 2, 1, 1, 0, 0, 0, 0], 1);
-    jobs.listed(table(2147483647, 2, &[], &[]), &[2147483647, 2, 1, 1, 0, 0, 0, 0], 1);
-    // The floor program's areas and limit.
-    let floor = Job { limit: 100_000, work: 16384, output: 16384, fill: 0, list: 28, ..job(PRINTED.to_vec()) };
-    assert_eq!(floor.answer().output[..28], PRINTED_LIST);
-    jobs.stated(floor, (0, 1), 4);
-}
-
-/// The choices that the rules leave to ties, orders and puts, worked out by hand.
-fn rules(jobs: &mut Jobs) {
-    // The pivot is v2 + 1, of two terms: v2^2 + 1 leaves 2, and the branch is dropped.
-    let shortest: [&[Term]; 3] = [&[(1, &[0, 2]), (1, &[])], &[(1, &[0, 1]), (1, &[1]), (1, &[])], &[(1, &[0, 1]), (1, &[])]];
-    jobs.listed(table(7, 2, &shortest, &[]), &[7, 2, 0, 0], 2);
-    // The pivot is the earlier one, v2 + v1: the other leaves 6 v1 + 1.
-    let earliest: [&[Term]; 2] = [&[(1, &[0, 1]), (1, &[1])], &[(1, &[0, 1]), (1, &[])]];
-    let list = [[7, 2, 1, 1], [2, 0, 0, 0], [3, 0, 0, 5], [1, 0, 1, 4], [6, 0, 0, 0], [6, 0, 0, 0], [1, 0, 256, 7], [1, 0, 1, 0]];
-    assert_eq!(jobs.listed(table(7, 2, &earliest, &[]), &list.concat(), 4), 1);
-    // v1 v2 + v1: the initial and the rest are equal in the branch set aside, which is listed second.
-    let list = [
-        [7, 2, 1, 2],
-        [2, 5, 0, 7],
-        [3, 0, 0, 0],
-        [1, 0, 257, 4],
-        [1, 0, 1, 0],
-        [6, 0, 0, 0],
-        [1, 0, 1, 0],
-        [8, 0, 0, 0],
-        [9, 0, 0, 0],
-        [1, 0, 1, 0],
-    ];
-    assert_eq!(jobs.listed(table(7, 2, &[&[(1, &[1, 1]), (1, &[1])]], &[]), &list.concat(), 5), 13);
-    // By v2 + v1^2 both of Q, v2 + 1 and 3 v2 + 2 v1^2 + 1, leave 6 v1^2 + 1: U has it once, and monic.
-    let parabola: &[Term] = &[(1, &[0, 1]), (1, &[2])];
-    let twice: [&[Term]; 2] = [&[(1, &[0, 1]), (1, &[])], &[(3, &[0, 1]), (2, &[2]), (1, &[])]];
-    let list = [[7, 2, 1, 1], [2, 5, 0, 0], [3, 0, 0, 0], [1, 0, 256, 4], [1, 0, 2, 0], [6, 0, 0, 0], [1, 0, 2, 7], [6, 0, 0, 0]];
-    assert_eq!(jobs.listed(table(7, 2, &[parabola], &twice), &list.concat(), 2), 5);
-    // A number that a division leaves in Q is dropped, zero drops the branch.
-    let list = [[7, 2, 1, 1], [2, 0, 0, 0], [3, 0, 0, 0], [1, 0, 256, 4], [1, 0, 2, 0]];
-    assert_eq!(jobs.listed(table(7, 2, &[parabola], &[&[(2, &[0, 1]), (2, &[2]), (3, &[])]]), &list.concat(), 2), 7);
-    jobs.listed(table(7, 2, &[parabola], &[&[(2, &[0, 1]), (2, &[2])]]), &[7, 2, 0, 0], 2);
-    // A split with T = v3 + 1: 7 records, then v1 in Q, then a branch with v1, 1 and T.
-    let copied = Job { output: 60, ..job(table(7, 3, &[&[(1, &[0, 0, 1]), (1, &[])], PAIR], &[])) };
-    for (room, outcome, steps) in [(16, (11, 0), 1), (17, (0, 1), 5)] {
-        jobs.stated(Job { work: 4 * (room + 1), ..copied.clone() }, outcome, steps);
-    }
+    jobs.listed(table(2, 2, &[], &[]), "2 2 1 1, 0 0 0 0", 1, 4);
+    jobs.listed(table(2147483647, 2, &[], &[]), "2147483647 2 1 1, 0 0 0 0", 1, 0);
+    let of_program = Job { limit: 100_000, work: 16384, output: 16384, fill: 0, list: 28, ..job(PRINTED.to_vec()) };
+    assert_eq!(of_program.answer().output[..28], records(PRINTED_LIST));
+    jobs.stated(of_program, (0, 1), 4);
 }
 
 /// 1 to 9 while the table is read, with their records.
 fn reading(jobs: &mut Jobs) {
-    let edited = |edits: &[(usize, usize, u32)]| {
-        let mut records = INPUT;
-        edits.iter().for_each(|&(record, word, value)| records[record][word] = value);
-        records.concat()
-    };
-    jobs.stated(job(edited(&[])), (0, 1), 5);
+    jobs.stated(job(INPUT.concat()), (0, 1), 5);
     for words in [0, 1, 3, 5, 7, 39] {
         jobs.refused(INPUT.concat()[..words].to_vec(), 1, 0);
     }
     for p in [0, 4, 49, 2147483646, 2147483649, u32::MAX] {
-        jobs.refused(edited(&[(0, 0, p)]), 2, 0);
+        jobs.refused(edited(&INPUT, &[(0, 0, p)]), 2, 0);
     }
     for n in [0, 9, u32::MAX] {
-        jobs.refused(edited(&[(0, 1, n)]), 3, 0);
+        jobs.refused(edited(&INPUT, &[(0, 1, n)]), 3, 0);
     }
     for (record, word) in [(0, 2), (0, 3), (1, 0), (1, 3), (3, 3), (9, 3)] {
-        jobs.refused(edited(&[(record, word, 10)]), 4, record as u32);
-        jobs.refused(edited(&[(record, word, u32::MAX)]), 4, record as u32);
+        jobs.refused(edited(&INPUT, &[(record, word, 10)]), 4, record as u32);
+        jobs.refused(edited(&INPUT, &[(record, word, u32::MAX)]), 4, record as u32);
     }
     for record in [1, 4, 7] {
-        jobs.refused(edited(&[(record, 0, record as u32)]), 4, record as u32);
-        jobs.refused(edited(&[(record, 1, 1)]), 5, record as u32);
-        jobs.refused(edited(&[(record, 2, 1)]), 5, record as u32);
+        jobs.refused(edited(&INPUT, &[(record, 0, record as u32)]), 4, record as u32);
+        jobs.refused(edited(&INPUT, &[(record, 1, 1)]), 5, record as u32);
+        jobs.refused(edited(&INPUT, &[(record, 2, 1)]), 5, record as u32);
     }
     for record in [2, 3, 5, 6, 8, 9] {
-        jobs.refused(edited(&[(record, 0, 0)]), 6, record as u32);
-        jobs.refused(edited(&[(record, 0, 7)]), 6, record as u32);
-        jobs.refused(edited(&[(record, 1, 1)]), 7, record as u32);
-        jobs.refused(edited(&[(record, 2, 1 << 16)]), 7, record as u32);
+        jobs.refused(edited(&INPUT, &[(record, 0, 0)]), 6, record as u32);
+        jobs.refused(edited(&INPUT, &[(record, 0, 7)]), 6, record as u32);
+        jobs.refused(edited(&INPUT, &[(record, 1, 1)]), 7, record as u32);
+        jobs.refused(edited(&INPUT, &[(record, 2, 1 << 16)]), 7, record as u32);
     }
     for (record, before) in [(3, 257), (6, 2), (9, 1)] {
-        jobs.refused(edited(&[(record, 2, before)]), 8, record as u32);
+        jobs.refused(edited(&INPUT, &[(record, 2, before)]), 8, record as u32);
     }
-    let mut long = vec![[7, 2, 1, 0], [2, 0, 0, 0]];
-    long.extend((0..257).map(|i| [1, 0, 256 - i, if i < 256 { i + 3 } else { 0 }]));
-    jobs.refused(long.concat(), 9, 258);
-    long[0] = [7, 2, 0, 1];
-    jobs.refused(long.concat(), 9, 258);
-    long[258] = [0, 1, 256, 258];
-    jobs.refused(long.concat(), 9, 258);
+    for header in [[7, 2, 1, 0], [7, 2, 0, 1]] {
+        let long = with_terms(&[header, [2, 0, 0, 0]], 257);
+        jobs.refused(long.concat(), 9, 258);
+        jobs.refused(edited(&long, &[(258, 0, 0), (258, 1, 1), (258, 2, 256), (258, 3, 258)]), 9, 258);
+    }
 }
 
 /// 14 and 15, and what else a list can be refused for: the output of a refused call, or too little of a list.
@@ -251,11 +176,8 @@ fn order(jobs: &mut Jobs) {
 
 pub fn jobs() -> Vec<Job> {
     let mut jobs = Jobs::default();
-    document(&mut jobs);
-    rules(&mut jobs);
-    reading(&mut jobs);
-    points(&mut jobs);
-    order(&mut jobs);
-    bounds::jobs(&mut jobs);
+    for part in [starred, unstarred, rules::jobs, reading, points, order, bounds::jobs] {
+        part(&mut jobs);
+    }
     jobs.0
 }

@@ -3,8 +3,9 @@
 use crate::layout;
 use crate::measure::{self, Measure};
 use crate::random::fill;
-use crate::systems::{gathered, power};
+use crate::systems::gathered;
 use crate::Job;
+use reference::jobs::{power, straight};
 use reference::poly::{product, Poly};
 use reference::rng::Rng;
 use reference::table::Input;
@@ -68,7 +69,7 @@ pub fn jobs() -> Vec<Job> {
     }
     let mut jobs = Vec::new();
     for input in inputs {
-        let table = layout::straight(&input);
+        let table = straight(&input);
         let measure = measure::measured(&table, 8191, LIMIT);
         if measure.steps >= 100 && measure.outcome.0 != 11 {
             around(&mut rng, table, &measure, &mut jobs);

@@ -1,39 +1,18 @@
-//! Inputs as tables: straight, or with records that are shared, that nothing leads to, and that stand in another order.
+//! Inputs as tables with records that are shared, that nothing leads to, and that stand in another order.
 
+use reference::jobs::{straight, term, Backwards, Record};
 use reference::poly::Poly;
 use reference::rng::Rng;
 use reference::table::Input;
 use std::collections::HashMap;
 
-/// The header, then P's heads and Q's, each followed by its terms.
-pub fn straight(input: &Input) -> Vec<u32> {
-    let mut words = vec![input.p, input.n, 0, 0];
-    for (mut link, list) in [(2, &input.zeros), (3, &input.nonzeros)] {
-        for f in list {
-            let head = words.len();
-            words[link] = head as u32 / 4;
-            words.extend([0; 4]);
-            link = head;
-            for (&c, &m) in f.c.iter().zip(&f.m) {
-                words[link] = words.len() as u32 / 4;
-                link = words.len() + 3;
-                words.extend([c, (m >> 32) as u32, m as u32, 0]);
-            }
-            link = head + 3;
-        }
-    }
-    words
-}
-
-/// Records from the last to the first: a link is one more than the place of the record that it leads to, counted from the end.
 #[derive(Default)]
 struct Maker<'a> {
     /// Without it all equal records are shared, and there is no junk.
     rng: Option<&'a mut Rng>,
-    records: Vec<[u32; 4]>,
-    links: Vec<(usize, usize)>,
+    records: Backwards,
     /// By words and by how many of them are links.
-    made: HashMap<([u32; 4], usize), u32>,
+    made: HashMap<(Record, usize), u32>,
 }
 
 impl Maker<'_> {
@@ -42,26 +21,22 @@ impl Maker<'_> {
     }
 
     /// The record's link: mostly of an equal one, if there is one.
-    fn record(&mut self, words: [u32; 4], links: &[usize]) -> u32 {
+    fn record(&mut self, words: Record, links: &[usize]) -> u32 {
         if let Some(&link) = self.made.get(&(words, links.len())) {
             if !self.one_in(4) {
                 return link;
             }
         }
         if self.one_in(10) {
-            let rng = self.rng.as_mut().unwrap();
-            self.records.push([rng.next() as u32, rng.below(3), rng.below(2), rng.below(20)]);
+            self.records.junk(self.rng.as_mut().unwrap());
         }
-        self.links.extend(links.iter().map(|&j| (self.records.len(), j)));
-        self.records.push(words);
-        let link = self.records.len() as u32;
+        let link = self.records.record(words, links);
         self.made.insert((words, links.len()), link);
         link
     }
 
     fn polynomial(&mut self, f: &Poly, next: u32) -> u32 {
-        let terms = f.c.iter().zip(&f.m).rev();
-        let first = terms.fold(0, |next, (&c, &m)| self.record([c, (m >> 32) as u32, m as u32, next], &[3]));
+        let first = f.terms().rev().fold(0, |next, (c, m)| self.record(term(c, m, next), &[3]));
         self.record([first, 0, 0, next], &[0, 3])
     }
 
@@ -72,14 +47,8 @@ impl Maker<'_> {
     fn table(mut self, input: &Input) -> Vec<u32> {
         let nonzeros = self.chain(&input.nonzeros);
         let zeros = self.chain(&input.zeros);
-        self.links.extend([2, 3].map(|j| (self.records.len(), j)));
-        self.records.push([input.p, input.n, zeros, nonzeros]);
-        let count = self.records.len() as u32;
-        for (i, j) in self.links {
-            let link = &mut self.records[i][j];
-            *link = if *link == 0 { 0 } else { count - *link };
-        }
-        self.records.into_iter().rev().flatten().collect()
+        self.records.record([input.p, input.n, zeros, nonzeros], &[2, 3]);
+        self.records.words()
     }
 }
 
@@ -88,6 +57,15 @@ pub fn shared(input: &Input, rng: &mut Rng) -> Vec<u32> {
     let mut words = Maker { rng: Some(rng), ..Maker::default() }.table(input);
     (0..4 * rng.pick(&[0, 0, 1, 2])).for_each(|_| words.push(rng.below(9)));
     words
+}
+
+/// Shared for one in n, else straight.
+pub fn shared_one_in(n: u32, input: &Input, rng: &mut Rng) -> Vec<u32> {
+    if rng.one_in(n) {
+        shared(input, rng)
+    } else {
+        straight(input)
+    }
 }
 
 /// The fewest records: all equal ends are shared.

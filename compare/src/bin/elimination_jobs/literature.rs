@@ -1,11 +1,10 @@
 //! Systems from the papers that document 01 builds on, others that are well known, and linkages, each under several primes.
 
-use crate::layout;
 use crate::measure;
 use crate::rooms;
 use crate::text::polynomial;
 use crate::Job;
-use reference::jobs::all_points;
+use reference::jobs::{all_points, straight};
 use reference::rng::Rng;
 use reference::table::Input;
 
@@ -275,7 +274,7 @@ impl System {
 
     fn job(&self, p: u32, rng: &mut Rng) -> Job {
         let input = self.input(p);
-        let table = layout::straight(&input);
+        let table = straight(&input);
         // The first of these rooms that is enough; the last is.
         let rooms = [63, 255, 1023, 4095, 16383, 65535];
         let mut tried = rooms.into_iter().map(|room| (room, measure::measured(&table, room, LIMIT)));
@@ -298,7 +297,7 @@ pub fn jobs() -> Vec<Job> {
         jobs.extend(PRIMES.map(|p| system.job(p, &mut rng)));
         let input = system.input(32003);
         let point = system.point(&input, &mut rng);
-        jobs.extend(rooms::around(&mut rng, layout::straight(&input), point));
+        jobs.extend(rooms::around(&mut rng, straight(&input), point));
     }
     jobs
 }

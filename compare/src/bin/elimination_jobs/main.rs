@@ -20,13 +20,15 @@ mod naive;
 mod points;
 mod random;
 mod rooms;
+mod rules;
 mod systems;
 mod text;
+mod timing;
 
-use reference::rng::Rng;
-use reference::run;
-use reference::table::{self, Refusal};
-use std::io::{self, Read, Write};
+use reference::jobs::{outcome, Outcome};
+use reference::words::{self, counted, with_count};
+use reference::{run, table};
+use std::io::{self, Write};
 
 /// The most words that the program has for the work area and for the output, for a table, and for a point.
 pub const AREA: usize = 262_400;
@@ -44,9 +46,6 @@ pub struct Job {
     pub points: Vec<Vec<u32>>,
 }
 
-/// A call's outcome, 0 or the refusal's number, and its value or the refusal's record.
-pub type Outcome = (u32, u32);
-
 pub struct Answer {
     pub outcome: Outcome,
     pub steps: u32,
@@ -54,13 +53,6 @@ pub struct Answer {
     pub output: Vec<u32>,
     /// For each point the table's outcome and the list's.
     pub points: Vec<(Outcome, Outcome)>,
-}
-
-fn outcome(result: Result<u32, Refusal>) -> Outcome {
-    match result {
-        Ok(value) => (0, value),
-        Err(Refusal { number, record }) => (number, record),
-    }
 }
 
 impl Job {
@@ -82,13 +74,11 @@ impl Job {
         assert!(self.work <= AREA && self.output <= AREA && self.table.len() <= TABLE, "a job is too long for the program");
         let list = if self.points.is_empty() { 0 } else { self.list as u32 };
         words.extend([self.limit, self.work as u32, self.output as u32, self.fill, list]);
-        words.push(self.table.len() as u32);
-        words.extend(&self.table);
+        words.extend(with_count(&self.table));
         words.push(self.points.len() as u32);
         for point in &self.points {
             assert!(point.len() <= POINT, "a point is too long for the program");
-            words.push(point.len() as u32);
-            words.extend(point);
+            words.extend(with_count(point));
         }
     }
 }
@@ -108,31 +98,14 @@ impl Answer {
     }
 }
 
-/// So many jobs from random batches.
-pub fn batches(seed: u32, count: u32, mut batch: impl FnMut(&mut Rng) -> Vec<Job>) -> Vec<Job> {
-    let mut rng = Rng(seed as u64);
-    let mut jobs = Vec::new();
-    while jobs.len() < count as usize {
-        jobs.extend(batch(&mut rng));
-    }
-    jobs.truncate(count as usize);
-    jobs
-}
-
 fn write(jobs: &[Job]) {
-    let mut words = Vec::new();
-    jobs.iter().for_each(|job| job.push_words(&mut words));
-    let bytes: Vec<u8> = words.into_iter().flat_map(u32::to_le_bytes).collect();
-    io::stdout().write_all(&bytes).unwrap();
+    let mut all = Vec::new();
+    jobs.iter().for_each(|job| job.push_words(&mut all));
+    words::write(all);
 }
 
 /// The next job, if one is left that is whole and not too long.
 fn next(words: &mut impl Iterator<Item = u32>) -> Option<Job> {
-    let counted = |words: &mut dyn Iterator<Item = u32>, most: usize| {
-        let count = words.next()? as usize;
-        let taken: Vec<u32> = words.take(count.min(most)).collect();
-        (taken.len() == count).then_some(taken)
-    };
     let (limit, work, output) = (words.next()?, words.next()? as usize, words.next()? as usize);
     let (fill, list) = (words.next()?, words.next()? as usize);
     if work > AREA || output > AREA {
@@ -144,17 +117,13 @@ fn next(words: &mut impl Iterator<Item = u32>) -> Option<Job> {
     Some(Job { limit, work, output, fill, list, table, points })
 }
 
-fn read_jobs(mut use_job: impl FnMut(Job)) {
-    let mut bytes = Vec::new();
-    io::stdin().read_to_end(&mut bytes).unwrap();
-    let mut words = bytes.chunks_exact(4).map(|b| u32::from_le_bytes(b.try_into().unwrap()));
-    while let Some(job) = next(&mut words) {
-        use_job(job);
-    }
+fn read_jobs() -> impl Iterator<Item = Job> {
+    let mut words = words::read();
+    std::iter::from_fn(move || next(&mut words))
 }
 
 /// The jobs that the program is held to by stored files: each kind but the long ones.
-fn stored() -> Vec<Job> {
+pub fn stored() -> Vec<Job> {
     [fixed::jobs(), random::jobs(1, 250), rooms::jobs(8, 100), points::jobs(1, 20), damaged::jobs(8, 60)].concat()
 }
 
@@ -173,17 +142,12 @@ fn main() {
         ["large"] => write(&heavy::large()),
         ["answers"] => {
             let mut out = io::BufWriter::new(io::stdout().lock());
-            read_jobs(|job| job.answer().print(&mut out).unwrap());
+            read_jobs().for_each(|job| job.answer().print(&mut out).unwrap());
         }
-        ["census"] => {
-            let mut census = census::Census::default();
-            read_jobs(|job| census.count(&job, &job.answer()));
-            census.print();
-            if !census.missing().is_empty() {
-                eprintln!("these refusals do not occur: {:?}", census.missing());
-                std::process::exit(1);
-            }
-        }
-        _ => panic!("stored, fixed, random, rooms, points or damaged with SEED COUNT, literature, heavy, large, answers, or census"),
+        ["census"] => census::print(read_jobs()),
+        ["times", program] => timing::print(program),
+        _ => panic!(
+            "stored, fixed, random, rooms, points or damaged with SEED COUNT, literature, heavy, large, answers, census, or times PROGRAM"
+        ),
     }
 }

@@ -1,6 +1,7 @@
 //! What a run needs: found by running it.
 
-use crate::{outcome, Job, Outcome};
+use crate::Job;
+use reference::jobs::{outcome, Outcome};
 use reference::run;
 use reference::table;
 
@@ -18,7 +19,7 @@ pub fn measured(words: &[u32], room: usize, limit: u32) -> Measure {
     let answer = run::eliminate(words, &mut vec![0; 4 * (room + 1)], &mut output, limit);
     let mut list = 0;
     if answer.outcome.is_ok() {
-        let (_, _, systems) = table::read_list(&output).unwrap();
+        let systems = table::read_list(&output).unwrap().systems;
         let polynomials = systems.iter().flat_map(|s| s.t.iter().chain(&s.u));
         list = 1 + systems.len() + polynomials.map(|f| 1 + f.len()).sum::<usize>();
     }

@@ -4,8 +4,8 @@ use crate::layout;
 use crate::measure;
 use crate::random::fill;
 use crate::systems;
-use crate::{batches, Job};
-use reference::jobs::all_points;
+use crate::Job;
+use reference::jobs::{all_points, batches};
 use reference::rng::Rng;
 
 const ROOM: usize = 8191;
@@ -19,7 +19,7 @@ fn batch(rng: &mut Rng) -> Vec<Job> {
         return Vec::new();
     }
     let input = systems::small(rng, p, n);
-    let table = if rng.one_in(2) { layout::shared(&input, rng) } else { layout::straight(&input) };
+    let table = layout::shared_one_in(2, &input, rng);
     let measure = measure::measured(&table, ROOM, LIMIT);
     if measure.outcome.0 != 0 {
         return Vec::new();
@@ -47,13 +47,13 @@ mod tests {
         for job in jobs(1, 600) {
             let answer = job.answer();
             assert_eq!(answer.outcome.0, 0);
-            let (p, _, systems) = table::read_list(&answer.output[..job.list]).unwrap();
+            let list = table::read_list(&answer.output[..job.list]).unwrap();
             for (point, ((a, yes), (b, place))) in job.points.iter().zip(answer.points) {
                 assert_eq!((a, b, yes), (0, 0, (place > 0) as u32));
                 solved += yes;
                 if place > 0 {
-                    let mut initials = systems[place as usize - 1].t.iter().map(|f| f.initial(f.leader() - 1));
-                    assert!(initials.all(|f| f.value(p, point) != 0));
+                    let mut initials = list.systems[place as usize - 1].t.iter().map(|f| f.initial(f.leader() - 1));
+                    assert!(initials.all(|f| f.value(list.p, point) != 0));
                 }
             }
         }

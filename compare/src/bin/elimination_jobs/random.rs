@@ -3,8 +3,8 @@
 use crate::layout;
 use crate::measure::{self, Measure};
 use crate::systems;
-use crate::{batches, Job};
-use reference::jobs::all_points;
+use crate::Job;
+use reference::jobs::{all_points, batches};
 use reference::rng::Rng;
 use reference::table::Input;
 
@@ -18,7 +18,7 @@ pub fn fill(rng: &mut Rng) -> u32 {
         0 => 0,
         1 => u32::MAX,
         2 => rng.pick(&[1, 2, 3, 5, 7, 11]),
-        _ => rng.next() as u32,
+        _ => rng.draw() as u32,
     }
 }
 
@@ -54,7 +54,7 @@ fn varied(rng: &mut Rng, mut job: Job, measure: &Measure, room: usize) -> Job {
 /// The jobs of one input.
 fn batch(rng: &mut Rng) -> Vec<Job> {
     let input = systems::any(rng);
-    let table = if rng.one_in(2) { layout::shared(&input, rng) } else { layout::straight(&input) };
+    let table = layout::shared_one_in(2, &input, rng);
     let measure = measure::measured(&table, ROOM, LIMIT);
     let room = if measure.steps < 300 { measure::least_room(&table, ROOM, LIMIT) } else { ROOM };
     let mut job = measure::roomy(table, measure.steps, room, measure.list);

@@ -4,7 +4,8 @@ use crate::layout;
 use crate::measure::{self, Measure};
 use crate::random::fill;
 use crate::systems;
-use crate::{batches, Job};
+use crate::Job;
+use reference::jobs::batches;
 use reference::rng::Rng;
 
 const ROOM: usize = 4095;
@@ -82,7 +83,7 @@ pub fn around(rng: &mut Rng, table: Vec<u32>, point: Vec<u32>) -> Vec<Job> {
 pub fn jobs(seed: u32, count: u32) -> Vec<Job> {
     batches(seed, count, |rng| {
         let input = systems::any(rng);
-        let table = if rng.one_in(4) { layout::shared(&input, rng) } else { layout::straight(&input) };
+        let table = layout::shared_one_in(4, &input, rng);
         let point = rng.point(input.p, input.n);
         around(rng, table, point)
     })
@@ -91,12 +92,13 @@ pub fn jobs(seed: u32, count: u32) -> Vec<Job> {
 #[cfg(test)]
 mod tests {
     use super::*;
+    use reference::jobs::straight;
 
     #[test]
     fn the_least_room_is_enough_and_one_record_less_is_not() {
         let mut rng = Rng(7);
         for _ in 0..300 {
-            let table = layout::straight(&systems::any(&mut rng));
+            let table = straight(&systems::any(&mut rng));
             let measure = measure::measured(&table, ROOM, LIMIT);
             if measure.outcome.0 == 11 {
                 continue;

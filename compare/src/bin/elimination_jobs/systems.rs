@@ -1,6 +1,7 @@
 //! Random inputs of many kinds: most are small, and each kind makes its own rules of the run work.
 
 use reference::field;
+use reference::jobs::{planted, power};
 use reference::poly::{self, Poly, TERMS};
 use reference::rng::Rng;
 use reference::table::Input;
@@ -16,11 +17,6 @@ pub fn gathered(p: u32, mut terms: Vec<(u32, u64)>) -> Poly {
         }
     }
     f
-}
-
-/// The monomial vk^e.
-pub fn power(k: u32, e: u32) -> u64 {
-    (e as u64) << (8 * (k - 1))
 }
 
 /// Random polynomials in n variables.
@@ -42,9 +38,8 @@ impl Source<'_> {
         1 + self.rng.below(self.n)
     }
 
-    /// Exponents below the bound; about half of them 0.
     fn monomial(&mut self, bound: u32) -> u64 {
-        (0..self.n).fold(0, |m, _| m << 8 | if self.rng.one_in(2) { self.rng.below(bound) as u64 } else { 0 })
+        self.rng.monomial(self.n, bound)
     }
 
     /// At most so many terms, with exponents below the bound.
@@ -81,19 +76,6 @@ impl Source<'_> {
         })
     }
 
-    /// f with another constant, so that it vanishes at the point.
-    fn planted(&self, mut f: Poly, point: &[u32]) -> Poly {
-        if f.m.last() == Some(&0) {
-            f.m.pop();
-            f.c.pop();
-        }
-        let v = f.value(self.p, point);
-        if v != 0 && f.len() < TERMS {
-            f.push(self.p - v, 0);
-        }
-        f
-    }
-
     /// At most so many polynomials.
     fn list(&mut self, most: u32, mut next: impl FnMut(&mut Self) -> Poly) -> Vec<Poly> {
         (0..self.rng.below(most + 1)).map(|_| next(self)).collect()
@@ -114,7 +96,7 @@ impl Source<'_> {
         let zeros = self.several(4, |s| {
             let f = s.sparse(4, bound);
             if s.rng.one_in(2) {
-                s.planted(f, &point)
+                planted(s.p, f, &point)
             } else {
                 f
             }
@@ -234,8 +216,7 @@ impl Source<'_> {
         let long = |s: &mut Self| {
             let most = s.rng.pick(&[20, 60, 300]);
             let mut f = s.sparse(most, bound);
-            f.m.truncate(TERMS);
-            f.c.truncate(TERMS);
+            f.truncate(TERMS);
             f
         };
         let mut zeros = self.list(2, |s| s.sparse(4, 3));
@@ -251,7 +232,7 @@ impl Source<'_> {
         let (p, n) = (self.p, self.n);
         if self.rng.one_in(3) {
             let point = self.rng.point(p, n);
-            zeros = zeros.into_iter().map(|f| self.planted(f, &point)).collect();
+            zeros = zeros.into_iter().map(|f| planted(p, f, &point)).collect();
         }
         let mut input = Input { p, n, zeros, nonzeros };
         if self.rng.one_in(30) {

@@ -1,6 +1,7 @@
 //! Polynomials from text such as `x^2 + 2*y*(z - 1)`: sums of products of numbers, variables and brackets, the last two with powers.
 
-use crate::systems::{gathered, power};
+use crate::systems::gathered;
+use reference::jobs::power;
 use reference::poly::{product, Poly};
 
 struct Text<'a> {
@@ -31,7 +32,7 @@ impl<'a> Text<'a> {
         let mut minus = self.reads('-');
         loop {
             let f = self.product();
-            terms.extend(f.c.iter().zip(&f.m).map(|(&c, &m)| (if minus { self.p - c } else { c }, m)));
+            terms.extend(f.terms().map(|(c, m)| (if minus { self.p - c } else { c }, m)));
             minus = self.reads('-');
             if !minus && !self.reads('+') {
                 return gathered(self.p, terms);

@@ -1,27 +1,10 @@
 //! Every refusal at every place it can come from, and what is accepted, each with the answer that document 01 gives.
 
-use crate::{Answer, Job, LIST, READ, TABLE};
-
-type Record = [u32; 4];
-
-/// A record, one of its words, and what is put there.
-type Edit = (usize, usize, u32);
+use crate::{Job, LIST, READ, TABLE};
+use reference::jobs::{edited, power, term, with_terms, Edit, Outcome, Record, INPUT};
 
 const BIG: u32 = u32::MAX;
 
-/// Modulo 7, two variables: P = v1 v2 + 6, 2 v1^2 + 3 v1; Q = v1 + 4. The one solution is (2, 4).
-const INPUT: [Record; 10] = [
-    [7, 2, 1, 7],
-    [2, 0, 0, 4],
-    [1, 0, 257, 3],
-    [6, 0, 0, 0],
-    [5, 0, 0, 0],
-    [2, 0, 2, 6],
-    [3, 0, 1, 0],
-    [8, 0, 0, 0],
-    [1, 0, 1, 9],
-    [4, 0, 0, 0],
-];
 const INPUT_HEADS: [usize; 3] = [1, 4, 7];
 const INPUT_TERMS: [usize; 6] = [2, 3, 5, 6, 8, 9];
 
@@ -46,36 +29,22 @@ const LISTED_SYSTEMS: [usize; 2] = [1, 11];
 const LISTED_HEADS: [usize; 4] = [2, 5, 8, 12];
 const LISTED_TERMS: [usize; 7] = [3, 4, 6, 7, 9, 10, 13];
 
-fn edited(records: &[Record], edits: &[Edit]) -> Vec<u32> {
-    let mut records = records.to_vec();
-    for &(record, word, value) in edits {
-        records[record][word] = value;
-    }
-    records.concat()
-}
-
-/// The two words of exponents of vk^e.
-fn power(k: u32, e: u32) -> [u32; 2] {
-    let m = (e as u64) << (8 * (k - 1));
-    [(m >> 32) as u32, m as u32]
-}
-
 #[derive(Default)]
-struct Jobs(Vec<(Job, Answer)>);
+struct Jobs(Vec<(Job, Outcome)>);
 
 impl Jobs {
-    fn push(&mut self, kind: u32, table: Vec<u32>, point: &[u32], answer: Answer) {
+    fn push(&mut self, kind: u32, table: Vec<u32>, point: &[u32], answer: Outcome) {
         self.0.push((Job { kind, table, point: point.to_vec() }, answer));
     }
 
     /// A table that reading refuses, read and tried.
-    fn refused(&mut self, table: Vec<u32>, answer: Answer) {
+    fn refused(&mut self, table: Vec<u32>, answer: Outcome) {
         self.push(READ, table.clone(), &[], answer);
         self.push(TABLE, table, &[2, 4], answer);
     }
 
     /// What is refused as a table and as a list.
-    fn refused_both(&mut self, table: &[u32], answer: Answer) {
+    fn refused_both(&mut self, table: &[u32], answer: Outcome) {
         self.refused(table.to_vec(), answer);
         self.push(LIST, table.to_vec(), &[1, 1], answer);
     }
@@ -177,34 +146,21 @@ fn records(jobs: &mut Jobs) {
 fn exponents(jobs: &mut Jobs) {
     for n in 1..=8 {
         for (k, e) in (1..=8).flat_map(|k| [(k, 1), (k, 255)]) {
-            let [high, low] = power(k, e);
-            let table = [7, n, 1, 0, 2, 0, 0, 0, 1, high, low, 0];
-            let list = [7, n, 1, 1, 2, 0, 0, 0, 3, 0, 0, 0, 1, high, low, 0];
-            if k <= n {
-                jobs.push(READ, table.to_vec(), &[], (0, 0));
-                jobs.push(LIST, list.to_vec(), &vec![0; n as usize], (0, 1));
-            } else {
-                jobs.push(READ, table.to_vec(), &[], (7, 2));
-                jobs.push(LIST, list.to_vec(), &vec![0; n as usize], (7, 3));
-            }
+            let only = term(1, power(k, e), 0);
+            let table = [[7, n, 1, 0], [2, 0, 0, 0], only].concat();
+            let list = [[7, n, 1, 1], [2, 0, 0, 0], [3, 0, 0, 0], only].concat();
+            let (of_table, of_list) = if k <= n { ((0, 0), (0, 1)) } else { ((7, 2), (7, 3)) };
+            jobs.push(READ, table, &[], of_table);
+            jobs.push(LIST, list, &vec![0; n as usize], of_list);
         }
     }
     for k in 1..=7 {
-        let ([a, b], [c, d]) = (power(k + 1, 1), power(k, 255));
-        jobs.tried(&[[7, 8, 1, 0], [2, 0, 0, 0], [1, a, b, 3], [1, c, d, 0]], &[0; 8], true);
-        jobs.refused(vec![7, 8, 1, 0, 2, 0, 0, 0, 1, c, d, 3, 1, a, b, 0], (8, 3));
-        jobs.refused(vec![7, 8, 1, 0, 2, 0, 0, 0, 1, c, d, 3, 1, c, d, 0], (8, 3));
+        let (above, below) = (power(k + 1, 1), power(k, 255));
+        let table = |first: u64, second: u64| [[7, 8, 1, 0], [2, 0, 0, 0], term(1, first, 3), term(1, second, 0)];
+        jobs.tried(&table(above, below), &[0; 8], true);
+        jobs.refused(table(below, above).concat(), (8, 3));
+        jobs.refused(table(below, below).concat(), (8, 3));
     }
-}
-
-/// Records before a chain of terms, the first in the record after them; modulo 7 each term is the monomial of its number, falling to 1.
-fn with_terms(before: &[Record], count: usize) -> Vec<Record> {
-    let mut records = before.to_vec();
-    for m in (0..count as u32).rev() {
-        let next = if m == 0 { 0 } else { records.len() as u32 + 1 };
-        records.push([1, 0, m, next]);
-    }
-    records
 }
 
 /// 9 at the 257th term of P, Q, T and U, whatever it holds; 256 terms are accepted.
@@ -271,9 +227,9 @@ fn broken(jobs: &mut Jobs) {
     jobs.push(LIST, edited(&LISTED, &[(13, 2, 1)]), &[0, 0], (0, 2));
     jobs.push(LIST, edited(&LISTED, &[(8, 3, 12)]), &[1, 1], (0, 1));
     for k in 1..=8 {
-        let ([a, b], [c, d]) = (power(k, 1), power(k % 8 + 1, 1));
-        let list = [7, 8, 1, 1, 2, 0, 0, 0, 3, 0, 0, 4, 1, a, b, 0, 5, 0, 0, 0, 1, c, d, 0];
-        jobs.push(LIST, list.to_vec(), &[0; 8], if k < 8 { (0, 1) } else { (15, 4) });
+        let (first, second) = (term(1, power(k, 1), 0), term(1, power(k % 8 + 1, 1), 0));
+        let list = [[7, 8, 1, 1], [2, 0, 0, 0], [3, 0, 0, 4], first, [5, 0, 0, 0], second];
+        jobs.push(LIST, list.concat(), &[0; 8], if k < 8 { (0, 1) } else { (15, 4) });
     }
 }
 
@@ -355,7 +311,7 @@ fn accepted(jobs: &mut Jobs) {
     }
 }
 
-pub fn jobs() -> Vec<(Job, Answer)> {
+pub fn jobs() -> Vec<(Job, Outcome)> {
     let mut jobs = Jobs::default();
     for part in [headers, indices, records, exponents, terms, points, broken, order, accepted] {
         part(&mut jobs);
@@ -364,7 +320,7 @@ pub fn jobs() -> Vec<(Job, Answer)> {
 }
 
 /// The most records and one more, with chains through all of them.
-pub fn large() -> Vec<(Job, Answer)> {
+pub fn large() -> Vec<(Job, Outcome)> {
     let mut jobs = Jobs::default();
     let with = |count: usize, first: Record| {
         let mut records = vec![[0; 4]; count];

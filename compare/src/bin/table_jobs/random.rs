@@ -1,21 +1,18 @@
-//! Random tables and lists, valid and damaged, with points.
-//!
-//! Records are made from the last to the first, so that a record can lead to any made before it: chains share their ends, and records
-//! that nothing leads to lie between them.
+//! Random tables and lists, valid and damaged, with points. Chains share their ends, and records that nothing leads to lie between them.
 
 use crate::{Job, LIST, READ, TABLE};
-use reference::jobs::{all_points, damage};
+use reference::jobs::{all_points, batches, damaged, planted, term, Backwards, Record};
 use reference::poly::{Poly, TERMS};
 use reference::rng::Rng;
 
 /// The most terms that a long polynomial is made with.
 const LONG: u32 = 256;
 
-/// A chain that was made: its first record, what orders chains that may be put before it (the first term's monomial, the first head's
+/// A chain that was made: the link to its first record, what orders chains that may be put before it (the first term's monomial, the first head's
 /// leading variable), and its length.
 #[derive(Clone, Copy)]
 struct Chain {
-    first: usize,
+    first: u32,
     key: u64,
     len: usize,
 }
@@ -28,30 +25,25 @@ struct Maker<'a> {
     point: Vec<u32>,
     /// The most terms that a polynomial is made with.
     most: u32,
-    /// From the last to the first; a link is one more than the place here of the record that it leads to.
-    records: Vec<[u32; 4]>,
-    links: Vec<(usize, usize)>,
+    records: Backwards,
     terms: Vec<Chain>,
     triangles: Vec<Chain>,
-    heads: Vec<usize>,
+    heads: Vec<u32>,
 }
 
 impl Maker<'_> {
     /// A record with links in the given words, and now and then one that nothing leads to.
-    fn record(&mut self, words: [u32; 4], links: &[usize]) -> usize {
+    fn record(&mut self, words: Record, links: &[usize]) -> u32 {
         if self.rng.one_in(12) {
-            let junk = [self.rng.next() as u32, self.rng.below(3), self.rng.below(2), self.rng.below(20)];
-            self.records.push(junk);
+            self.records.junk(self.rng);
         }
-        self.links.extend(links.iter().map(|&j| (self.records.len(), j)));
-        self.records.push(words);
-        self.records.len()
+        self.records.record(words, links)
     }
 
     /// A monomial in v1 to vk.
     fn monomial(&mut self, k: u32) -> u64 {
         let bound = self.rng.pick(&[2, 2, 4, 4, 16, 256]);
-        (0..k).fold(0, |m, _| m << 8 | if self.rng.one_in(2) { self.rng.below(bound) as u64 } else { 0 })
+        self.rng.monomial(k, bound)
     }
 
     /// A polynomial led by vk, if k is not 0.
@@ -68,18 +60,14 @@ impl Maker<'_> {
         }
         monomials.sort_unstable_by(|a, b| b.cmp(a));
         monomials.dedup();
-        let mut f = Poly::default();
-        for m in monomials {
-            f.push(1 + self.rng.below(self.p - 1), m);
-        }
-        f
+        monomials.into_iter().map(|m| (1 + self.rng.below(self.p - 1), m)).collect()
     }
 
     /// Lays out terms before a chain.
-    fn lay(&mut self, f: &Poly, end: Option<Chain>) -> usize {
+    fn lay(&mut self, f: &Poly, end: Option<Chain>) -> u32 {
         let (mut next, mut len) = end.map_or((0, 0), |c| (c.first, c.len));
-        for (&c, &m) in f.c.iter().zip(&f.m).rev() {
-            next = self.record([c, (m >> 32) as u32, m as u32, next as u32], &[3]);
+        for (c, m) in f.terms().rev() {
+            next = self.record(term(c, m, next), &[3]);
             len += 1;
             self.terms.push(Chain { first: next, key: m, len });
         }
@@ -88,39 +76,31 @@ impl Maker<'_> {
 
     /// A polynomial led by vk, if k is not 0: perhaps with an earlier one's last terms; else, mostly if `zero` says so, with the constant
     /// that makes it vanish at the point.
-    fn terms(&mut self, k: u32, zero: bool) -> usize {
+    fn terms(&mut self, k: u32, zero: bool) -> u32 {
         let mut f = self.polynomial(k);
         if !self.terms.is_empty() && self.rng.one_in(3) {
             let end = self.rng.pick(&self.terms);
             let above = f.m.iter().take_while(|&&m| m > end.key).count();
             if above + end.len <= TERMS && (k == 0 || above > 0) {
-                f.m.truncate(above);
-                f.c.truncate(above);
+                f.truncate(above);
                 return self.lay(&f, Some(end));
             }
         }
         if f.len() < TERMS && zero != self.rng.one_in(8) {
-            if f.m.last() == Some(&0) {
-                f.m.pop();
-                f.c.pop();
-            }
-            let v = f.value(self.p, &self.point);
-            if v != 0 {
-                f.push(self.p - v, 0);
-            }
+            f = planted(self.p, f, &self.point);
         }
         self.lay(&f, None)
     }
 
-    fn head(&mut self, k: u32, zero: bool, next: usize) -> usize {
+    fn head(&mut self, k: u32, zero: bool, next: u32) -> u32 {
         let first = self.terms(k, zero);
-        let head = self.record([first as u32, 0, 0, next as u32], &[0, 3]);
+        let head = self.record([first, 0, 0, next], &[0, 3]);
         self.heads.push(head);
         head
     }
 
     /// A chain of heads, perhaps with an earlier chain's end.
-    fn chain(&mut self, zero: bool) -> usize {
+    fn chain(&mut self, zero: bool) -> u32 {
         let mut next = if !self.heads.is_empty() && self.rng.one_in(5) { self.rng.pick(&self.heads) } else { 0 };
         for _ in 0..self.rng.pick(&[0, 1, 1, 2, 3]) {
             next = self.head(0, zero, next);
@@ -129,7 +109,7 @@ impl Maker<'_> {
     }
 
     /// A chain of heads with rising leading variables, perhaps with an earlier one's end.
-    fn triangle(&mut self, zero: bool) -> usize {
+    fn triangle(&mut self, zero: bool) -> u32 {
         let (mut next, mut above) = (0, self.n as u64 + 1);
         if !self.triangles.is_empty() && self.rng.one_in(3) {
             Chain { first: next, key: above, .. } = self.rng.pick(&self.triangles);
@@ -146,8 +126,7 @@ impl Maker<'_> {
     fn table(&mut self) {
         let nonzeros = self.chain(false);
         let zeros = self.chain(true);
-        self.records.push([self.p, self.n, zeros as u32, nonzeros as u32]);
-        self.links.extend([2, 3].map(|j| (self.records.len() - 1, j)));
+        self.records.record([self.p, self.n, zeros, nonzeros], &[2, 3]);
     }
 
     fn list(&mut self) {
@@ -156,20 +135,14 @@ impl Maker<'_> {
             let nonzeros = self.chain(false);
             let zero = self.rng.one_in(2);
             let triangle = self.triangle(zero);
-            next = self.record([triangle as u32, nonzeros as u32, 0, next as u32], &[0, 1, 3]);
+            next = self.record([triangle, nonzeros, 0, next], &[0, 1, 3]);
         }
-        self.records.push([self.p, self.n, next as u32, count]);
-        self.links.push((self.records.len() - 1, 2));
+        self.records.record([self.p, self.n, next, count], &[2]);
     }
 
-    /// The words, with the records the right way round and junk after them.
-    fn words(mut self) -> Vec<u32> {
-        let count = self.records.len() as u32;
-        for (i, j) in self.links {
-            let link = &mut self.records[i][j];
-            *link = if *link == 0 { 0 } else { count - *link };
-        }
-        let mut words: Vec<u32> = self.records.into_iter().rev().flatten().collect();
+    /// The words, with junk after them.
+    fn words(self) -> Vec<u32> {
+        let mut words = self.records.words();
         (0..4 * self.rng.pick(&[0, 0, 0, 1, 2])).for_each(|_| words.push(self.rng.below(9)));
         words
     }
@@ -181,29 +154,26 @@ fn batch(rng: &mut Rng) -> Vec<Job> {
     let point = rng.point(p, n);
     let most = if rng.one_in(40) { LONG } else { rng.pick(&[1, 2, 4, 8]) };
     let kind = rng.pick(&[TABLE, LIST]);
-    let (records, links, terms, triangles, heads) = Default::default();
-    let mut maker = Maker { rng, p, n, point: point.clone(), most, records, links, terms, triangles, heads };
-    if kind == TABLE { maker.table() } else { maker.list() }
+    let (records, terms, triangles, heads) = Default::default();
+    let mut maker = Maker { rng, p, n, point: point.clone(), most, records, terms, triangles, heads };
+    if kind == TABLE {
+        maker.table()
+    } else {
+        maker.list()
+    }
     let words = maker.words();
     let mut points = all_points(p, n, 64);
     points.extend([point.clone(), rng.point(p, n), rng.no_point(p, n)]);
     let mut jobs: Vec<Job> = points.into_iter().map(|point| Job { kind, table: words.clone(), point }).collect();
     jobs.push(Job { kind: READ, table: words.clone(), point: Vec::new() });
     for _ in 0..12 {
-        let mut damaged = words.clone();
-        (0..rng.pick(&[1, 1, 1, 2, 3])).for_each(|_| damage(rng, &mut damaged));
+        let table = damaged(rng, &words);
         let point = if rng.one_in(8) { rng.no_point(p, n) } else { point.clone() };
-        jobs.push(Job { kind, table: damaged, point });
+        jobs.push(Job { kind, table, point });
     }
     jobs
 }
 
-pub fn jobs(seed: u64, count: usize) -> Vec<Job> {
-    let mut rng = Rng(seed);
-    let mut jobs = Vec::new();
-    while jobs.len() < count {
-        jobs.extend(batch(&mut rng));
-    }
-    jobs.truncate(count);
-    jobs
+pub fn jobs(seed: u32, count: u32) -> Vec<Job> {
+    batches(seed, count, batch)
 }

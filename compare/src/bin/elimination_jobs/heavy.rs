@@ -101,6 +101,11 @@ fn listing(records: usize) -> Job {
     Job { limit: 5, work: 4 * (records + 1), output: 0, fill: 0, list: 0, table, points: vec![] }
 }
 
+/// All the room there is, and a record more than there is, in an area that is longer; without an output.
+pub fn rooms() -> [Job; 2] {
+    [ROOM, ROOM + 1].map(|records| Job { work: 262_399, fill: u32::MAX, ..listing(records) })
+}
+
 pub fn large() -> Vec<Job> {
     // All the room there is, a record less, a record more than there is, however long the area; lists in outputs that just hold them.
     let full = listing(ROOM);
@@ -139,6 +144,7 @@ mod tests {
 
     #[test]
     fn the_largest_areas() {
+        assert_eq!(rooms().map(|job| job.answer().outcome.0), [13, 11]);
         let outcomes: Vec<u32> = large().iter().map(|job| job.answer().outcome.0).collect();
         assert_eq!(outcomes, [0, 0, 11, 13, 11, 12, 12, 11, 13, 11, 1, 0, 0, 0]);
     }

@@ -124,7 +124,8 @@ fn read_jobs() -> impl Iterator<Item = Job> {
 
 /// The jobs that the program is held to by stored files: each kind but the long ones.
 pub fn stored() -> Vec<Job> {
-    [fixed::jobs(), random::jobs(1, 250), rooms::jobs(8, 100), points::jobs(1, 20), damaged::jobs(8, 60)].concat()
+    let random = [random::jobs(1, 250), rooms::jobs(8, 100), points::jobs(1, 20), damaged::jobs(8, 60)].concat();
+    [fixed::jobs(), random, heavy::rooms().to_vec()].concat()
 }
 
 fn main() {

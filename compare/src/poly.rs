@@ -313,3 +313,36 @@ pub fn remainder(p: u32, k: u32, t: &Poly, g: &Poly) -> Result<Poly, Over> {
         r = round(p, k, d, e, &i, t, &r)?;
     }
 }
+
+#[cfg(test)]
+mod tests {
+    use super::*;
+
+    fn power_plus_one(k: u32, e: u64) -> Poly {
+        [(1, e << (8 * k)), (1, 0)].into_iter().collect()
+    }
+
+    #[test]
+    fn degrees_over_255_are_refused_in_each_variable() {
+        for k in 0..8 {
+            let f = power_plus_one(k, 200);
+            assert_eq!(product(7, &f, &power_plus_one(k, 55)).map(|f| f.len()), Ok(4));
+            assert_eq!(product(7, &f, &power_plus_one(k, 56)), Err(Over::Degree));
+        }
+    }
+
+    #[test]
+    fn every_way_to_a_product_agrees() {
+        // 1 + v1 + .. + v1^(n-1) times v1 - 1 is v1^n - 1, as two rows and as many.
+        for p in [2, 7, 2147483647] {
+            for n in 2..=255 {
+                let series: Poly = (0..n).rev().map(|e| (1, e)).collect();
+                let two: Poly = [(1, 1), (p - 1, 0)].into_iter().collect();
+                let expected: Poly = [(1, n), (p - 1, 0)].into_iter().collect();
+                assert_eq!(product(p, &series, &two), Ok(expected.clone()));
+                assert_eq!(rows(p, &two, &series), Ok(expected.clone()));
+                assert_eq!(rows(p, &series, &two), Ok(expected));
+            }
+        }
+    }
+}

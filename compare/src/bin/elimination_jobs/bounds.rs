@@ -65,19 +65,19 @@ fn terms(jobs: &mut Jobs) {
         let initial = series(1, 16);
         stops(jobs, vec![times(&initial, &v3), times(&series(2, b), &v3)], vec![initial], number, steps);
     }
-    for (b, number, steps) in [(15, 13, 0), (16, 9, 0)] {
-        let initial = series(1, 16);
-        let pivot = plus(&times(&initial, &v3), &read("1"));
-        let g = times(&series(2, b), &read("v3^2"));
-        if number == 9 {
-            stops(jobs, vec![pivot, g], vec![initial], number, steps);
-        } else {
-            // The division is done; the run goes on in v2, and is refused there.
-            let job = with(vec![pivot, g], vec![initial]);
-            assert!(job.answer().steps > 0);
-            jobs.0.push(job);
-        }
+    // An initial of two terms: products of 256 and of 257.
+    let two = read("v1 + 1");
+    for (g, number, steps) in [(series(2, 128), 13, 3), (plus(&series(2, 128), &read("v1")), 9, 0)] {
+        stops(jobs, vec![times(&two, &v3), times(&g, &v3)], vec![two.clone()], number, steps);
     }
+    // The other product has a term more for each of the dividend: 255 and 272. With 255 the run goes on in v2, and is refused there.
+    let initial = series(1, 16);
+    let pivot = plus(&times(&initial, &v3), &read("1"));
+    let zeros = |b: u32| vec![pivot.clone(), times(&series(2, b), &read("v3^2"))];
+    let goes_on = with(zeros(15), vec![initial.clone()]);
+    assert!(goes_on.answer().steps > 0);
+    jobs.0.push(goes_on);
+    stops(jobs, zeros(16), vec![initial], 9, 0);
     for (b, number, steps) in [(156, 13, 2), (157, 9, 0)] {
         let g = plus(&read("v2^3"), &series(1, b));
         stops(jobs, vec![plus(&read("v2^2"), &series(1, 100))], vec![g], number, steps);

@@ -32,8 +32,11 @@ fn carries(a: u64, b: u64) -> bool {
 
 impl FromIterator<(u32, u64)> for Poly {
     fn from_iter<I: IntoIterator<Item = (u32, u64)>>(terms: I) -> Poly {
-        let (c, m) = terms.into_iter().unzip();
-        Poly { m, c }
+        let mut f = Poly::default();
+        for (c, m) in terms {
+            f.push(c, m);
+        }
+        f
     }
 }
 

@@ -9,6 +9,7 @@ use reference::words::{bytes, with_count};
 use std::collections::HashSet;
 use std::ffi::c_long;
 use std::io::{Read, Write};
+use std::ops::Range;
 use std::process::{Command, Stdio};
 
 /// As in `crates/elimination_bench/src/timing.rt`.
@@ -124,32 +125,38 @@ fn print_set(name: &str, jobs: &[&Timed]) {
 fn row(name: &str, timed: &Timed) -> String {
     let Timed { place, job, .. } = timed;
     let answer = job.answer();
-    let micros = |nanos: u64| nanos as f64 / 1000.0;
-    let (proved, here) = (micros(timed.proved), micros(timed.here));
-    let about = format!("p = {}, n = {}, {} records", job.table[0], job.table[1], job.table.len() / 4);
-    let ended = format!("{} steps, outcome {}, work area of {} records", answer.steps, answer.outcome.0, job.work / 4);
-    format!("| {name} | {place} | {:.2} | {proved:.2} | {here:.2} | {about}, {ended} |", timed.ratio())
+    let (proved, here) = (timed.proved as f64 / 1000.0, timed.here as f64 / 1000.0);
+    let times = format!("{:.2} | {proved:.2} | {here:.2}", timed.ratio());
+    let (p, n, records, work) = (job.table[0], job.table[1], job.table.len() / 4, job.work / 4);
+    format!("| {name} | {place} | {times} | {p} | {n} | {records} | {work} | {} | {} |", answer.steps, answer.outcome.0)
 }
 
-/// Each set in parts by the microseconds of a job here: a table of the parts, and one of the five jobs with the greatest ratios in each.
+/// The parts of a set between bounds in microseconds: their names, and the nanoseconds of their jobs.
+fn parts(set: &str, bounds: &[u64]) -> Vec<(String, Range<u64>)> {
+    let all = [&[0], bounds, &[u64::MAX / 1000]].concat();
+    let name = |from: u64, to: u64| match (from == 0, to == u64::MAX / 1000) {
+        (true, true) => set.to_string(),
+        (true, false) => format!("{set}, under {to} µs"),
+        (false, true) => format!("{set}, over {from} µs"),
+        (false, false) => format!("{set}, {from} to {to} µs"),
+    };
+    all.windows(2).map(|ends| (name(ends[0], ends[1]), 1000 * ends[0]..1000 * ends[1])).collect()
+}
+
+/// Each set in parts by the time of a job here: a table of the parts, and one of the five jobs with the greatest ratios in each.
 pub fn print(program: &str) {
     let sets: [(&str, Vec<Job>, &[u64]); 4] = [
         ("document 01 and other fixed jobs", fixed::jobs(), &[2]),
         ("random", random::jobs(1, 3000), &[10, 100]),
         ("literature and linkages", literature::jobs(), &[100]),
-        ("long runs", heavy::jobs(), &[100]),
+        ("long runs", heavy::jobs(), &[]),
     ];
     let mut greatest = Vec::new();
     println!("| set | jobs | proved, ms | Rust, ms | ratio | from, to |\n|---|---|---|---|---|---|");
     for (set, jobs, bounds) in sets {
         let jobs = timed(program, jobs);
-        for i in 0..=bounds.len() {
-            let from = if i == 0 { 0 } else { bounds[i - 1] };
-            let (name, to) = match bounds.get(i) {
-                Some(&to) => (format!("{set}, {from} to {to} µs"), to),
-                None => (format!("{set}, from {from} µs"), u64::MAX / 1000),
-            };
-            let mut part: Vec<&Timed> = jobs.iter().filter(|timed| (1000 * from..1000 * to).contains(&timed.here)).collect();
+        for (name, range) in parts(set, bounds) {
+            let mut part: Vec<&Timed> = jobs.iter().filter(|timed| range.contains(&timed.here)).collect();
             part.sort_by(|a, b| a.ratio().total_cmp(&b.ratio()));
             if !part.is_empty() {
                 print_set(&name, &part);
@@ -157,5 +164,6 @@ pub fn print(program: &str) {
             }
         }
     }
-    println!("\n| set | job | ratio | proved, µs | Rust, µs | the job |\n|---|---|---|---|---|---|\n{}", greatest.join("\n"));
+    println!("\n| set | job | ratio | proved, µs | Rust, µs | p | n | records | work area | steps | outcome |");
+    println!("|---|---|---|---|---|---|---|---|---|---|---|\n{}", greatest.join("\n"));
 }

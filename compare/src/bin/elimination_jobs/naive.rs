@@ -126,6 +126,17 @@ impl Run {
         }
     }
 
+    fn split(&mut self, mut b: Branch, pivot: usize, initial: &Terms, rest: &Terms) -> Result<(), u32> {
+        let mut aside = b.clone();
+        put(self.p, &mut b.q, initial, &one());
+        aside.p.remove(pivot);
+        put(self.p, &mut aside.p, initial, &Terms::new());
+        put(self.p, &mut aside.p, rest, &Terms::new());
+        self.within(records(&b) + records(&aside))?;
+        self.waiting.extend([aside, b]);
+        Ok(())
+    }
+
     fn step(&mut self) -> Result<(), u32> {
         let mut b = self.waiting.pop().unwrap();
         if b.p.contains(&one()) || b.q.contains(&Terms::new()) {
@@ -142,15 +153,8 @@ impl Run {
         let d = degree(&pivot, at);
         let initial = coefficient(&pivot, at, d);
         if initial != one() && !b.q.contains(&initial) {
-            let mut aside = b.clone();
-            put(self.p, &mut b.q, &initial, &one());
-            aside.p.remove(led[0]);
-            let rest = pivot.iter().filter(|(m, _)| m[at] != d).map(|(&m, &c)| (m, c)).collect();
-            put(self.p, &mut aside.p, &initial, &Terms::new());
-            put(self.p, &mut aside.p, &rest, &Terms::new());
-            self.within(records(&b) + records(&aside))?;
-            self.waiting.extend([aside, b]);
-            return Ok(());
+            let rest = pivot.into_iter().filter(|(m, _)| m[at] != d).collect();
+            return self.split(b, led[0], &initial, &rest);
         }
         if let Some(&other) = led[1..].iter().min() {
             let g = b.p.remove(other);

@@ -261,8 +261,8 @@ fn order(jobs: &mut Jobs) {
     jobs.list(&[(0, 3, 1), (13, 3, 13)], 4, 13);
 }
 
-/// Shared and unreached records, zeros, constants, both ends of what is allowed, and document 01's printed job.
-fn accepted(jobs: &mut Jobs) {
+/// Zeros, constants, shared and unreached records in tables that are accepted.
+fn tables(jobs: &mut Jobs) {
     let yes_at = |jobs: &mut Jobs, records: &[Record], solved: &dyn Fn(u32, u32) -> bool| {
         for (x, y) in [(0, 0), (1, 1), (2, 4), (3, 0), (6, 6)] {
             jobs.tried(records, &[x, y], solved(x, y));
@@ -284,16 +284,24 @@ fn accepted(jobs: &mut Jobs) {
     let [_, head, term, ..] = INPUT;
     let junk = [BIG; 4];
     yes_at(jobs, &[[7, 2, 2, 0], junk, [4, 0, 0, 0], [3, 3, 3, 3], [1, 0, 1, 0], junk, head, term], &|x, _| x == 0);
+}
+
+/// The same in lists.
+fn lists(jobs: &mut Jobs) {
     // Record 2 is a system and a head, record 3 a head and a term: U = 4, and T = v1.
     jobs.placed(&[[7, 2, 1, 2], [0, 2, 0, 2], [3, 0, 0, 0], [4, 0, 0, 0], [1, 0, 1, 0]], &[0, 0], 1);
     // Zero in U. One T for two systems; T's chain as U's.
-    let zero = [[7, 2, 1, 2], [4, 3, 0, 2], [4, 0, 0, 0], [0, 0, 0, 0], [5, 0, 0, 0], [1, 0, 1, 0], junk];
+    let zero = [[7, 2, 1, 2], [4, 3, 0, 2], [4, 0, 0, 0], [0, 0, 0, 0], [5, 0, 0, 0], [1, 0, 1, 0], [BIG; 4]];
     jobs.placed(&zero, &[0, 0], 2);
     jobs.placed(&zero, &[1, 0], 0);
     let same = [[7, 2, 1, 2], [3, 3, 0, 2], [3, 0, 0, 0], [4, 0, 0, 0], [1, 0, 1, 0]];
     jobs.placed(&same, &[0, 3], 2);
     jobs.placed(&same, &[3, 0], 0);
     jobs.placed(&[[7, 2, 1, 1], [0, 0, 0, 0]], &[3, 3], 1);
+}
+
+/// Both ends of what is allowed, and document 01's printed job.
+fn extremes(jobs: &mut Jobs) {
     // The largest prime: v1 + 1 at p - 1; every exponent 255, at p - 1 and at 0. The smallest, with all eight variables.
     let top = 2147483647;
     jobs.tried(&[[top, 1, 1, 0], [2, 0, 0, 0], [1, 0, 1, 3], [1, 0, 0, 0]], &[top - 1], true);
@@ -313,7 +321,7 @@ fn accepted(jobs: &mut Jobs) {
 
 pub fn jobs() -> Vec<(Job, Outcome)> {
     let mut jobs = Jobs::default();
-    for part in [headers, indices, records, exponents, terms, points, broken, order, accepted] {
+    for part in [headers, indices, records, exponents, terms, points, broken, order, tables, lists, extremes] {
         part(&mut jobs);
     }
     jobs.0

@@ -77,6 +77,13 @@ fn headers(jobs: &mut Jobs) {
     for p in [0, 1, 4, 9, 46337 * 46337, 2147483646, 2147483648, 2147483649, 4294967291, BIG] {
         jobs.refused_both(&[p, 2, 0, 0], (2, 0));
     }
+    // Squares of the primes from 7 to 61, so that a factor of each residue modulo 30 decides; and pseudoprimes.
+    for q in [7, 11, 13, 17, 19, 23, 29, 31, 37, 41, 43, 47, 53, 59, 61] {
+        jobs.refused_both(&[q * q, 2, 0, 0], (2, 0));
+    }
+    for p in [561, 1105, 1729, 2047, 1373653, 25326001] {
+        jobs.refused_both(&[p, 2, 0, 0], (2, 0));
+    }
     for n in [0, 9, 256, BIG] {
         jobs.refused_both(&[7, n, 0, 0], (3, 0));
     }

@@ -26,7 +26,7 @@ use Rattle.records.specs.Records.{view}
 use Rattle.branches.specs.Area.{Stored, Area, Held, with-open, capacity}
 use Rattle.representation.specs.Represent.{branch-of, system-of, state-of}
 use Rattle.steps.specs.Ready.{Ready, limits-in}
-use Rattle.steps.specs.Pending.{Has-members, rest-of-step}
+use Rattle.steps.specs.Pending.{Has-members, Pivoted, rest-of-step}
 
 -- The run from the state held gives the whole run.
 pub record AtRun (p limit : ℕ) (w₀ w : List ℕ) (steps : ℕ) : Type 0 where
@@ -84,23 +84,26 @@ module _ (l : Limits) (p n : ℕ) where
     run-steps left = refl
 
 -- ── a round ──
-module _ (p k d : ℕ) (f : Poly) (prime : Prime p) (some : 1 ≤ d) (of-degree : degree k f ≡ d) (r₀ : List ℕ) (n₀ : ℕ) (r : List ℕ) (n : ℕ)
-    (D : AtDivision p k d f r₀ n₀ r n) (more : d ≤ degree k (terms (take n r))) (r₁ : List ℕ) (m : ℕ)
-    (A : Answered p (bounded-round standard p k d f (terms (take n r))) m r₁) where
+-- The pivot is in t, and its initial in i; the round leaves r₁.
+module _ {p k d : ℕ} {t i : List ℕ} (prime : Prime p) (P : Pivoted p k d t i) {r₀ : List ℕ} {n₀ : ℕ} {r : List ℕ} {n : ℕ}
+    (D : AtDivision p k d (terms t) r₀ n₀ r n) (more : d ≤ degree k (terms (take n r))) {r₁ : List ℕ} {m : ℕ}
+    (A : Answered p (bounded-round standard p k d (terms t) (terms (take n r))) m r₁) where
   pub round-less : degree k (terms (take m r₁)) < degree k (terms (take n r))
   round-less =
-      subst (λ (h : Poly). degree k h < degree k (terms (take n r))) (sym (round-formed standard p k d f (terms (take n r)) (terms (take m r₁)) (A .is) .same))
-      (round-lowers p (omega (arith, prime .two≤)) k d f (terms (take n r)) some (omega arith) more)
+      subst (λ (h : Poly). degree k h < degree k (terms (take n r)))
+      (sym (round-formed standard p k d (terms t) (terms (take n r)) (terms (take m r₁)) (A .is) .same))
+      (round-lowers p (omega (arith, prime .two≤)) k d (terms t) (terms (take n r)) (P .some) (omega (arith, P .of-degree)) more)
 
-  pub division-goes-on : length r₁ ≡ length r → AtDivision p k d f r₀ n₀ r₁ m
+  pub division-goes-on : length r₁ ≡ length r → AtDivision p k d (terms t) r₀ n₀ r₁ m
   division-goes-on e = record {
     same = e ∙ D .same;
     inside = A .inside;
     holds = A .holds;
     rounds = λ s₀ q.
         let z = D .rounds s₀ q in
-        let a = remainder-again standard p k d f (terms (take n r)) (z .0) (z .1) more in
-        (a .0, omega (arith, round-less, z .1, a .1), sym (a .2 ∙ ap (λ (B : Bounded). and-then B (bounded-remainder standard p k d f (a .0))) (A .is)) ∙ z .2);
+        let a = remainder-again standard p k d (terms t) (terms (take n r)) (z .0) (z .1) more in
+        let one = ap (λ (B : Bounded). and-then B (bounded-remainder standard p k d (terms t) (a .0))) (A .is) in
+        (a .0, omega (arith, round-less, z .1, a .1), sym (a .2 ∙ one) ∙ z .2);
   }
 
 -- ── where the division ends ──
@@ -115,23 +118,24 @@ formed-terms (within f) r s q F = absurd (let z : _≡_ {A = ℕ} 0 1 = cc in om
 formed-terms degree-passed r s q F = absurd (let z : _≡_ {A = ℕ} 0 1 = cc in omega arith)
 formed-terms terms-passed r s q F = refl
 
-module _ (p k d : ℕ) (f : Poly) (of-degree : degree k f ≡ d) (r₀ : List ℕ) (n₀ : ℕ) (r : List ℕ) (n : ℕ) (D : AtDivision p k d f r₀ n₀ r n) (most : ℕ) where
+module _ {p k d : ℕ} {t i : List ℕ} (P : Pivoted p k d t i) {r₀ : List ℕ} {n₀ : ℕ} {r : List ℕ} {n : ℕ} (D : AtDivision p k d (terms t) r₀ n₀ r n) (most : ℕ) where
   -- The remainder is what the rounds left form.
   remainder-left : (s : ℕ) × (degree k (terms (take n r)) < s)
-      × (bounded-remainder standard p k d f s (terms (take n r)) ≡ remainder-by (limits-in most) p k f (terms (take n₀ r₀)))
+      × (bounded-remainder standard p k d (terms t) s (terms (take n r)) ≡ remainder-by (limits-in most) p k (terms t) (terms (take n₀ r₀)))
   unfolding remainder-by
   remainder-left =
       let s₀ = suc (degree k (terms (take n₀ r₀))) in
       let z = D .rounds s₀ (omega arith) in
-      (z .0, z .1, z .2 ∙ ap (λ (d : ℕ). bounded-remainder standard p k d f s₀ (terms (take n₀ r₀))) (sym of-degree))
+      (z .0, z .1, z .2 ∙ ap (λ (d : ℕ). bounded-remainder standard p k d (terms t) s₀ (terms (take n₀ r₀))) (sym (P .of-degree)))
 
-  pub division-ends : degree k (terms (take n r)) < d → remainder-by (limits-in most) p k f (terms (take n₀ r₀)) ≡ within (terms (take n r))
-  division-ends h = let z = remainder-left in sym (z .2) ∙ remainder-done standard p k d f (terms (take n r)) (z .0) h
+  pub division-ends : degree k (terms (take n r)) < d → remainder-by (limits-in most) p k (terms t) (terms (take n₀ r₀)) ≡ within (terms (take n r))
+  division-ends h = let z = remainder-left in sym (z .2) ∙ remainder-done standard p k d (terms t) (terms (take n r)) (z .0) h
 
   -- A round passes a bound, and so does the division.
-  pub division-passes : (B : Bounded) → ((g : Poly → Bounded) → and-then B g ≡ B) → d ≤ degree k (terms (take n r)) → bounded-round standard p k d f (terms (take n r)) ≡ B
-      → remainder-by (limits-in most) p k f (terms (take n₀ r₀)) ≡ B
+  pub division-passes : (B : Bounded) → ((g : Poly → Bounded) → and-then B g ≡ B) → d ≤ degree k (terms (take n r))
+      → bounded-round standard p k d (terms t) (terms (take n r)) ≡ B → remainder-by (limits-in most) p k (terms t) (terms (take n₀ r₀)) ≡ B
   division-passes B passes more e =
       let z = remainder-left in
-      let a = remainder-again standard p k d f (terms (take n r)) (z .0) (z .1) more in
-      sym (z .2) ∙ a .2 ∙ ap (λ (B : Bounded). and-then B (bounded-remainder standard p k d f (a .0))) e ∙ passes (bounded-remainder standard p k d f (a .0))
+      let a = remainder-again standard p k d (terms t) (terms (take n r)) (z .0) (z .1) more in
+      let rest = bounded-remainder standard p k d (terms t) (a .0) in
+      sym (z .2) ∙ a .2 ∙ ap (λ (B : Bounded). and-then B rest) e ∙ passes rest

@@ -12,7 +12,6 @@ use Rattle.residues.specs.Prime.{Prime}
 use Rattle.polynomials.specs.Poly.{Poly, monic}
 use Rattle.polynomials.specs.Packed.{terms}
 use Rattle.polynomials.specs.Working.{Holds}
-use Rattle.polynomials.specs.Canonical.{Canonical}
 use Rattle.polynomials.specs.Bounds.{Bounded, within, degree-passed, terms-passed}
 use Rattle.tables.specs.declared.Reason.{Reason}
 use Rattle.tables.specs.declared.Reason.the-variants.{Room, Degree, Terms}
@@ -86,6 +85,7 @@ members-begin p k f closing place left w b bs ss H R M = record { same = refl; s
 -- The first n words of r are the next member, and it is out of the area.
 pub record AtMember (p k : ℕ) (f : Poly) (closing : Bool) (place left₀ : ℕ) (w₀ w : List ℕ) (left n : ℕ) (r : List ℕ) : Type 0 where
   pub same : length w ≡ length w₀
+  pub one : 1 ≤ left
   pub some :
       (b : Stored) × (bs : List Stored) × (ss : List Stored) × Took closing place left b bs ss n r (view w) (capacity w₀) × Ready p (with-open b bs ss) × Has-members closing place left b
   pub all :
@@ -93,13 +93,18 @@ pub record AtMember (p k : ℕ) (f : Poly) (closing : Bool) (place left₀ : ℕ
       → (b : Stored) × Took closing place left b bs ss n r (view w) (capacity w₀) × Ready p (with-open b bs ss) × Has-members closing place left b
       × (rest-of-step (limits-in (capacity w₀)) p closing place left k f b bs ss ≡ rest-of-step (limits-in (capacity w₀)) p closing place left₀ k f b₀ bs ss)
 
+-- The words s were put into the area w. Whether they fitted is q, and v is the area then.
+pub record PutBack (p : ℕ) (closing : Bool) (left : ℕ) (s w : List ℕ) (q : Bool) (v : List ℕ) : Type 0 where
+  pub same : length v ≡ length w
+  pub puts : (b : Stored) (bs ss : List Stored) → Held (view w) (capacity w) (with-open b bs ss) → Put p closing left s b bs ss q (view v) (capacity w)
+
 -- What is left of the step comes to S, from whatever state was held where the loop began.
 abbrev pub Comes-to : ℕ → ℕ → Poly → Bool → ℕ → ℕ → List ℕ → Stepped → Type 0
 Comes-to p k f closing place left₀ w₀ S =
     (b₀ : Stored) (bs ss : List Stored) → Held (view w₀) (capacity w₀) (with-open b₀ bs ss) → Ready p (with-open b₀ bs ss) → Has-members closing place left₀ b₀
     → rest-of-step (limits-in (capacity w₀)) p closing place left₀ k f b₀ bs ss ≡ S
 
-module _ (p k : ℕ) (f : Poly) (closing : Bool) (place left₀ : ℕ) (w₀ w : List ℕ) (left : ℕ) (some : 1 ≤ left) where
+module _ {p k : ℕ} {f : Poly} {closing : Bool} {place left₀ : ℕ} {w₀ w : List ℕ} {left : ℕ} where
   module _ (A : AtMembers p k f closing place left₀ w₀ w left) where
     cap : capacity w ≡ capacity w₀
     cap = same-capacity w w₀ (A .same)
@@ -107,21 +112,22 @@ module _ (p k : ℕ) (f : Poly) (closing : Bool) (place left₀ : ℕ) (w₀ w :
     pub members-open : Opened (view w) (capacity w)
     members-open = let s = A .some in (s .0, s .1, s .2, subst (λ (m : ℕ). Held (view w) m (with-open (s .0) (s .1) (s .2))) (sym cap) (s .3))
 
-    pub members-left : (b : Stored) (bs ss : List Stored) → Held (view w) (capacity w) (with-open b bs ss) → Has-left closing place left b
-    members-left b bs ss H =
+    pub members-left : 1 ≤ left → (b : Stored) (bs ss : List Stored) → Held (view w) (capacity w) (with-open b bs ss) → Has-left closing place left b
+    members-left one b bs ss H =
         let s = A .some in
-        of-left closing (subst (λ (m : ℕ). Held (view w) m (with-open b bs ss)) cap H) (s .3) (has-left p place left (s .0) (s .1) (s .2) some closing (s .5))
+        of-left closing (subst (λ (m : ℕ). Held (view w) m (with-open b bs ss)) cap H) (s .3) (has-left p place left (s .0) (s .1) (s .2) one closing (s .5))
       where
         of-left : (closing : Bool) {b c : Stored} {bs ss cs us : List Stored} → Held (view w) (capacity w₀) (with-open b bs ss) → Held (view w) (capacity w₀) (with-open c cs us)
             → Has-left closing place left c → Has-left closing place left b
         of-left false {b} {c} {bs} {ss} {cs} {us} H K h = of-every (λ P Q. place < length P) K h b bs ss H
         of-left true {b} {c} {bs} {ss} {cs} {us} H K h = of-every (λ P Q. (1 ≤ left) × (left ≤ length Q)) K h b bs ss H
 
-    pub member-taken : (v : List ℕ) (n : ℕ) (r : List ℕ) → length v ≡ length w
+    pub member-taken : 1 ≤ left → (v : List ℕ) (n : ℕ) (r : List ℕ) → length v ≡ length w
         → ((b : Stored) (bs ss : List Stored) → Held (view w) (capacity w) (with-open b bs ss) → Took closing place left b bs ss n r (view v) (capacity w))
         → AtMember p k f closing place left₀ w₀ v left n r
-    member-taken v n r e took = record {
+    member-taken one v n r e took = record {
       same = e ∙ A .same;
+      one = one;
       some = let s = A .some in (s .0, s .1, s .2, taken (s .0) (s .1) (s .2) (s .3), s .4, s .5);
       all = λ b₀ bs ss H R M. let s = A .all b₀ bs ss H R M in (s .0, taken (s .0) bs ss (s .1), s .2, s .3, s .4);
     }
@@ -131,7 +137,7 @@ module _ (p k : ℕ) (f : Poly) (closing : Bool) (place left₀ : ℕ) (w₀ w :
             subst (λ (m : ℕ). Took closing place left b bs ss n r (view v) m) cap (took b bs ss (subst (λ (m : ℕ). Held (view w) m (with-open b bs ss)) (sym cap) H))
 
   -- ── its remainder put ──
-  module _ (n : ℕ) (r : List ℕ) (A : AtMember p k f closing place left₀ w₀ w left n r) where
+  module _ {n : ℕ} {r : List ℕ} (A : AtMember p k f closing place left₀ w₀ w left n r) where
     pub member-inside : n ≤ length r
     member-inside = let s = A .some .3 in omega (arith, s .0, ap length (s .1), length-take n r)
 
@@ -146,7 +152,7 @@ module _ (p k : ℕ) (f : Poly) (closing : Bool) (place left₀ : ℕ) (w₀ w :
     pub member-behind : (b : Stored) (bs ss : List Stored) → Held (view w) (capacity w) (with-open b bs ss) → Has-behind closing (left - 1) b
     member-behind b bs ss H =
         let s = A .some in
-        of-behind closing (subst (λ (m : ℕ). Held (view w) m (with-open b bs ss)) (same-capacity w w₀ (A .same)) H) (s .3 .2) (has-behind p place left (s .0) (s .1) (s .2) some closing (s .5))
+        of-behind closing (subst (λ (m : ℕ). Held (view w) m (with-open b bs ss)) (same-capacity w w₀ (A .same)) H) (s .3 .2) (has-behind p place left (s .0) (s .1) (s .2) (A .one) closing (s .5))
       where
         of-behind : (closing : Bool) {b c : Stored} {bs ss cs us : List Stored} → Held (view w) (capacity w₀) (with-open b bs ss) → Held (view w) (capacity w₀) (with-open c cs us)
             → Has-behind closing (left - 1) c → Has-behind closing (left - 1) b
@@ -161,7 +167,7 @@ module _ (p k : ℕ) (f : Poly) (closing : Bool) (place left₀ : ℕ) (w₀ w :
     member-stops why B stop e b₀ bs ss H R M =
         let s = A .all b₀ bs ss H R M in
         let l = limits-in (capacity w₀) in
-        sym (s .4) ∙ takes l p k f (s .0) bs ss closing place left some (has-left p place left (s .0) bs ss some closing (s .3))
+        sym (s .4) ∙ takes l p k f (s .0) bs ss closing place left (A .one) (has-left p place left (s .0) bs ss (A .one) closing (s .3))
         ∙ ap (λ (B : Bounded). after-division B (onward l p k f (s .0) bs ss closing place left)) (ap (λ (g : List ℕ). remainder-by l p k f (terms g)) (sym (s .1 .1)) ∙ e)
         ∙ stop (onward l p k f (s .0) bs ss closing place left)
 
@@ -171,37 +177,36 @@ module _ (p k : ℕ) (f : Poly) (closing : Bool) (place left₀ : ℕ) (w₀ w :
     pub member-terms : remainder ≡ terms-passed → Comes-to p k f closing place left₀ w₀ (stopped Terms)
     member-terms = member-stops Terms terms-passed (λ k. refl)
 
-    -- The remainder is in the words s, and it was put.
-    module _ (prime : Prime p) (s : List ℕ) (canonical : Canonical p (terms s)) (e : remainder ≡ within (terms s)) (v : List ℕ) (q : Bool) (kept : length v ≡ length w)
-        (put : (b : Stored) (bs ss : List Stored) → Held (view w) (capacity w) (with-open b bs ss) → Put p closing (left - 1) s b bs ss q (view v) (capacity w)) where
+    -- The remainder is in the words s, and it was put back.
+    module _ (prime : Prime p) {s : List ℕ} (holds : Holds p s) (e : remainder ≡ within (terms s)) {v : List ℕ} {q : Bool} (B : PutBack p closing (left - 1) s w q v) where
       -- b is the branch where the member was taken.
       module _ (b : Stored) (bs ss : List Stored) (T : Took closing place left b bs ss n r (view w) (capacity w₀)) (R : Ready p (with-open b bs ss)) (M : Has-members closing place left b) where
         was-put : Put p closing (left - 1) s (taken-out closing place left b) bs ss q (view v) (capacity w₀)
         was-put =
             let c = same-capacity w w₀ (A .same) in
             subst (λ (m : ℕ). Put p closing (left - 1) s (taken-out closing place left b) bs ss q (view v) m) c
-            (put (taken-out closing place left b) bs ss (subst (λ (m : ℕ). Held (view w) m (with-open (taken-out closing place left b) bs ss)) (sym c) (T .2)))
+            (B .puts (taken-out closing place left b) bs ss (subst (λ (m : ℕ). Held (view w) m (with-open (taken-out closing place left b) bs ss)) (sym c) (T .2)))
 
         abbrev after : Stored
         after = put-in closing (left - 1) (was-put .0) (taken-out closing place left b)
 
         ready-after : Ready p (with-open after bs ss)
-        ready-after = ready-put p place left b bs ss closing R (was-put .0) (was-put .1) (stored-monic p (was-put .0) (terms s) prime canonical (was-put .2))
+        ready-after = ready-put p place left b bs ss closing R (was-put .0) (was-put .1) (stored-monic p (was-put .0) (terms s) prime (holds .canonical) (was-put .2))
 
         goes-on : rest-of-step (limits-in (capacity w₀)) p closing place left k f b bs ss ≡ if-fits q (rest-of-step (limits-in (capacity w₀)) p closing place (left - 1) k f after bs ss)
         goes-on =
             let l = limits-in (capacity w₀) in
-            step-put l p k f b bs ss place left (was-put .0) (terms s) (was-put .1) (was-put .2) (R .sound .branches .0) (capacity w₀) refl (omega (arith, T .2 .fits)) (R .listed) some closing M
+            step-put l p k f b bs ss place left (was-put .0) (terms s) (was-put .1) (was-put .2) (R .sound .branches .0) (capacity w₀) refl (omega (arith, T .2 .fits)) (R .listed) (A .one) closing M
             (ap (λ (g : List ℕ). remainder-by l p k f (terms g)) (sym (T .1)) ∙ e)
             ∙ ap (λ (o : Bool). if-fits o (rest-of-step l p closing place (left - 1) k f after bs ss)) (sym (was-put .3 .answer))
 
       pub member-put : q ≡ true → AtMembers p k f closing place left₀ w₀ v (left - 1)
       member-put t = record {
-        same = kept ∙ A .same;
+        same = B .same ∙ A .same;
         some =
             let s = A .some in
             let u = was-put (s .0) (s .1) (s .2) (s .3) (s .4) (s .5) in
-            (after (s .0) (s .1) (s .2) (s .3) (s .4) (s .5), s .1, s .2, u .3 .held t, ready-after (s .0) (s .1) (s .2) (s .3) (s .4) (s .5), has-put p place left (s .0) (s .1) (s .2) some closing (u .0) (s .5));
+            (after (s .0) (s .1) (s .2) (s .3) (s .4) (s .5), s .1, s .2, u .3 .held t, ready-after (s .0) (s .1) (s .2) (s .3) (s .4) (s .5), has-put p place left (s .0) (s .1) (s .2) (A .one) closing (u .0) (s .5));
         all = λ b₀ bs ss H R M.
             let s = A .all b₀ bs ss H R M in
             let u = was-put (s .0) bs ss (s .1) (s .2) (s .3) in
@@ -209,7 +214,7 @@ module _ (p k : ℕ) (f : Poly) (closing : Bool) (place left₀ : ℕ) (w₀ w :
               after (s .0) bs ss (s .1) (s .2) (s .3),
               u .3 .held t,
               ready-after (s .0) bs ss (s .1) (s .2) (s .3),
-              has-put p place left (s .0) bs ss some closing (u .0) (s .3),
+              has-put p place left (s .0) bs ss (A .one) closing (u .0) (s .3),
               sym (goes-on (s .0) bs ss (s .1) (s .2) (s .3) ∙ ap (λ (o : Bool). if-fits o x) t) ∙ s .4,
             );
       }

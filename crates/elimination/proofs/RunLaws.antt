@@ -19,7 +19,7 @@ use Rattle.steps.specs.declared.Division.{Division}
 use Rattle.steps.specs.declared.Prepared.{Prepared}
 use Rattle.steps.specs.declared.Prepared.the-variants.{Done, Members, Stop}
 use Rattle.steps.specs.Ready.{Ready, limits-in}
-use Rattle.steps.specs.Pending.{Comes, Prepares, Has-members, rest-of-step}
+use Rattle.steps.specs.Pending.{Comes, Pivoted, Prepares}
 use Rattle.elimination.specs.declared.Answer.{Answer}
 use Rattle.elimination.specs.declared.Outcome.the-variants.{Systems, Refused}
 use Rattle.elimination.specs.Answer.{Ran}
@@ -39,49 +39,73 @@ Goes-to most p w v =
 abbrev pub Stops : ℕ → ℕ → List ℕ → Reason → Type 0
 Stops most p w why = (b : Stored) (bs ss : List Stored) → Held (view w) most (with-open b bs ss) → Ready p (with-open b bs ss) → step-in most p b bs ss ≡ stopped why
 
+-- w holds a state with an open branch, ready for a step.
+abbrev pub Some-open : ℕ → List ℕ → Type 0
+Some-open p w = (b : Stored) × (bs : List Stored) × (ss : List Stored) × Held (view w) (capacity w) (with-open b bs ss) × Ready p (with-open b bs ss)
+
 -- ── what was prepared ──
-module _ (p : ℕ) (w : List ℕ) (q : Prepared) (t i v : List ℕ)
-    (prepared : (b : Stored) (bs ss : List Stored) → Held (view w) (capacity w) (with-open b bs ss) → Ready p (with-open b bs ss)
-    → Prepares (limits-in (capacity w)) p (step-in (capacity w) p b bs ss) q t i (view v) (capacity w) bs ss) where
-  pub prepared-done : q ≡ Done → Goes-to (capacity w) p w v
-  prepared-done e b bs ss H R = subst (λ (q : Prepared). Prepares (limits-in (capacity w)) p (step-in (capacity w) p b bs ss) q t i (view v) (capacity w) bs ss) e (prepared b bs ss H R)
+-- The answer q to the step from whatever state w held. t and i have the pivot and its initial, and v is the area then.
+pub record Preparation (p : ℕ) (w : List ℕ) (q : Prepared) (t i v : List ℕ) : Type 0 where
+  pub same : length v ≡ length w
+  pub answers :
+      (b : Stored) (bs ss : List Stored) → Held (view w) (capacity w) (with-open b bs ss) → Ready p (with-open b bs ss)
+      → Prepares (limits-in (capacity w)) p (step-in (capacity w) p b bs ss) q t i (view v) (capacity w) bs ss
 
-  pub prepared-stop : (why : Reason) → q ≡ Stop why → Stops (capacity w) p w why
-  prepared-stop why e b bs ss H R = subst (λ (q : Prepared). Prepares (limits-in (capacity w)) p (step-in (capacity w) p b bs ss) q t i (view v) (capacity w) bs ss) e (prepared b bs ss H R)
+-- The pivot of the division d is in t, and its initial in i.
+pub record Pivot-in (p : ℕ) (d : Division) (t i : List ℕ) : Type 0 where
+  pub pivot-inside : d .pivot ≤ length t
+  pub initial-inside : d .initial ≤ length i
+  pub pivoted : Pivoted p (d .k) (d .degree) (take (d .pivot) t) (take (d .initial) i)
 
-  module _ (d : Division) (e : q ≡ Members d) where
-    pub prepared-members : (b : Stored) (bs ss : List Stored) → Held (view w) (capacity w) (with-open b bs ss) → Ready p (with-open b bs ss)
-        → (b' : Stored) × Comes (limits-in (capacity w)) p (step-in (capacity w) p b bs ss) d t i (view v) (capacity w) b' bs ss
-    prepared-members b bs ss H R = subst (λ (q : Prepared). Prepares (limits-in (capacity w)) p (step-in (capacity w) p b bs ss) q t i (view v) (capacity w) bs ss) e (prepared b bs ss H R)
+module _ {p : ℕ} {w t i v : List ℕ} where
+  pub prepared-as : {q : Prepared} → Preparation p w q t i v → (a : Prepared) → q ≡ a → Preparation p w a t i v
+  prepared-as P a e = subst (λ (q : Prepared). Preparation p w q t i v) e P
 
-    module _ (kept : length v ≡ length w) where
-      cap : capacity v ≡ capacity w
-      cap = same-capacity v w kept
+  pub prepared-done : Preparation p w Done t i v → Goes-to (capacity w) p w v
+  prepared-done P = P .answers
 
-      pub members-first : (b : Stored) (bs ss : List Stored) → Held (view w) (capacity w) (with-open b bs ss) → Ready p (with-open b bs ss)
-          → AtMembers p (d .k) (terms (take (d .pivot) t)) (d .closing) (d .place) (d .left) v v (d .left)
-      members-first b bs ss H R =
-          let s = prepared-members b bs ss H R in
-          let C = s .1 in
-          members-begin p (d .k) (terms (take (d .pivot) t)) (d .closing) (d .place) (d .left) v (s .0) bs ss (subst (λ (m : ℕ). Held (view v) m (with-open (s .0) bs ss)) (sym cap) (C .held)) (C .ready) (C .has)
+  pub prepared-stop : (why : Reason) → Preparation p w (Stop why) t i v → Stops (capacity w) p w why
+  prepared-stop why P = P .answers
 
-      pub members-done : (u : List ℕ) (left : ℕ) → AtMembers p (d .k) (terms (take (d .pivot) t)) (d .closing) (d .place) (d .left) v u left → left ≡ 0 → Goes-to (capacity w) p w u
-      members-done u left A z b bs ss H R =
-          let s = prepared-members b bs ss H R in
-          let C = s .1 in
-          let x = subst (λ (m : ℕ). (b₀ : Stored) (bs ss : List Stored) → Held (view v) m (with-open b₀ bs ss) → Ready p (with-open b₀ bs ss) → Has-members (d .closing) (d .place) (d .left) b₀
-          → (b : Stored) × Held (view u) m (with-open b bs ss) × Ready p (with-open b bs ss) × Has-members (d .closing) (d .place) left b
-          × (rest-of-step (limits-in m) p (d .closing) (d .place) left (d .k) (terms (take (d .pivot) t)) b bs ss ≡ rest-of-step (limits-in m) p (d .closing) (d .place) (d .left) (d .k) (terms (take (d .pivot) t)) b₀ bs ss)) cap (A .all)
-          (s .0) bs ss (C .held) (C .ready) (C .has) in
-          (with-open (x .0) bs ss, C .goes ∙ sym (x .4) ∙ members-end (limits-in (capacity w)) p (d .k) (terms (take (d .pivot) t)) (d .place) (x .0) bs ss (d .closing) left z, x .1, x .2)
+  module _ {d : Division} (P : Preparation p w (Members d) t i v) where
+    pub prepared-pivot : Some-open p w → Pivot-in p d t i
+    prepared-pivot s =
+        let C = P .answers (s .0) (s .1) (s .2) (s .3) (s .4) .1 in
+        record { pivot-inside = C .pivot-inside; initial-inside = C .initial-inside; pivoted = C .pivoted }
 
-      pub members-stop : (why : Reason) → Comes-to p (d .k) (terms (take (d .pivot) t)) (d .closing) (d .place) (d .left) v (stopped why) → Stops (capacity w) p w why
-      members-stop why A b bs ss H R =
-          let s = prepared-members b bs ss H R in
-          let C = s .1 in
-          C .goes
-          ∙ subst (λ (m : ℕ). (b₀ : Stored) (bs ss : List Stored) → Held (view v) m (with-open b₀ bs ss) → Ready p (with-open b₀ bs ss) → Has-members (d .closing) (d .place) (d .left) b₀
-          → rest-of-step (limits-in m) p (d .closing) (d .place) (d .left) (d .k) (terms (take (d .pivot) t)) b₀ bs ss ≡ stopped why) cap A (s .0) bs ss (C .held) (C .ready) (C .has)
+    cap : capacity v ≡ capacity w
+    cap = same-capacity v w (P .same)
+
+    -- The step, by the capacity of v.
+    comes : (b : Stored) (bs ss : List Stored) → Held (view w) (capacity v) (with-open b bs ss) → Ready p (with-open b bs ss)
+        → (b' : Stored) × Comes (limits-in (capacity v)) p (step-in (capacity v) p b bs ss) d t i (view v) (capacity v) b' bs ss
+    comes =
+        subst (λ (m : ℕ). (b : Stored) (bs ss : List Stored) → Held (view w) m (with-open b bs ss) → Ready p (with-open b bs ss)
+        → (b' : Stored) × Comes (limits-in m) p (step-in m p b bs ss) d t i (view v) m b' bs ss) (sym cap) (P .answers)
+
+    pub members-first : Some-open p w → AtMembers p (d .k) (terms (take (d .pivot) t)) (d .closing) (d .place) (d .left) v v (d .left)
+    members-first s =
+        let H = subst (λ (m : ℕ). Held (view w) m (with-open (s .0) (s .1) (s .2))) (sym cap) (s .3) in
+        let c = comes (s .0) (s .1) (s .2) H (s .4) in
+        let C = c .1 in
+        members-begin p (d .k) (terms (take (d .pivot) t)) (d .closing) (d .place) (d .left) v (c .0) (s .1) (s .2) (C .held) (C .ready) (C .has)
+
+    pub members-done : {u : List ℕ} {left : ℕ} → AtMembers p (d .k) (terms (take (d .pivot) t)) (d .closing) (d .place) (d .left) v u left → left ≡ 0
+        → Goes-to (capacity w) p w u
+    members-done {u} {left} A z =
+        subst (λ (m : ℕ). Goes-to m p w u) cap (λ b bs ss H R.
+        let c = comes b bs ss H R in
+        let C = c .1 in
+        let x = A .all (c .0) bs ss (C .held) (C .ready) (C .has) in
+        let ends = members-end (limits-in (capacity v)) p (d .k) (terms (take (d .pivot) t)) (d .place) (x .0) bs ss (d .closing) left z in
+        (with-open (x .0) bs ss, C .goes ∙ sym (x .4) ∙ ends, x .1, x .2))
+
+    pub members-stop : (why : Reason) → Comes-to p (d .k) (terms (take (d .pivot) t)) (d .closing) (d .place) (d .left) v (stopped why) → Stops (capacity w) p w why
+    members-stop why A =
+        subst (λ (m : ℕ). Stops m p w why) cap (λ b bs ss H R.
+        let c = comes b bs ss H R in
+        let C = c .1 in
+        C .goes ∙ A (c .0) bs ss (C .held) (C .ready) (C .has))
 
 -- ── the run ──
 opened : (a : Area) → has-branch a ≡ true → (b : Stored) × (bs : List Stored) × (a ≡ with-open b bs (a .systems))
@@ -98,7 +122,19 @@ closed a e = go (a .branches) e
     go [] e = refl
     go (b ∷ bs) e = absurd (let z : _≡_ {A = ℕ} 0 1 = cc in omega arith)
 
-module _ (p limit : ℕ) (w₀ w : List ℕ) (steps : ℕ) (A : AtRun p limit w₀ w steps) where
+-- No branch of a state held by w is open; or one is.
+abbrev pub None-open : List ℕ → Type 0
+None-open w = (a : Area) → Held (view w) (capacity w) a → has-branch a ≡ false
+
+abbrev pub All-open : List ℕ → Type 0
+All-open w = (a : Area) → Held (view w) (capacity w) a → has-branch a ≡ true
+
+-- q is the answer from every state that w held where the run began, and v the area then.
+abbrev pub Answers : ℕ → ℕ → List ℕ → Answer → List ℕ → Type 0
+Answers p limit w q v =
+    (a : Area) → Held (view w) (capacity w) a → Ready p a → Ran (run (limits-in (capacity w)) p limit 0 (state-of a)) p q (view v) (capacity w)
+
+module _ {p limit : ℕ} {w₀ w : List ℕ} {steps : ℕ} (A : AtRun p limit w₀ w steps) where
   capacity-kept : capacity w ≡ capacity w₀
   capacity-kept = same-capacity w w₀ (A .same)
 
@@ -108,13 +144,9 @@ module _ (p limit : ℕ) (w₀ w : List ℕ) (steps : ℕ) (A : AtRun p limit w�
   pub run-has-control : 0 < room w
   run-has-control = let s = A .some in omega (arith, length-view w, ap length (s .1 .is))
 
-  -- What the answer is from every state that was held where the run began.
-  abbrev Answers : Answer → List ℕ → Type 0
-  Answers q v = (a : Area) → Held (view w₀) (capacity w₀) a → Ready p a → Ran (run (limits-in (capacity w₀)) p limit 0 (state-of a)) p q (view v) (capacity w₀)
-
   -- ── no branch is left ──
-  module _ (none : (a : Area) → Held (view w) (capacity w) a → has-branch a ≡ false) where
-    pub run-finished : (n : ℕ) → n ≡ getD (view w) 0 nul .w3 → Answers (record { steps = steps; outcome = Systems n }) w
+  module _ (none : None-open w) where
+    pub run-finished : (n : ℕ) → n ≡ getD (view w) 0 nul .w3 → Answers p limit w₀ (record { steps = steps; outcome = Systems n }) w
     run-finished n e a₀ H₀ R₀ =
         let s = A .all a₀ H₀ R₀ in
         let c = closed (s .0) (none (s .0) (subst (λ (m : ℕ). Held (view w) m (s .0)) (sym capacity-kept) (s .1))) in
@@ -130,7 +162,7 @@ module _ (p limit : ℕ) (w₀ w : List ℕ) (steps : ℕ) (A : AtRun p limit w�
         )
 
   -- ── a branch is left ──
-  module _ (some : (a : Area) → Held (view w) (capacity w) a → has-branch a ≡ true) where
+  module _ (some : All-open w) where
     -- Whatever state the run began with, it comes to one with an open branch.
     pub run-open : (a₀ : Area) → Held (view w₀) (capacity w₀) a₀ → Ready p a₀
         → (b : Stored) × (bs : List Stored) × (ss : List Stored) × Held (view w) (capacity w₀) (with-open b bs ss) × Ready p (with-open b bs ss)
@@ -146,14 +178,14 @@ module _ (p limit : ℕ) (w₀ w : List ℕ) (steps : ℕ) (A : AtRun p limit w�
           subst (λ (a : Area). run (limits-in (capacity w₀)) p (limit - steps) steps (state-of a) ≡ run (limits-in (capacity w₀)) p limit 0 (state-of a₀)) (o .2) (s .3),
         )
 
-    pub run-open-some : (b : Stored) × (bs : List Stored) × (ss : List Stored) × Held (view w) (capacity w) (with-open b bs ss) × Ready p (with-open b bs ss)
+    pub run-open-some : Some-open p w
     run-open-some =
         let s = A .some in
         let h = subst (λ (m : ℕ). Held (view w) m (s .0)) (sym capacity-kept) (s .1) in
         let o = opened (s .0) (some (s .0) h) in
         (o .0, o .1, s .0 .systems, subst (Held (view w) (capacity w)) (o .2) h, subst (Ready p) (o .2) (s .2))
 
-    pub run-no-steps : (v : List ℕ) → limit ≤ steps → Answers (record { steps = steps; outcome = Refused Steps 0 }) v
+    pub run-no-steps : (v : List ℕ) → limit ≤ steps → Answers p limit w₀ (record { steps = steps; outcome = Refused Steps 0 }) v
     run-no-steps v h a₀ H₀ R₀ =
         let s = run-open a₀ H₀ R₀ in
         let z : limit - steps ≡ 0 = omega (arith, h) in
@@ -169,7 +201,7 @@ module _ (p limit : ℕ) (w₀ w : List ℕ) (steps : ℕ) (A : AtRun p limit w�
           let z : limit - steps ≡ suc (limit - suc steps) = omega (arith, more) in
           ap (λ (n : ℕ). run (limits-in (capacity w₀)) p n steps (state-of (with-open b bs ss))) z ∙ run-steps (limits-in (capacity w₀)) p steps b bs ss (limit - suc steps)
 
-      pub run-stopped : (why : Reason) (v : List ℕ) → Stops (capacity w) p w why → Answers (record { steps = steps; outcome = Refused why 0 }) v
+      pub run-stopped : (why : Reason) (v : List ℕ) → Stops (capacity w) p w why → Answers p limit w₀ (record { steps = steps; outcome = Refused why 0 }) v
       run-stopped why v S a₀ H₀ R₀ =
           let s = run-open a₀ H₀ R₀ in
           let e = subst (λ (m : ℕ). Stops m p w why) capacity-kept S (s .0) (s .1) (s .2) (s .3) (s .4) in

@@ -1,8 +1,8 @@
--- `run::run` meets its contract: the answers to what is asked of each line of its code. `Places` has the loops' invariants and the places of the code;
+-- `run::run` meets its contract: the answers to what is asked at each line of its code. `Places` has the loops' invariants and the places of the code;
 -- `Facts` has what is known there.
 mod Places
 mod Facts
-use mathlib.Core.Path.{refl, sym, subst, _∙_}
+use mathlib.Core.Path.{refl, sym, subst}
 use native.Mathlib.Omega.{arith}
 use borrow.Author.Needs.{needs}
 use borrow.Author.Tests.{not-true, not-false}
@@ -10,10 +10,9 @@ use lib.Seq.{length-take-le}
 use Rattle.polynomials.specs.Bounds.{degree-passed, terms-passed}
 use Rattle.tables.specs.declared.Reason.the-variants.{Degree, Terms, Room}
 use Rattle.elimination.proofs.Slices.{kept-all, kept-then}
-use Rattle.elimination.proofs.Invariants.{AtRun, run-begins, division-begins, round-less, division-goes-on, formed-degree, formed-terms}
-use Rattle.elimination.proofs.MembersLaws.{members-open, members-left, member-inside, member-holds, member-open, member-behind}
-use Rattle.elimination.proofs.MembersLaws.{member-degree, member-terms, member-put, member-not-put}
-use Rattle.elimination.proofs.RunLaws.{members-first, run-holds-some, run-has-control, run-finished, run-no-steps, run-goes-on}
+use Rattle.elimination.proofs.Invariants.{AtRun, run-begins, formed-degree, formed-terms}
+use Rattle.elimination.proofs.MembersLaws.{members-open, members-left, member-open, member-behind, member-degree, member-terms}
+use Rattle.elimination.proofs.RunLaws.{run-holds-some, run-has-control, run-finished, run-no-steps, run-goes-on}
 use Rattle.elimination.proofs.run.run.Statement.{statement}
 use Rattle.elimination.proofs.run.run.Tie as tie
 use Places.*
@@ -24,10 +23,10 @@ run-holds : Of tie.Need-run-holds
 run-holds c = let e = run-begun c in (run-begins (e .args .p) (e .args .limit) (e .args .w .now) (e .pre .0 .1), kept-all)
 
 is-open-requires : Of tie.Need-is-open-requires
-is-open-requires c κs = run-holds-some (at-run (c .before))
+is-open-requires c κs = run-holds-some (run-invariant (c .before))
 
 get3-requires : Of tie.Need-get3-requires
-get3-requires c κs = run-has-control (at-run (none-in (c .before)))
+get3-requires c κs = run-has-control (run-invariant (none-in (c .before)))
 
 prepare-requires : Of tie.Need-prepare-requires
 prepare-requires c κs =
@@ -52,18 +51,19 @@ run-less c = omega (arith, steps-left (done-in c))
 
 run-again : Of tie.Need-run-again
 run-again c =
-    let m = to-run (done-in c) in
-    let goes = run-goes-on (at-run m) (all-open (to-open (to-due (done-in c)))) (steps-left (done-in c)) (at-done c .w) (kept-step c .w) (step-goes c) in
-    (subst (AtRun (p m) (limit m) (at-entry (to-entry m) .w) (at-done c .w)) (omega arith) goes, kept-then (kept-turn m) (kept-step c))
+    let s = done-in c in
+    let m = to-run s in
+    let A = run-goes-on (run-invariant m) (all-open (to-open (to-due s))) (steps-left s) (at-done c .w) (step-keeps c .w) (step-goes c) in
+    (subst (AtRun (p m) (limit m) (at-entry (to-entry m) .w) (at-done c .w)) (omega arith) A, kept-then (kept-at-turn m) (step-keeps c))
 
 -- ── the members ──
 members-holds : Of tie.Need-members-holds
-members-holds c = (members-first (members-prepared c) (some-open (to-open (to-due (to-prepared c)))), kept-all)
+members-holds c = (members-begin c, kept-all)
 
 take-requires : Of tie.Need-take-requires
 take-requires c κs =
     let m = take-due c in
-    let A = at-left (m .before) in
+    let A = members-invariant (m .before) in
     (members-open A, (members-left A (m .members-test .taken), omega (arith, long-members (m .before) .r)))
 
 sub-left : Of tie.Need-sub-left
@@ -73,34 +73,27 @@ put-back-requires : Of tie.Need-put-back-requires
 put-back-requires c κs =
     let m = divided-in (put-due c) in
     let A = member-out (to-taken m) in
-    ((member-open A, modulus (to-entry (run-of (division-of m)))), (member-behind A, (at-rounds m .inside, at-rounds m .holds)))
+    let D = division-invariant m in
+    ((member-open A, residues (division-of m)), (member-behind A, (D .inside, D .holds)))
 
 members-less : Of tie.Need-members-less
 members-less c = omega (arith, one-left (to-taken (put-of (c .before))))
 
 members-again : Of tie.Need-members-again
-members-again c =
-    let m = c .before in
-    let d = put-of m in
-    let prime = modulus (to-entry (run-of (division-of d))) .prime in
-    let fits = not-false (put-call m .put-back .result) (c .if4 .left) in
-    (member-put (member-out (to-taken d)) prime (at-rounds d .holds) (remainder-stands (to-divided m)) (put-back m) fits, kept-member m)
+members-again c = let m = c .before in (member-goes-on m (not-false (fits m) (c .if4 .left)), member-keeps m)
 
 -- ── the division ──
 division-holds : Of tie.Need-division-holds
-division-holds c =
-    let d = found (found-of c) in
-    let A = member-out c in
-    (division-begins (p (run-of (found-of c))) (d .k) (d .degree) (pivot (found-of c)) (at-taken c .r) (take-call c .take .result) (member-inside A) (member-holds A), kept-all)
+division-holds c = (rounds-begin c, kept-all)
 
 slice-reshare-prefix-degree : Of tie.Need-slice-reshare-prefix-degree
-slice-reshare-prefix-degree c = at-rounds c .inside
+slice-reshare-prefix-degree c = division-invariant c .inside
 
 slice-aggregate-degree : Of tie.Need-slice-aggregate-degree
-slice-aggregate-degree c = sym (length-take-le _ _ (at-rounds (c .before) .inside))
+slice-aggregate-degree c = sym (length-take-le _ _ (division-invariant (c .before) .inside))
 
 degree-requires : Of tie.Need-degree-requires
-degree-requires c κs = let m = c .before in (pivot-in (division-of m) .pivoted .variable, at-rounds m .holds .pairs)
+degree-requires c κs = let m = c .before in (pivoted m .variable, division-invariant m .holds .pairs)
 
 slice-reshare-prefix-round : Of tie.Need-slice-reshare-prefix-round
 slice-reshare-prefix-round c = pivot-in (division-of (to-division c)) .initial-inside
@@ -118,12 +111,12 @@ round-requires : Of tie.Need-round-requires
 round-requires c κs =
     let m = round-due c in
     let d = to-division m in
-    let M = modulus (to-entry (run-of (division-of d))) in
-    let P = pivot-in (division-of d) .pivoted in
-    let R = at-rounds d in
+    let M = residues (division-of d) in
+    let P = pivoted d in
+    let D = division-invariant d in
     let l = long-division d in (
       (omega (arith, M .prime .two≤), M .below, P .variable, P .some, m .if3 .left),
-      ((P .pivot, P .of-degree), ((P .initial, P .of-initial), ((R .inside, l .r, R .holds, sym (m .before .degree .ensures)), (l .x, l .y, l .z)))),
+      ((P .pivot, P .of-degree), ((P .initial, P .of-initial), ((D .inside, l .r, D .holds, sym (m .before .degree .ensures)), (l .x, l .y, l .z)))),
     )
 
 enum-known-m : Of tie.Need-enum-known-m
@@ -136,30 +129,20 @@ enum-told-3 : Of tie.Need-enum-told-3
 enum-told-3 c = search needs
 
 division-less : Of tie.Need-division-less
-division-less c =
-    let m = to-rounded c in
-    let d = round-of m in
-    let prime = modulus (to-entry (run-of (division-of d))) .prime in
-    round-less prime (pivot-in (division-of d) .pivoted) (at-rounds d) (degree-left (to-round m)) (words-formed c)
+division-less c = degree-falls c
 
 division-again : Of tie.Need-division-again
-division-again c =
-    let m = to-rounded c in
-    let d = round-of m in
-    let prime = modulus (to-entry (run-of (division-of d))) .prime in (
-      division-goes-on prime (pivot-in (division-of d) .pivoted) (at-rounds d) (degree-left (to-round m)) (words-formed c) (kept-round m .r),
-      kept-then (kept-rounds d) (kept-round m),
-    )
+division-again c = let m = to-rounded c in (rounds-go-on c, kept-then (rounds-keep (round-of m)) (round-keeps m))
 
 -- ── the ways to return ──
 returns : Of tie.Need-returns
-returns c = let m = c .before .before in run-finished (at-run (none-in m)) (none-open m) (c .get3 .result) (c .get3 .ensures)
+returns c = let m = c .before .before in run-finished (run-invariant (none-in m)) (none-open m) (c .get3 .result) (c .get3 .ensures)
 
 returns-2 : Of tie.Need-returns-2
-returns-2 c = let m = c .before in run-no-steps (at-run (to-turn m)) (all-open m) (at-turn (to-turn m) .w) (c .if2 .taken)
+returns-2 c = let m = c .before in run-no-steps (run-invariant (to-turn m)) (all-open m) (at-turn (to-turn m) .w) (c .if2 .taken)
 
 returns-3 : Of tie.Need-returns-3
-returns-3 c = step-stopped c (at-prepared (stopped-in c) .w)
+returns-3 c = step-stops c (at-prepared (stopped-in c) .w)
 
 returns-4 : Of tie.Need-returns-4
 returns-4 c =
@@ -176,13 +159,9 @@ returns-5 c =
     left-stops (division-of d) Terms (at-rounded m .w) (member-terms (member-out (to-taken d)) (passes m terms-passed (λ g. refl) e))
 
 returns-6 : Of tie.Need-returns-6
-returns-6 c =
-    let m = c .before in
-    let d = put-of m in
-    let prime = modulus (to-entry (run-of (division-of d))) .prime in
-    let full = not-true (put-call m .put-back .result) (c .if4 .taken) in
-    left-stops (division-of d) Room (at-put m .w) (member-not-put (member-out (to-taken d)) prime (at-rounds d .holds) (remainder-stands (to-divided m)) (put-back m) full)
+returns-6 c = let m = c .before in left-stops (division-of (put-of m)) Room (at-put m .w) (member-stops m (not-true (fits m) (c .if4 .taken)))
 
+-- The needs between the returns: the seven slices lent are as long as they were.
 pub run-spec : {M : Type 1} → statement M
 run-spec =
     tie.close
@@ -223,51 +202,57 @@ run-spec =
     add-steps
     run-less
     run-again
-    (λ c. kept-turn (none-in (c .before .before)) .w)
-    (λ c. kept-turn (none-in (c .before .before)) .t)
-    (λ c. kept-turn (none-in (c .before .before)) .i)
-    (λ c. kept-turn (none-in (c .before .before)) .r)
-    (λ c. kept-turn (none-in (c .before .before)) .x)
-    (λ c. kept-turn (none-in (c .before .before)) .y)
-    (λ c. kept-turn (none-in (c .before .before)) .z)
+    -- no branch is open
+    (λ c. kept-at-turn (none-in (c .before .before)) .w)
+    (λ c. kept-at-turn (none-in (c .before .before)) .t)
+    (λ c. kept-at-turn (none-in (c .before .before)) .i)
+    (λ c. kept-at-turn (none-in (c .before .before)) .r)
+    (λ c. kept-at-turn (none-in (c .before .before)) .x)
+    (λ c. kept-at-turn (none-in (c .before .before)) .y)
+    (λ c. kept-at-turn (none-in (c .before .before)) .z)
     returns
-    (λ c. kept-turn (to-turn (c .before)) .w)
-    (λ c. kept-turn (to-turn (c .before)) .t)
-    (λ c. kept-turn (to-turn (c .before)) .i)
-    (λ c. kept-turn (to-turn (c .before)) .r)
-    (λ c. kept-turn (to-turn (c .before)) .x)
-    (λ c. kept-turn (to-turn (c .before)) .y)
-    (λ c. kept-turn (to-turn (c .before)) .z)
+    -- no step is left
+    (λ c. kept-at-turn (to-turn (c .before)) .w)
+    (λ c. kept-at-turn (to-turn (c .before)) .t)
+    (λ c. kept-at-turn (to-turn (c .before)) .i)
+    (λ c. kept-at-turn (to-turn (c .before)) .r)
+    (λ c. kept-at-turn (to-turn (c .before)) .x)
+    (λ c. kept-at-turn (to-turn (c .before)) .y)
+    (λ c. kept-at-turn (to-turn (c .before)) .z)
     returns-2
-    (λ c. kept-prepared (stopped-in c) .w)
-    (λ c. kept-prepared (stopped-in c) .t)
-    (λ c. kept-prepared (stopped-in c) .i)
-    (λ c. kept-prepared (stopped-in c) .r)
-    (λ c. kept-prepared (stopped-in c) .x)
-    (λ c. kept-prepared (stopped-in c) .y)
-    (λ c. kept-prepared (stopped-in c) .z)
+    -- `prepare` stops
+    (λ c. kept-at-prepared (stopped-in c) .w)
+    (λ c. kept-at-prepared (stopped-in c) .t)
+    (λ c. kept-at-prepared (stopped-in c) .i)
+    (λ c. kept-at-prepared (stopped-in c) .r)
+    (λ c. kept-at-prepared (stopped-in c) .x)
+    (λ c. kept-at-prepared (stopped-in c) .y)
+    (λ c. kept-at-prepared (stopped-in c) .z)
     returns-3
-    (λ c. kept-rounded (degree-in c) .w)
-    (λ c. kept-rounded (degree-in c) .t)
-    (λ c. kept-rounded (degree-in c) .i)
-    (λ c. kept-rounded (degree-in c) .r)
-    (λ c. kept-rounded (degree-in c) .x)
-    (λ c. kept-rounded (degree-in c) .y)
-    (λ c. kept-rounded (degree-in c) .z)
+    -- a bound of degree is passed
+    (λ c. kept-at-round (degree-in c) .w)
+    (λ c. kept-at-round (degree-in c) .t)
+    (λ c. kept-at-round (degree-in c) .i)
+    (λ c. kept-at-round (degree-in c) .r)
+    (λ c. kept-at-round (degree-in c) .x)
+    (λ c. kept-at-round (degree-in c) .y)
+    (λ c. kept-at-round (degree-in c) .z)
     returns-4
-    (λ c. kept-rounded (terms-in c) .w)
-    (λ c. kept-rounded (terms-in c) .t)
-    (λ c. kept-rounded (terms-in c) .i)
-    (λ c. kept-rounded (terms-in c) .r)
-    (λ c. kept-rounded (terms-in c) .x)
-    (λ c. kept-rounded (terms-in c) .y)
-    (λ c. kept-rounded (terms-in c) .z)
+    -- a bound of terms is passed
+    (λ c. kept-at-round (terms-in c) .w)
+    (λ c. kept-at-round (terms-in c) .t)
+    (λ c. kept-at-round (terms-in c) .i)
+    (λ c. kept-at-round (terms-in c) .r)
+    (λ c. kept-at-round (terms-in c) .x)
+    (λ c. kept-at-round (terms-in c) .y)
+    (λ c. kept-at-round (terms-in c) .z)
     returns-5
-    (λ c. kept-put (c .before) .w)
-    (λ c. kept-put (c .before) .t)
-    (λ c. kept-put (c .before) .i)
-    (λ c. kept-put (c .before) .r)
-    (λ c. kept-put (c .before) .x)
-    (λ c. kept-put (c .before) .y)
-    (λ c. kept-put (c .before) .z)
+    -- the remainder does not fit
+    (λ c. kept-at-put (c .before) .w)
+    (λ c. kept-at-put (c .before) .t)
+    (λ c. kept-at-put (c .before) .i)
+    (λ c. kept-at-put (c .before) .r)
+    (λ c. kept-at-put (c .before) .x)
+    (λ c. kept-at-put (c .before) .y)
+    (λ c. kept-at-put (c .before) .z)
     returns-6)

@@ -1,8 +1,10 @@
--- The invariants and measures of the three loops of `run`; the places of its code that facts are taken from, in the order of the code, each with
--- the way back to an earlier one; and the values there.
+-- The invariants and measures of the three loops of `run`; the places of its code that facts are taken from, in the order of the code; and the
+-- slices there.
 -- The invariants, of the run: the run from the state held gives the whole run; of the members: what is left of the step, from the branch held, gives
 -- the step; of the division: the rounds left, from the words in r, form the remainder. All say that the slices keep their lengths. The measures:
 -- the steps left, the members left, the degree.
+-- A place has what its line has told, and the place `before` it. A call tells of each argument and of each slice that comes back, so a way back
+-- past a call has many steps: each is written here, once.
 use Prim.Native.Nat.{_-_}
 use lib.ListN.{take}
 use Rattle.polynomials.specs.Packed.{terms}
@@ -108,6 +110,9 @@ to-prepared m = m .before .before .before
 
 abbrev pub run-of : MembersFound → RunTurn
 run-of m = to-run (to-prepared m)
+
+abbrev pub entry-of : MembersFound → Entry
+entry-of m = to-entry (run-of m)
 
 -- A turn of the members' loop begins.
 abbrev pub MembersTurn : Type 0
@@ -228,9 +233,12 @@ at-prepared m =
     let l = prepare-call m .prepare .last in
     slices (l .0) (l .1 .1 .0) (l .1 .1 .1 .0) (l .1 .1 .1 .1 .0) (a .x) (a .y) (a .z)
 
+abbrev pub at-found : MembersFound → Slices
+at-found m = at-prepared (to-prepared m)
+
 abbrev pub at-members : MembersTurn → Slices
 at-members m =
-    let a = at-prepared (to-prepared (to-found m)) in
+    let a = at-found (to-found m) in
     let b = m .members in
     slices (b .w) (a .t) (a .i) (b .r) (b .x) (b .y) (b .z)
 

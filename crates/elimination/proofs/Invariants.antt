@@ -20,13 +20,20 @@ use Rattle.residues.specs.Prime.{Prime}
 use Rattle.steps.proofs.DivisionLaws.{remainder-done, remainder-again}
 use Rattle.tables.specs.declared.Reason.the-variants.{Steps}
 use Rattle.rules.specs.Room.{Limits}
-use Rattle.rules.specs.Step.{remainder-by, step}
-use Rattle.rules.specs.Run.{finished, refused, after-step, run}
+use Rattle.rules.specs.Step.{Stepped, remainder-by, step}
+use Rattle.rules.specs.Run.{Ended, finished, refused, after-step, run}
 use Rattle.records.specs.Records.{view}
 use Rattle.branches.specs.Area.{Stored, Area, Held, with-open, capacity}
 use Rattle.representation.specs.Represent.{branch-of, system-of, state-of}
 use Rattle.steps.specs.Ready.{Ready, limits-in}
 use Rattle.steps.specs.Pending.{Has-members, Pivoted, rest-of-step}
+
+-- The run from a state, and what is left of a step from a branch, in a work area with so many records.
+abbrev pub run-in : ℕ → ℕ → ℕ → ℕ → Area → Ended
+run-in most p left n a = run (limits-in most) p left n (state-of a)
+
+abbrev pub rest-in : ℕ → ℕ → Bool → ℕ → ℕ → ℕ → Poly → Stored → List Stored → List Stored → Stepped
+rest-in most = rest-of-step (limits-in most)
 
 -- The run from the state held gives the whole run.
 pub record AtRun (p limit : ℕ) (w₀ w : List ℕ) (steps : ℕ) : Type 0 where
@@ -35,16 +42,19 @@ pub record AtRun (p limit : ℕ) (w₀ w : List ℕ) (steps : ℕ) : Type 0 wher
   pub some : (a : Area) × Held (view w) (capacity w₀) a × Ready p a
   pub all :
       (a₀ : Area) → Held (view w₀) (capacity w₀) a₀ → Ready p a₀
-      → (a : Area) × Held (view w) (capacity w₀) a × Ready p a × (run (limits-in (capacity w₀)) p (limit - steps) steps (state-of a) ≡ run (limits-in (capacity w₀)) p limit 0 (state-of a₀))
+      → (a : Area) × Held (view w) (capacity w₀) a × Ready p a × (run-in (capacity w₀) p (limit - steps) steps a ≡ run-in (capacity w₀) p limit 0 a₀)
 
 -- What is left of the step is the step, by the pivot f in v(k+1).
 pub record AtMembers (p k : ℕ) (f : Poly) (closing : Bool) (place left₀ : ℕ) (w₀ w : List ℕ) (left : ℕ) : Type 0 where
   pub same : length w ≡ length w₀
-  pub some : (b : Stored) × (bs : List Stored) × (ss : List Stored) × Held (view w) (capacity w₀) (with-open b bs ss) × Ready p (with-open b bs ss) × Has-members closing place left b
+  pub some :
+      (b : Stored) × (bs : List Stored) × (ss : List Stored) × Held (view w) (capacity w₀) (with-open b bs ss) × Ready p (with-open b bs ss)
+      × Has-members closing place left b
   pub all :
-      (b₀ : Stored) (bs ss : List Stored) → Held (view w₀) (capacity w₀) (with-open b₀ bs ss) → Ready p (with-open b₀ bs ss) → Has-members closing place left₀ b₀
+      (b₀ : Stored) (bs ss : List Stored) → Held (view w₀) (capacity w₀) (with-open b₀ bs ss) → Ready p (with-open b₀ bs ss)
+      → Has-members closing place left₀ b₀
       → (b : Stored) × Held (view w) (capacity w₀) (with-open b bs ss) × Ready p (with-open b bs ss) × Has-members closing place left b
-      × (rest-of-step (limits-in (capacity w₀)) p closing place left k f b bs ss ≡ rest-of-step (limits-in (capacity w₀)) p closing place left₀ k f b₀ bs ss)
+      × (rest-in (capacity w₀) p closing place left k f b bs ss ≡ rest-in (capacity w₀) p closing place left₀ k f b₀ bs ss)
 
 -- What the rounds left form is what all form. The first n words of r are divided.
 pub record AtDivision (p k d : ℕ) (f : Poly) (r₀ : List ℕ) (n₀ : ℕ) (r : List ℕ) (n : ℕ) : Type 0 where
@@ -53,7 +63,8 @@ pub record AtDivision (p k d : ℕ) (f : Poly) (r₀ : List ℕ) (n₀ : ℕ) (r
   pub holds : Holds p (take n r)
   pub rounds :
       (s₀ : ℕ) → degree k (terms (take n₀ r₀)) < s₀
-      → (s : ℕ) × (degree k (terms (take n r)) < s) × (bounded-remainder standard p k d f s (terms (take n r)) ≡ bounded-remainder standard p k d f s₀ (terms (take n₀ r₀)))
+      → (s : ℕ) × (degree k (terms (take n r)) < s)
+      × (bounded-remainder standard p k d f s (terms (take n r)) ≡ bounded-remainder standard p k d f s₀ (terms (take n₀ r₀)))
 
 -- ── where a loop begins ──
 pub run-begins : (p limit : ℕ) (w : List ℕ) → (a : Area) × Held (view w) (capacity w) a × Ready p a → AtRun p limit w w 0
@@ -61,7 +72,7 @@ run-begins p limit w h = record {
   same = refl;
   within = omega arith;
   some = h;
-  all = λ a H R. (a, H, R, ap (λ (n : ℕ). run (limits-in (capacity w)) p n 0 (state-of a)) (sub-zero limit));
+  all = λ a H R. (a, H, R, ap (λ (n : ℕ). run-in (capacity w) p n 0 a) (sub-zero limit));
 }
 
 pub division-begins : (p k d : ℕ) (f : Poly) (r : List ℕ) (n : ℕ) → n ≤ length r → Holds p (take n r) → AtDivision p k d f r n r n
@@ -79,7 +90,8 @@ module _ (l : Limits) (p n : ℕ) where
     unfolding run
     run-used = refl
 
-    pub run-steps : (left : ℕ) → run l p (suc left) n (state-of (with-open b bs ss)) ≡ after-step (run l p left (suc n)) n (step l p (branch-of b) (map branch-of bs) (reverse (map system-of ss)))
+    pub run-steps : (left : ℕ)
+        → run l p (suc left) n (state-of (with-open b bs ss)) ≡ after-step (run l p left (suc n)) n (step l p (branch-of b) (map branch-of bs) (reverse (map system-of ss)))
     unfolding run
     run-steps left = refl
 
@@ -118,7 +130,8 @@ formed-terms (within f) r s q F = absurd (let z : _≡_ {A = ℕ} 0 1 = cc in om
 formed-terms degree-passed r s q F = absurd (let z : _≡_ {A = ℕ} 0 1 = cc in omega arith)
 formed-terms terms-passed r s q F = refl
 
-module _ {p k d : ℕ} {t i : List ℕ} (P : Pivoted p k d t i) {r₀ : List ℕ} {n₀ : ℕ} {r : List ℕ} {n : ℕ} (D : AtDivision p k d (terms t) r₀ n₀ r n) (most : ℕ) where
+module _ {p k d : ℕ} {t i : List ℕ} (P : Pivoted p k d t i) {r₀ : List ℕ} {n₀ : ℕ} {r : List ℕ} {n : ℕ}
+    (D : AtDivision p k d (terms t) r₀ n₀ r n) (most : ℕ) where
   -- The remainder is what the rounds left form.
   remainder-left : (s : ℕ) × (degree k (terms (take n r)) < s)
       × (bounded-remainder standard p k d (terms t) s (terms (take n r)) ≡ remainder-by (limits-in most) p k (terms t) (terms (take n₀ r₀)))

@@ -33,7 +33,7 @@ use Rattle.steps.proofs.SplitLaws.{put-P-nonzero}
 use Rattle.steps.proofs.TakeLaws.{Took, Put}
 use Rattle.steps.proofs.MemberLaws.{takes, onward, step-put}
 use Rattle.steps.proofs.Unique.{of-every}
-use Rattle.elimination.proofs.Invariants.{AtMembers}
+use Rattle.elimination.proofs.Invariants.{rest-in, AtMembers}
 
 -- ── what stays true of the branch ──
 long-before : (r : List ℕ) (left : ℕ) (fs : List (List ℕ)) → left ≤ length fs → left ≤ length (put-Q-before left r fs)
@@ -43,17 +43,21 @@ long-before r left fs q =
     omega (arith, q, length-append (put-Q r (take k fs)) (drop k fs), length-drop k fs)
 
 module _ (p place left : ℕ) (b : Stored) (bs ss : List Stored) where
-  pub ready-put : (closing : Bool) → Ready p (with-open b bs ss) → (r : List ℕ) → Sound p r → Monic (terms r) → Ready p (with-open (put-in closing (left - 1) r (taken-out closing place left b)) bs ss)
-  ready-put false R r s m = record {
-    sound = record { branches = (put-into-P-sound p (without-P place b) (without-P-sound p b (R .sound .branches .0) place) r s, R .sound .branches .1); systems = R .sound .systems };
-    monic = (put-P-monic r (remove place (b .P)) m (remove-monic place (b .P) (R .monic .0)), R .monic .1);
-    nonzero = (put-P-nonzero r (remove place (b .P)) (each-remove (λ f. f ≢ []) place (b .P) (R .nonzero .0)), R .nonzero .1);
-    listed = R .listed;
-  }
+  pub ready-put : (closing : Bool) → Ready p (with-open b bs ss) → (r : List ℕ) → Sound p r → Monic (terms r)
+      → Ready p (with-open (put-in closing (left - 1) r (taken-out closing place left b)) bs ss)
+  ready-put false R r s m =
+      let S = put-into-P-sound p (without-P place b) (without-P-sound p b (R .sound .branches .0) place) r s in
+      record {
+        sound = record { branches = (S, R .sound .branches .1); systems = R .sound .systems };
+        monic = (put-P-monic r (remove place (b .P)) m (remove-monic place (b .P) (R .monic .0)), R .monic .1);
+        nonzero = (put-P-nonzero r (remove place (b .P)) (each-remove (λ f. f ≢ []) place (b .P) (R .nonzero .0)), R .nonzero .1);
+        listed = R .listed;
+      }
   ready-put true R r s m =
       let j = length (b .Q) - left in
+      let S = put-into-Q-sound p (without-Q j b) (without-Q-sound p b (R .sound .branches .0) j) (left - 1) r s in
       record {
-        sound = record { branches = (put-into-Q-sound p (without-Q j b) (without-Q-sound p b (R .sound .branches .0) j) (left - 1) r s, R .sound .branches .1); systems = R .sound .systems };
+        sound = record { branches = (S, R .sound .branches .1); systems = R .sound .systems };
         monic = R .monic;
         nonzero = R .nonzero;
         listed = R .listed;
@@ -68,7 +72,8 @@ module _ (p place left : ℕ) (b : Stored) (bs ss : List Stored) where
     has-behind false h = tt
     has-behind true h = omega (arith, some, h, length-remove (length (b .Q) - left) (b .Q) (omega (arith, some, h)))
 
-    pub has-put : (closing : Bool) (r : List ℕ) → Has-members closing place left b → Has-members closing place (left - 1) (put-in closing (left - 1) r (taken-out closing place left b))
+    pub has-put : (closing : Bool) (r : List ℕ) → Has-members closing place left b
+        → Has-members closing place (left - 1) (put-in closing (left - 1) r (taken-out closing place left b))
     has-put false r h = (omega (arith, h .0), λ q. absurd (omega (arith, q, h .0)))
     has-put true r h = long-before r (left - 1) (remove (length (b .Q) - left) (b .Q)) (has-behind true h)
 
@@ -78,7 +83,8 @@ module _ (p place left : ℕ) (b : Stored) (bs ss : List Stored) where
 
 -- ── where the loop begins ──
 pub members-begin : (p k : ℕ) (f : Poly) (closing : Bool) (place left : ℕ) (w : List ℕ) (b : Stored) (bs ss : List Stored)
-    → Held (view w) (capacity w) (with-open b bs ss) → Ready p (with-open b bs ss) → Has-members closing place left b → AtMembers p k f closing place left w w left
+    → Held (view w) (capacity w) (with-open b bs ss) → Ready p (with-open b bs ss) → Has-members closing place left b
+    → AtMembers p k f closing place left w w left
 members-begin p k f closing place left w b bs ss H R M = record { same = refl; some = (b, bs, ss, H, R, M); all = λ c cs us H R M. (c, H, R, M, refl) }
 
 -- ── a member taken out ──
@@ -87,11 +93,13 @@ pub record AtMember (p k : ℕ) (f : Poly) (closing : Bool) (place left₀ : ℕ
   pub same : length w ≡ length w₀
   pub one : 1 ≤ left
   pub some :
-      (b : Stored) × (bs : List Stored) × (ss : List Stored) × Took closing place left b bs ss n r (view w) (capacity w₀) × Ready p (with-open b bs ss) × Has-members closing place left b
+      (b : Stored) × (bs : List Stored) × (ss : List Stored) × Took closing place left b bs ss n r (view w) (capacity w₀) × Ready p (with-open b bs ss)
+      × Has-members closing place left b
   pub all :
-      (b₀ : Stored) (bs ss : List Stored) → Held (view w₀) (capacity w₀) (with-open b₀ bs ss) → Ready p (with-open b₀ bs ss) → Has-members closing place left₀ b₀
+      (b₀ : Stored) (bs ss : List Stored) → Held (view w₀) (capacity w₀) (with-open b₀ bs ss) → Ready p (with-open b₀ bs ss)
+      → Has-members closing place left₀ b₀
       → (b : Stored) × Took closing place left b bs ss n r (view w) (capacity w₀) × Ready p (with-open b bs ss) × Has-members closing place left b
-      × (rest-of-step (limits-in (capacity w₀)) p closing place left k f b bs ss ≡ rest-of-step (limits-in (capacity w₀)) p closing place left₀ k f b₀ bs ss)
+      × (rest-in (capacity w₀) p closing place left k f b bs ss ≡ rest-in (capacity w₀) p closing place left₀ k f b₀ bs ss)
 
 -- The words s were put into the area w. Whether they fitted is q, and v is the area then.
 pub record PutBack (p : ℕ) (closing : Bool) (left : ℕ) (s w : List ℕ) (q : Bool) (v : List ℕ) : Type 0 where
@@ -101,8 +109,9 @@ pub record PutBack (p : ℕ) (closing : Bool) (left : ℕ) (s w : List ℕ) (q :
 -- What is left of the step comes to S, from whatever state was held where the loop began.
 abbrev pub Comes-to : ℕ → ℕ → Poly → Bool → ℕ → ℕ → List ℕ → Stepped → Type 0
 Comes-to p k f closing place left₀ w₀ S =
-    (b₀ : Stored) (bs ss : List Stored) → Held (view w₀) (capacity w₀) (with-open b₀ bs ss) → Ready p (with-open b₀ bs ss) → Has-members closing place left₀ b₀
-    → rest-of-step (limits-in (capacity w₀)) p closing place left₀ k f b₀ bs ss ≡ S
+    (b₀ : Stored) (bs ss : List Stored) → Held (view w₀) (capacity w₀) (with-open b₀ bs ss) → Ready p (with-open b₀ bs ss)
+    → Has-members closing place left₀ b₀
+    → rest-in (capacity w₀) p closing place left₀ k f b₀ bs ss ≡ S
 
 module _ {p k : ℕ} {f : Poly} {closing : Bool} {place left₀ : ℕ} {w₀ w : List ℕ} {left : ℕ} where
   module _ (A : AtMembers p k f closing place left₀ w₀ w left) where
@@ -117,7 +126,8 @@ module _ {p k : ℕ} {f : Poly} {closing : Bool} {place left₀ : ℕ} {w₀ w :
         let s = A .some in
         of-left closing (subst (λ (m : ℕ). Held (view w) m (with-open b bs ss)) cap H) (s .3) (has-left p place left (s .0) (s .1) (s .2) one closing (s .5))
       where
-        of-left : (closing : Bool) {b c : Stored} {bs ss cs us : List Stored} → Held (view w) (capacity w₀) (with-open b bs ss) → Held (view w) (capacity w₀) (with-open c cs us)
+        of-left : (closing : Bool) {b c : Stored} {bs ss cs us : List Stored} → Held (view w) (capacity w₀) (with-open b bs ss)
+            → Held (view w) (capacity w₀) (with-open c cs us)
             → Has-left closing place left c → Has-left closing place left b
         of-left false {b} {c} {bs} {ss} {cs} {us} H K h = of-every (λ P Q. place < length P) K h b bs ss H
         of-left true {b} {c} {bs} {ss} {cs} {us} H K h = of-every (λ P Q. (1 ≤ left) × (left ≤ length Q)) K h b bs ss H
@@ -132,9 +142,11 @@ module _ {p k : ℕ} {f : Poly} {closing : Bool} {place left₀ : ℕ} {w₀ w :
       all = λ b₀ bs ss H R M. let s = A .all b₀ bs ss H R M in (s .0, taken (s .0) bs ss (s .1), s .2, s .3, s .4);
     }
       where
-        taken : (b : Stored) (bs ss : List Stored) → Held (view w) (capacity w₀) (with-open b bs ss) → Took closing place left b bs ss n r (view v) (capacity w₀)
+        taken : (b : Stored) (bs ss : List Stored) → Held (view w) (capacity w₀) (with-open b bs ss)
+            → Took closing place left b bs ss n r (view v) (capacity w₀)
         taken b bs ss H =
-            subst (λ (m : ℕ). Took closing place left b bs ss n r (view v) m) cap (took b bs ss (subst (λ (m : ℕ). Held (view w) m (with-open b bs ss)) (sym cap) H))
+            subst (λ (m : ℕ). Took closing place left b bs ss n r (view v) m) cap
+            (took b bs ss (subst (λ (m : ℕ). Held (view w) m (with-open b bs ss)) (sym cap) H))
 
   -- ── its remainder put ──
   module _ {n : ℕ} {r : List ℕ} (A : AtMember p k f closing place left₀ w₀ w left n r) where
@@ -144,18 +156,23 @@ module _ {p k : ℕ} {f : Poly} {closing : Bool} {place left₀ : ℕ} {w₀ w :
     pub member-holds : Holds p (take n r)
     member-holds = let s = A .some in subst (Holds p) (sym (s .3 .1)) (member-sound p place left (s .0) (s .1) (s .2) closing (s .4) .holds)
 
+    member-cap : capacity w ≡ capacity w₀
+    member-cap = same-capacity w w₀ (A .same)
+
     pub member-open : Opened (view w) (capacity w)
     member-open =
         let s = A .some in
-        (taken-out closing place left (s .0), s .1, s .2, subst (λ (m : ℕ). Held (view w) m (with-open (taken-out closing place left (s .0)) (s .1) (s .2))) (sym (same-capacity w w₀ (A .same))) (s .3 .2))
+        let b = taken-out closing place left (s .0) in
+        (b, s .1, s .2, subst (λ (m : ℕ). Held (view w) m (with-open b (s .1) (s .2))) (sym member-cap) (s .3 .2))
 
     pub member-behind : (b : Stored) (bs ss : List Stored) → Held (view w) (capacity w) (with-open b bs ss) → Has-behind closing (left - 1) b
     member-behind b bs ss H =
         let s = A .some in
-        of-behind closing (subst (λ (m : ℕ). Held (view w) m (with-open b bs ss)) (same-capacity w w₀ (A .same)) H) (s .3 .2) (has-behind p place left (s .0) (s .1) (s .2) (A .one) closing (s .5))
+        let H₀ = subst (λ (m : ℕ). Held (view w) m (with-open b bs ss)) member-cap H in
+        of-behind closing H₀ (s .3 .2) (has-behind p place left (s .0) (s .1) (s .2) (A .one) closing (s .5))
       where
-        of-behind : (closing : Bool) {b c : Stored} {bs ss cs us : List Stored} → Held (view w) (capacity w₀) (with-open b bs ss) → Held (view w) (capacity w₀) (with-open c cs us)
-            → Has-behind closing (left - 1) c → Has-behind closing (left - 1) b
+        of-behind : (closing : Bool) {b c : Stored} {bs ss cs us : List Stored} → Held (view w) (capacity w₀) (with-open b bs ss)
+            → Held (view w) (capacity w₀) (with-open c cs us) → Has-behind closing (left - 1) c → Has-behind closing (left - 1) b
         of-behind false H K h = tt
         of-behind true {b} {c} {bs} {ss} {cs} {us} H K h = of-every (λ P Q. left - 1 ≤ length Q) K h b bs ss H
 
@@ -163,13 +180,15 @@ module _ {p k : ℕ} {f : Poly} {closing : Bool} {place left₀ : ℕ} {w₀ w :
     remainder = remainder-by (limits-in (capacity w₀)) p k f (terms (take n r))
 
     -- A limit met in the division stops the step.
-    member-stops : (why : Reason) (B : Bounded) → ((k : Poly → Stepped) → after-division B k ≡ stopped why) → remainder ≡ B → Comes-to p k f closing place left₀ w₀ (stopped why)
+    member-stops : (why : Reason) (B : Bounded) → ((k : Poly → Stepped) → after-division B k ≡ stopped why) → remainder ≡ B
+        → Comes-to p k f closing place left₀ w₀ (stopped why)
     member-stops why B stop e b₀ bs ss H R M =
         let s = A .all b₀ bs ss H R M in
         let l = limits-in (capacity w₀) in
+        let on = onward l p k f (s .0) bs ss closing place left in
+        let met = ap (λ (g : List ℕ). remainder-by l p k f (terms g)) (sym (s .1 .1)) ∙ e in
         sym (s .4) ∙ takes l p k f (s .0) bs ss closing place left (A .one) (has-left p place left (s .0) bs ss (A .one) closing (s .3))
-        ∙ ap (λ (B : Bounded). after-division B (onward l p k f (s .0) bs ss closing place left)) (ap (λ (g : List ℕ). remainder-by l p k f (terms g)) (sym (s .1 .1)) ∙ e)
-        ∙ stop (onward l p k f (s .0) bs ss closing place left)
+        ∙ ap (λ (B : Bounded). after-division B on) met ∙ stop on
 
     pub member-degree : remainder ≡ degree-passed → Comes-to p k f closing place left₀ w₀ (stopped Degree)
     member-degree = member-stops Degree degree-passed (λ k. refl)
@@ -178,52 +197,69 @@ module _ {p k : ℕ} {f : Poly} {closing : Bool} {place left₀ : ℕ} {w₀ w :
     member-terms = member-stops Terms terms-passed (λ k. refl)
 
     -- The remainder is in the words s, and it was put back.
-    module _ (prime : Prime p) {s : List ℕ} (holds : Holds p s) (e : remainder ≡ within (terms s)) {v : List ℕ} {q : Bool} (B : PutBack p closing (left - 1) s w q v) where
+    module _ (prime : Prime p) {s : List ℕ} (holds : Holds p s) (e : remainder ≡ within (terms s)) {v : List ℕ} {q : Bool}
+        (B : PutBack p closing (left - 1) s w q v) where
       -- b is the branch where the member was taken.
-      module _ (b : Stored) (bs ss : List Stored) (T : Took closing place left b bs ss n r (view w) (capacity w₀)) (R : Ready p (with-open b bs ss)) (M : Has-members closing place left b) where
+      module _ (b : Stored) (bs ss : List Stored) (T : Took closing place left b bs ss n r (view w) (capacity w₀)) (R : Ready p (with-open b bs ss))
+          (M : Has-members closing place left b) where
         was-put : Put p closing (left - 1) s (taken-out closing place left b) bs ss q (view v) (capacity w₀)
         was-put =
-            let c = same-capacity w w₀ (A .same) in
-            subst (λ (m : ℕ). Put p closing (left - 1) s (taken-out closing place left b) bs ss q (view v) m) c
-            (B .puts (taken-out closing place left b) bs ss (subst (λ (m : ℕ). Held (view w) m (with-open (taken-out closing place left b) bs ss)) (sym c) (T .2)))
+            let c = taken-out closing place left b in
+            subst (λ (m : ℕ). Put p closing (left - 1) s c bs ss q (view v) m) member-cap
+            (B .puts c bs ss (subst (λ (m : ℕ). Held (view w) m (with-open c bs ss)) (sym member-cap) (T .2)))
 
         abbrev after : Stored
         after = put-in closing (left - 1) (was-put .0) (taken-out closing place left b)
 
         ready-after : Ready p (with-open after bs ss)
-        ready-after = ready-put p place left b bs ss closing R (was-put .0) (was-put .1) (stored-monic p (was-put .0) (terms s) prime (holds .canonical) (was-put .2))
+        ready-after =
+            ready-put p place left b bs ss closing R (was-put .0) (was-put .1)
+            (stored-monic p (was-put .0) (terms s) prime (holds .canonical) (was-put .2))
 
-        goes-on : rest-of-step (limits-in (capacity w₀)) p closing place left k f b bs ss ≡ if-fits q (rest-of-step (limits-in (capacity w₀)) p closing place (left - 1) k f after bs ss)
+        has-after : Has-members closing place (left - 1) after
+        has-after = has-put p place left b bs ss (A .one) closing (was-put .0) M
+
+        goes-on : rest-in (capacity w₀) p closing place left k f b bs ss ≡ if-fits q (rest-in (capacity w₀) p closing place (left - 1) k f after bs ss)
         goes-on =
             let l = limits-in (capacity w₀) in
-            step-put l p k f b bs ss place left (was-put .0) (terms s) (was-put .1) (was-put .2) (R .sound .branches .0) (capacity w₀) refl (omega (arith, T .2 .fits)) (R .listed) (A .one) closing M
-            (ap (λ (g : List ℕ). remainder-by l p k f (terms g)) (sym (T .1)) ∙ e)
+            step-put l p k f b bs ss place left (was-put .0) (terms s) (was-put .1) (was-put .2) (R .sound .branches .0) (capacity w₀) refl
+            (omega (arith, T .2 .fits)) (R .listed) (A .one) closing M (ap (λ (g : List ℕ). remainder-by l p k f (terms g)) (sym (T .1)) ∙ e)
             ∙ ap (λ (o : Bool). if-fits o (rest-of-step l p closing place (left - 1) k f after bs ss)) (sym (was-put .3 .answer))
+
+        goes-as : (o : Bool) → q ≡ o
+            → rest-in (capacity w₀) p closing place left k f b bs ss ≡ if-fits o (rest-in (capacity w₀) p closing place (left - 1) k f after bs ss)
+        goes-as o t = goes-on ∙ ap (λ (o : Bool). if-fits o (rest-in (capacity w₀) p closing place (left - 1) k f after bs ss)) t
 
       pub member-put : q ≡ true → AtMembers p k f closing place left₀ w₀ v (left - 1)
       member-put t = record {
         same = B .same ∙ A .same;
         some =
             let s = A .some in
-            let u = was-put (s .0) (s .1) (s .2) (s .3) (s .4) (s .5) in
-            (after (s .0) (s .1) (s .2) (s .3) (s .4) (s .5), s .1, s .2, u .3 .held t, ready-after (s .0) (s .1) (s .2) (s .3) (s .4) (s .5), has-put p place left (s .0) (s .1) (s .2) (A .one) closing (u .0) (s .5));
+            let b = s .0 in
+            let bs = s .1 in
+            let ss = s .2 in (
+              after b bs ss (s .3) (s .4) (s .5),
+              bs,
+              ss,
+              was-put b bs ss (s .3) (s .4) (s .5) .3 .held t,
+              ready-after b bs ss (s .3) (s .4) (s .5),
+              has-after b bs ss (s .3) (s .4) (s .5),
+            );
         all = λ b₀ bs ss H R M.
             let s = A .all b₀ bs ss H R M in
-            let u = was-put (s .0) bs ss (s .1) (s .2) (s .3) in
-            let x = rest-of-step (limits-in (capacity w₀)) p closing place (left - 1) k f (after (s .0) bs ss (s .1) (s .2) (s .3)) bs ss in (
-              after (s .0) bs ss (s .1) (s .2) (s .3),
-              u .3 .held t,
-              ready-after (s .0) bs ss (s .1) (s .2) (s .3),
-              has-put p place left (s .0) bs ss (A .one) closing (u .0) (s .3),
-              sym (goes-on (s .0) bs ss (s .1) (s .2) (s .3) ∙ ap (λ (o : Bool). if-fits o x) t) ∙ s .4,
+            let b = s .0 in (
+              after b bs ss (s .1) (s .2) (s .3),
+              was-put b bs ss (s .1) (s .2) (s .3) .3 .held t,
+              ready-after b bs ss (s .1) (s .2) (s .3),
+              has-after b bs ss (s .1) (s .2) (s .3),
+              sym (goes-as b bs ss (s .1) (s .2) (s .3) true t) ∙ s .4,
             );
       }
 
       pub member-not-put : q ≡ false → Comes-to p k f closing place left₀ w₀ (stopped Room)
       member-not-put t b₀ bs ss H R M =
           let s = A .all b₀ bs ss H R M in
-          let x = rest-of-step (limits-in (capacity w₀)) p closing place (left - 1) k f (after (s .0) bs ss (s .1) (s .2) (s .3)) bs ss in
-          sym (s .4) ∙ goes-on (s .0) bs ss (s .1) (s .2) (s .3) ∙ ap (λ (o : Bool). if-fits o x) t
+          sym (s .4) ∙ goes-as (s .0) bs ss (s .1) (s .2) (s .3) false t
 
 -- ── where the loop ends ──
 module _ (l : Limits) (p k : ℕ) (f : Poly) (place : ℕ) (b : Stored) (bs ss : List Stored) where
@@ -232,8 +268,11 @@ module _ (l : Limits) (p k : ℕ) (f : Poly) (place : ℕ) (b : Stored) (bs ss :
   no-members false = refl
   no-members true =
       let n = length (b .Q) - 0 in
-      ap (λ (fs : List (List ℕ)). replace l p (map branch-of bs) (reverse (map system-of ss)) k f (map terms fs) (with-new b (take n (b .Q)))) (ap (λ (m : ℕ). drop m (b .Q)) (sub-zero (length (b .Q))) ∙ drop-length (b .Q))
-      ∙ ap (λ (fs : List (List ℕ)). next (state l p (map branch-of bs) (reverse (map system-of ss)) (with-new b fs))) (take-all n (b .Q) (omega arith))
+      let bs' = map branch-of bs in
+      let ss' = reverse (map system-of ss) in
+      let none = ap (λ (m : ℕ). drop m (b .Q)) (sub-zero (length (b .Q))) ∙ drop-length (b .Q) in
+      ap (λ (fs : List (List ℕ)). replace l p bs' ss' k f (map terms fs) (with-new b (take n (b .Q)))) none
+      ∙ ap (λ (fs : List (List ℕ)). next (state l p bs' ss' (with-new b fs))) (take-all n (b .Q) (omega arith))
 
   pub members-end : (closing : Bool) (left : ℕ) → left ≡ 0 → rest-of-step l p closing place left k f b bs ss ≡ next (state-of (with-open b bs ss))
   members-end closing left e = ap (λ (n : ℕ). rest-of-step l p closing place n k f b bs ss) e ∙ no-members closing

@@ -23,7 +23,7 @@ use Rattle.steps.specs.Pending.{Comes, Pivoted, Prepares}
 use Rattle.elimination.specs.declared.Answer.{Answer}
 use Rattle.elimination.specs.declared.Outcome.the-variants.{Systems, Refused}
 use Rattle.elimination.specs.Answer.{Ran}
-use Rattle.elimination.proofs.Invariants.{AtRun, AtMembers, run-ends, run-used, run-steps}
+use Rattle.elimination.proofs.Invariants.{run-in, AtRun, AtMembers, run-ends, run-used, run-steps}
 use Rattle.elimination.proofs.MembersLaws.{Comes-to, members-begin, members-end}
 
 -- The step of the open branch b in a work area with so many records.
@@ -37,7 +37,9 @@ Goes-to most p w v =
     → (a : Area) × (step-in most p b bs ss ≡ next (state-of a)) × Held (view v) most a × Ready p a
 
 abbrev pub Stops : ℕ → ℕ → List ℕ → Reason → Type 0
-Stops most p w why = (b : Stored) (bs ss : List Stored) → Held (view w) most (with-open b bs ss) → Ready p (with-open b bs ss) → step-in most p b bs ss ≡ stopped why
+Stops most p w why =
+    (b : Stored) (bs ss : List Stored) → Held (view w) most (with-open b bs ss) → Ready p (with-open b bs ss)
+    → step-in most p b bs ss ≡ stopped why
 
 -- w holds a state with an open branch, ready for a step.
 abbrev pub Some-open : ℕ → List ℕ → Type 0
@@ -100,7 +102,8 @@ module _ {p : ℕ} {w t i v : List ℕ} where
         let ends = members-end (limits-in (capacity v)) p (d .k) (terms (take (d .pivot) t)) (d .place) (x .0) bs ss (d .closing) left z in
         (with-open (x .0) bs ss, C .goes ∙ sym (x .4) ∙ ends, x .1, x .2))
 
-    pub members-stop : (why : Reason) → Comes-to p (d .k) (terms (take (d .pivot) t)) (d .closing) (d .place) (d .left) v (stopped why) → Stops (capacity w) p w why
+    pub members-stop : (why : Reason) → Comes-to p (d .k) (terms (take (d .pivot) t)) (d .closing) (d .place) (d .left) v (stopped why)
+        → Stops (capacity w) p w why
     members-stop why A =
         subst (λ (m : ℕ). Stops m p w why) cap (λ b bs ss H R.
         let c = comes b bs ss H R in
@@ -108,17 +111,20 @@ module _ {p : ℕ} {w t i v : List ℕ} where
         C .goes ∙ A (c .0) bs ss (C .held) (C .ready) (C .has))
 
 -- ── the run ──
+abbrev area : List Stored → List Stored → Area
+area cs ss = record { branches = cs; systems = ss }
+
 opened : (a : Area) → has-branch a ≡ true → (b : Stored) × (bs : List Stored) × (a ≡ with-open b bs (a .systems))
 opened a e = go (a .branches) e
   where
-    go : (cs : List Stored) → has-branch (record { branches = cs; systems = a .systems }) ≡ true → (b : Stored) × (bs : List Stored) × (_≡_ {A = Area} (record { branches = cs; systems = a .systems }) (with-open b bs (a .systems)))
+    go : (cs : List Stored) → has-branch (area cs (a .systems)) ≡ true → (b : Stored) × (bs : List Stored) × (area cs (a .systems) ≡ with-open b bs (a .systems))
     go [] e = absurd (let z : _≡_ {A = ℕ} 0 1 = cc in omega arith)
     go (b ∷ bs) e = (b, bs, refl)
 
-closed : (a : Area) → has-branch a ≡ false → a ≡ record { branches = []; systems = a .systems }
+closed : (a : Area) → has-branch a ≡ false → a ≡ area [] (a .systems)
 closed a e = go (a .branches) e
   where
-    go : (cs : List Stored) → has-branch (record { branches = cs; systems = a .systems }) ≡ false → _≡_ {A = Area} (record { branches = cs; systems = a .systems }) (record { branches = []; systems = a .systems })
+    go : (cs : List Stored) → has-branch (area cs (a .systems)) ≡ false → area cs (a .systems) ≡ area [] (a .systems)
     go [] e = refl
     go (b ∷ bs) e = absurd (let z : _≡_ {A = ℕ} 0 1 = cc in omega arith)
 
@@ -151,9 +157,10 @@ module _ {p limit : ℕ} {w₀ w : List ℕ} {steps : ℕ} (A : AtRun p limit w�
         let s = A .all a₀ H₀ R₀ in
         let c = closed (s .0) (none (s .0) (subst (λ (m : ℕ). Held (view w) m (s .0)) (sym capacity-kept) (s .1))) in
         let ss = s .0 .systems in
-        let ends : run (limits-in (capacity w₀)) p limit 0 (state-of a₀) ≡ finished steps (reverse (map system-of ss)) =
-        sym (s .3) ∙ ap (λ (a : Area). run (limits-in (capacity w₀)) p (limit - steps) steps (state-of a)) c ∙ run-ends (limits-in (capacity w₀)) p steps (limit - steps) ss in
-        let count : n ≡ length (reverse (map system-of ss)) = e ∙ ap (λ (v : List Rec). getD v 0 nul .w3) (s .1 .is) ∙ sym (length-reverse (map system-of ss) ∙ length-map ss system-of) in
+        let ends : run-in (capacity w₀) p limit 0 a₀ ≡ finished steps (reverse (map system-of ss)) =
+        sym (s .3) ∙ ap (run-in (capacity w₀) p (limit - steps) steps) c ∙ run-ends (limits-in (capacity w₀)) p steps (limit - steps) ss in
+        let count : n ≡ length (reverse (map system-of ss)) =
+        e ∙ ap (λ (v : List Rec). getD v 0 nul .w3) (s .1 .is) ∙ sym (length-reverse (map system-of ss) ∙ length-map ss system-of) in
         subst (λ (E : Ended). Ran E p (record { steps = steps; outcome = Systems n }) (view w) (capacity w₀)) (sym ends) (
         record {
           answer = ap (λ (n : ℕ). record { steps = steps; outcome = Systems n }) count;
@@ -166,7 +173,7 @@ module _ {p limit : ℕ} {w₀ w : List ℕ} {steps : ℕ} (A : AtRun p limit w�
     -- Whatever state the run began with, it comes to one with an open branch.
     pub run-open : (a₀ : Area) → Held (view w₀) (capacity w₀) a₀ → Ready p a₀
         → (b : Stored) × (bs : List Stored) × (ss : List Stored) × Held (view w) (capacity w₀) (with-open b bs ss) × Ready p (with-open b bs ss)
-        × (run (limits-in (capacity w₀)) p (limit - steps) steps (state-of (with-open b bs ss)) ≡ run (limits-in (capacity w₀)) p limit 0 (state-of a₀))
+        × (run-in (capacity w₀) p (limit - steps) steps (with-open b bs ss) ≡ run-in (capacity w₀) p limit 0 a₀)
     run-open a₀ H₀ R₀ =
         let s = A .all a₀ H₀ R₀ in
         let o = opened (s .0) (some (s .0) (subst (λ (m : ℕ). Held (view w) m (s .0)) (sym capacity-kept) (s .1))) in (
@@ -175,7 +182,7 @@ module _ {p limit : ℕ} {w₀ w : List ℕ} {steps : ℕ} (A : AtRun p limit w�
           s .0 .systems,
           subst (Held (view w) (capacity w₀)) (o .2) (s .1),
           subst (Ready p) (o .2) (s .2),
-          subst (λ (a : Area). run (limits-in (capacity w₀)) p (limit - steps) steps (state-of a) ≡ run (limits-in (capacity w₀)) p limit 0 (state-of a₀)) (o .2) (s .3),
+          subst (λ (a : Area). run-in (capacity w₀) p (limit - steps) steps a ≡ run-in (capacity w₀) p limit 0 a₀) (o .2) (s .3),
         )
 
     pub run-open-some : Some-open p w
@@ -185,29 +192,38 @@ module _ {p limit : ℕ} {w₀ w : List ℕ} {steps : ℕ} (A : AtRun p limit w�
         let o = opened (s .0) (some (s .0) h) in
         (o .0, o .1, s .0 .systems, subst (Held (view w) (capacity w)) (o .2) h, subst (Ready p) (o .2) (s .2))
 
+    -- The run is refused from every state that it may have begun with.
+    refused-all : (why : Reason) (v : List ℕ)
+        → ((a₀ : Area) → Held (view w₀) (capacity w₀) a₀ → Ready p a₀ → refused steps why ≡ run-in (capacity w₀) p limit 0 a₀)
+        → Answers p limit w₀ (record { steps = steps; outcome = Refused why 0 }) v
+    refused-all why v ends a₀ H₀ R₀ =
+        subst (λ (E : Ended). Ran E p (record { steps = steps; outcome = Refused why 0 }) (view v) (capacity w₀)) (ends a₀ H₀ R₀)
+        (record { answer = refl; left = tt })
+
     pub run-no-steps : (v : List ℕ) → limit ≤ steps → Answers p limit w₀ (record { steps = steps; outcome = Refused Steps 0 }) v
-    run-no-steps v h a₀ H₀ R₀ =
+    run-no-steps v h = refused-all Steps v (λ a₀ H₀ R₀.
         let s = run-open a₀ H₀ R₀ in
         let z : limit - steps ≡ 0 = omega (arith, h) in
-        let ends : refused steps Steps ≡ run (limits-in (capacity w₀)) p limit 0 (state-of a₀) =
-        sym (ap (λ (n : ℕ). run (limits-in (capacity w₀)) p n steps (state-of (with-open (s .0) (s .1) (s .2)))) z ∙ run-used (limits-in (capacity w₀)) p steps (s .0) (s .1) (s .2)) ∙ s .5 in
-        subst (λ (E : Ended). Ran E p (record { steps = steps; outcome = Refused Steps 0 }) (view v) (capacity w₀)) ends (record { answer = refl; left = tt })
+        let used = run-used (limits-in (capacity w₀)) p steps (s .0) (s .1) (s .2) in
+        sym (ap (λ (n : ℕ). run-in (capacity w₀) p n steps (with-open (s .0) (s .1) (s .2))) z ∙ used) ∙ s .5)
 
     module _ (more : steps < limit) where
-      -- The run by its next step.
+      -- The run by what its next step comes to.
+      abbrev after : Stepped → Ended
+      after = after-step (run (limits-in (capacity w₀)) p (limit - suc steps) (suc steps)) steps
+
       by-step : (b : Stored) (bs ss : List Stored)
-          → run (limits-in (capacity w₀)) p (limit - steps) steps (state-of (with-open b bs ss)) ≡ after-step (run (limits-in (capacity w₀)) p (limit - suc steps) (suc steps)) steps (step-in (capacity w₀) p b bs ss)
+          → run-in (capacity w₀) p (limit - steps) steps (with-open b bs ss) ≡ after (step-in (capacity w₀) p b bs ss)
       by-step b bs ss =
           let z : limit - steps ≡ suc (limit - suc steps) = omega (arith, more) in
-          ap (λ (n : ℕ). run (limits-in (capacity w₀)) p n steps (state-of (with-open b bs ss))) z ∙ run-steps (limits-in (capacity w₀)) p steps b bs ss (limit - suc steps)
+          ap (λ (n : ℕ). run-in (capacity w₀) p n steps (with-open b bs ss)) z
+          ∙ run-steps (limits-in (capacity w₀)) p steps b bs ss (limit - suc steps)
 
       pub run-stopped : (why : Reason) (v : List ℕ) → Stops (capacity w) p w why → Answers p limit w₀ (record { steps = steps; outcome = Refused why 0 }) v
-      run-stopped why v S a₀ H₀ R₀ =
+      run-stopped why v S = refused-all why v (λ a₀ H₀ R₀.
           let s = run-open a₀ H₀ R₀ in
           let e = subst (λ (m : ℕ). Stops m p w why) capacity-kept S (s .0) (s .1) (s .2) (s .3) (s .4) in
-          let ends : refused steps why ≡ run (limits-in (capacity w₀)) p limit 0 (state-of a₀) =
-          sym (by-step (s .0) (s .1) (s .2) ∙ ap (after-step (run (limits-in (capacity w₀)) p (limit - suc steps) (suc steps)) steps) e) ∙ s .5 in
-          subst (λ (E : Ended). Ran E p (record { steps = steps; outcome = Refused why 0 }) (view v) (capacity w₀)) ends (record { answer = refl; left = tt })
+          sym (by-step (s .0) (s .1) (s .2) ∙ ap after e) ∙ s .5)
 
       pub run-goes-on : (v : List ℕ) → length v ≡ length w → Goes-to (capacity w) p w v → AtRun p limit w₀ v (suc steps)
       run-goes-on v kept G = record {
@@ -220,5 +236,5 @@ module _ {p limit : ℕ} {w₀ w : List ℕ} {steps : ℕ} (A : AtRun p limit w�
         all = λ a₀ H₀ R₀.
             let s = run-open a₀ H₀ R₀ in
             let x = subst (λ (m : ℕ). Goes-to m p w v) capacity-kept G (s .0) (s .1) (s .2) (s .3) (s .4) in
-            (x .0, x .2, x .3, sym (by-step (s .0) (s .1) (s .2) ∙ ap (after-step (run (limits-in (capacity w₀)) p (limit - suc steps) (suc steps)) steps) (x .1)) ∙ s .5);
+            (x .0, x .2, x .3, sym (by-step (s .0) (s .1) (s .2) ∙ ap after (x .1)) ∙ s .5);
       }

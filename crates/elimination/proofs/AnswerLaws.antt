@@ -45,16 +45,17 @@ module _ {p : ℕ} {r : Answer} {v : List Rec} {most : ℕ} where
   too-long {e = finished n ss} t room m out x o needs h =
       let l = x .left in
       let size : m ≡ list-records ss = needs (l .0) (l .1) (l .2 .listed) ∙ ap list-records (l .3) in
+      let words : List ℕ = list-words (record { modulus = t .modulus; variables = t .variables; systems = ss }) in
       let is : delivered room t (finished n ss) ≡ turned-back n Output 0 =
-      ap (λ (b : Bool). elim b as (λ b. Eliminated) [ true ↦ turned-back n Output 0 | false ↦ listed n ss (list-words (record { modulus = t .modulus; variables = t .variables; systems = ss })) ])
+      ap (λ (b : Bool). elim b as (λ b. Eliminated) [ true ↦ turned-back n Output 0 | false ↦ listed n ss words ])
       (lt-ltb room (list-records ss) (omega arith)) in
       subst (λ (d : Eliminated). Delivered d (record { steps = r .steps; outcome = Refused Output 0 }) out out) (sym is)
       (record { answer = ap (λ (a : Answer). record { steps = a .steps; outcome = Refused Output 0 }) (x .answer); output = refl })
   too-long {e = refused n why} t room m out x o needs h =
       let a = x .answer in absurd (let z : _≡_ {A = ℕ} 0 1 = cc in omega arith)
 
-  pub list-written : {e : Ended} {n : ℕ} (t : Input) (room m q k : ℕ) (out out' : List ℕ) → Ran e p r v most → r .outcome ≡ Systems n → Needs v most m → m ≤ room
-      → t .modulus ≡ q → t .variables ≡ k
+  pub list-written : {e : Ended} {n : ℕ} (t : Input) (room m q k : ℕ) (out out' : List ℕ) → Ran e p r v most → r .outcome ≡ Systems n → Needs v most m
+      → m ≤ room → t .modulus ≡ q → t .variables ≡ k
       → ((ss : List Stored) → Held v most (record { branches = []; systems = ss })
       → out' ≡ list-words (listing-of q k ss) ++ drop (4 * list-records (reverse (map system-of ss))) out) → Delivered (delivered room t e) r out out'
   list-written {e = finished n ss} t room m q k out out' x o needs h eq ek w =

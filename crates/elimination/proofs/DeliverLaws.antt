@@ -32,7 +32,8 @@ count b = omega (arith, length-append (b .P) (b .Q ++ b .T), length-append (b .Q
 -- Where they end.
 ends : (x post : List Rec) (b : Stored) → x ≡ branch-records 0 b ++ post → skip-to x 1 (length (polynomials b)) ≡ length (branch-records 0 b)
 ends x post b e =
-    omega (arith, skip-to-polys-records x (own b ∷ []) 1 (polynomials b) post refl (e ∙ ap (λ (l : List Rec). l ++ post) (records-are b)), ap length (records-are b))
+    let skip = skip-to-polys-records x (own b ∷ []) 1 (polynomials b) post refl (e ∙ ap (λ (l : List Rec). l ++ post) (records-are b)) in
+    omega (arith, skip, ap length (records-are b))
 
 module _ (b b' : Stored) (post post' : List Rec) (e : branch-records 0 b ++ post ≡ branch-records 0 b' ++ post') where
   same-own : own b ≡ own b'
@@ -55,7 +56,8 @@ none [] e = refl
 none (f ∷ fs) e = absurd (omega arith)
 
 -- ── the systems ──
-listed-same : (ss ss' : List Stored) (post post' : List Rec) → length ss ≡ length ss' → systems-records ss ++ post ≡ systems-records ss' ++ post' → All-listed ss → All-listed ss'
+listed-same : (ss ss' : List Stored) (post post' : List Rec) → length ss ≡ length ss' → systems-records ss ++ post ≡ systems-records ss' ++ post'
+    → All-listed ss → All-listed ss'
 unfolding systems-records
 listed-same ss [] post post' n e h = tt
 listed-same [] (s' ∷ ss') post post' n e h = absurd (omega arith)

@@ -91,7 +91,8 @@ module _ (l : Limits) (p n : ℕ) where
     run-used = refl
 
     pub run-steps : (left : ℕ)
-        → run l p (suc left) n (state-of (with-open b bs ss)) ≡ after-step (run l p left (suc n)) n (step l p (branch-of b) (map branch-of bs) (reverse (map system-of ss)))
+        → run l p (suc left) n (state-of (with-open b bs ss))
+        ≡ after-step (run l p left (suc n)) n (step l p (branch-of b) (map branch-of bs) (reverse (map system-of ss)))
     unfolding run
     run-steps left = refl
 

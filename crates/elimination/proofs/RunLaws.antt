@@ -117,7 +117,8 @@ area cs ss = record { branches = cs; systems = ss }
 opened : (a : Area) → has-branch a ≡ true → (b : Stored) × (bs : List Stored) × (a ≡ with-open b bs (a .systems))
 opened a e = go (a .branches) e
   where
-    go : (cs : List Stored) → has-branch (area cs (a .systems)) ≡ true → (b : Stored) × (bs : List Stored) × (area cs (a .systems) ≡ with-open b bs (a .systems))
+    go : (cs : List Stored) → has-branch (area cs (a .systems)) ≡ true
+        → (b : Stored) × (bs : List Stored) × (area cs (a .systems) ≡ with-open b bs (a .systems))
     go [] e = absurd (let z : _≡_ {A = ℕ} 0 1 = cc in omega arith)
     go (b ∷ bs) e = (b, bs, refl)
 

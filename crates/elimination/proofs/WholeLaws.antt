@@ -44,7 +44,8 @@ not-started (next s) k p most v t room out x e =
 not-started (stopped why) k p most v t room out x e =
     record { answer = ap (λ (w : Reason). record { steps = 0; outcome = Refused w 0 }) (sym (x .1)); output = refl }
 
-first-state : (s : Stepped) {p most : ℕ} {r : Bool} {v : List Rec} → Started s p most r v → r ≡ true → (a : Area) × Held v most a × Ready p a × (s ≡ next (state-of a))
+first-state : (s : Stepped) {p most : ℕ} {r : Bool} {v : List Rec} → Started s p most r v → r ≡ true
+    → (a : Area) × Held v most a × Ready p a × (s ≡ next (state-of a))
 first-state (next s) x e = let a = x .1 in (a .0, a .1, a .2, ap next (sym (a .3)))
 first-state (stopped why) x e = let y = x .0 in absurd (let z : _≡_ {A = ℕ} 0 1 = cc in omega arith)
 
@@ -71,7 +72,8 @@ module _ (t : Input) (most limit : ℕ) {r : Bool} (v : List Rec) (x : Started (
       subst (λ (s : Stepped). Ran (after-step (run (limits-in most) (t .modulus) limit 0) 0 s) (t .modulus) q u most) (sym (a .3)) (here (a .0) (a .1) (a .2))
 
 -- Said of the words of the work area.
-pub in-words : (w : List ℕ) (room limit : ℕ) (t : Input) {r : Answer} {before after : List ℕ} → Delivered (delivered room t (run-of (limits-in (capacity w)) limit t)) r before after
+pub in-words : (w : List ℕ) (room limit : ℕ) (t : Input) {r : Answer} {before after : List ℕ}
+    → Delivered (delivered room t (run-of (limits-in (capacity w)) limit t)) r before after
     → Delivered (delivered room t (run-of (limits-of (length w)) limit t)) r before after
 in-words w room limit t {r = r} {before = before} {after = after} d =
     subst (λ (l : Limits). Delivered (delivered room t (run-of l limit t)) r before after) (sym (limits-are w)) d

@@ -1,6 +1,7 @@
 -- `eliminate_accepted` meets its contract: the start, the run from its state, and the run delivered. All is said in the room that there was at entry.
 use mathlib.Core.Path.{_≡_, sym, _∙_, subst}
 use mathlib.Core.Bool.{true}
+use mathlib.Core.List.{List}
 use Prim.Native.Nat.{ℕ, _/_, _≤_}
 use native.Mathlib.Omega.{arith}
 use borrow.Author.Needs.{needs}
@@ -9,7 +10,7 @@ use lib.ListN.{length}
 use Rattle.records.specs.Records.{view}
 use Rattle.tables.specs.Read.{Input, good, read-table}
 use Rattle.tables.specs.laws.Chains.{readable-words}
-use Rattle.rules.specs.Run.{start, run-of}
+use Rattle.rules.specs.Run.{Ended, start, run-of}
 use Rattle.branches.specs.Area.{capacity}
 use Rattle.branches.proofs.LengthLaws.{same-capacity}
 use Rattle.steps.specs.Ready.{limits-in}
@@ -21,41 +22,70 @@ use Rattle.elimination.proofs.WholeLaws.{no-room, begins, run-is, in-wo
 use Rattle.elimination.proofs.eliminate_accepted.Statement.{statement}
 use Rattle.elimination.proofs.eliminate_accepted.Tie as tie
 
--- The chains of the table that the contract's `requires` tells of.
-told : (s : tie.Start) → Chains (s .args .table .now) (s .pre .0)
-told s = chains (s .args .table .now) (s .pre .0) (s .pre .1)
+-- ── the call ──
+module _ (s : tie.Start) where
+  abbrev most : ℕ
+  most = capacity (s .args .work .now)
 
-header : (s : tie.Start) → 4 ≤ length (s .args .table .now)
-header s = readable-words (told s .readable)
+  abbrev room : ℕ
+  room = length (s .args .output .now) / 4
 
--- ── after the start ──
-abbrev entry : tie.After-start → tie.Start
-entry c = c .before .before .before .before .before .before
+  -- What the run from the table t is.
+  abbrev due : Input → Ended
+  due t = run-of (limits-in most) (s .args .limit) t
 
-begun : (c : tie.After-start) (t : Input) → read-table (entry c .args .table .now) ≡ good t
-    → Started (start (limits-in (capacity (entry c .args .work .now))) t) (t .modulus) (capacity (entry c .args .work .now)) (c .start .result) (view (c .start .last .1 .0))
-begun c t e = c .start .ensures t e
+  -- The chains of the table that the contract's `requires` tells of.
+  told : Chains (s .args .table .now) (s .pre .0)
+  told = chains (s .args .table .now) (s .pre .0) (s .pre .1)
 
-room : (c : tie.After-start) → capacity (c .start .last .1 .0) ≡ capacity (entry c .args .work .now)
-room c = same-capacity (c .start .last .1 .0) (entry c .args .work .now) (c .start .kept .1 .0)
+  header : 4 ≤ length (s .args .table .now)
+  header = readable-words (told .readable)
 
--- ── after the run ──
-abbrev started : tie.After-run → tie.After-start
-started c = c .before .before .before .before .before .before .before .before .before .before .before .before .before
+-- ── the start has answered ──
+module _ (m : tie.After-start) where
+  abbrev entry : tie.Start
+  entry = m .before .before .before .before .before .before
 
-yes : (c : tie.Else1) → c .before .before .before .before .start .result ≡ true
-yes c = not-false (c .before .before .before .before .start .result) (c .if1 .left)
+  abbrev area : List ℕ
+  area = m .start .last .1 .0
 
-ran : (c : tie.After-run) (t : Input) → read-table (entry (started c) .args .table .now) ≡ good t
-    → Ran (run-of (limits-in (capacity (entry (started c) .args .work .now))) (entry (started c) .args .limit) t) (t .modulus) (c .run .result) (view (c .run .last .0)) (capacity (c .run .last .0))
-ran c t e =
-    let f = started c in
-    let a = entry f .args in
-    let most = capacity (a .work .now) in
-    let same : most ≡ capacity (c .run .last .0) = sym (same-capacity (c .run .last .0) (f .start .last .1 .0) (c .run .kept .0) ∙ room f) in
-    subst (λ (n : ℕ). Ran (run-of (limits-in most) (a .limit) t) (t .modulus) (c .run .result) (view (c .run .last .0)) n) same
-    (run-is t most (a .limit) (view (f .start .last .1 .0)) (begun f t e) (yes (c .before .before .before .before .before .before .before .before .before)) (chains (a .table .now) t e .modulus) (room f) (c .run .ensures))
+  same-room : capacity area ≡ most entry
+  same-room = same-capacity area (entry .args .work .now) (m .start .kept .1 .0)
 
+  begun : (t : Input) → read-table (entry .args .table .now) ≡ good t
+      → Started (start (limits-in (most entry)) t) (t .modulus) (most entry) (m .start .result) (view area)
+  begun t e = m .start .ensures t e
+
+-- ── it found room ──
+abbrev to-start : tie.Else1 → tie.After-start
+to-start m = m .before .before .before .before
+
+found-room : (m : tie.Else1) → to-start m .start .result ≡ true
+found-room m = not-false (to-start m .start .result) (m .if1 .left)
+
+-- ── the run is called; it has answered ──
+abbrev run-due : tie.After-z → tie.Else1
+run-due m = m .before .before .before .before .before .before .before .before
+
+module _ (m : tie.After-run) where
+  abbrev to-begun : tie.After-start
+  to-begun = to-start (run-due (m .before))
+
+  abbrev left : List ℕ
+  left = m .run .last .0
+
+  left-room : most (entry to-begun) ≡ capacity left
+  left-room = sym (same-capacity left (area to-begun) (m .run .kept .0) ∙ same-room to-begun)
+
+  ran : (t : Input) → read-table (entry to-begun .args .table .now) ≡ good t
+      → Ran (due (entry to-begun) t) (t .modulus) (m .run .result) (view left) (capacity left)
+  ran t e =
+      let a = entry to-begun .args in
+      subst (Ran (due (entry to-begun) t) (t .modulus) (m .run .result) (view left)) left-room
+      (run-is t (most (entry to-begun)) (a .limit) (view (area to-begun)) (begun to-begun t e) (found-room (run-due (m .before)))
+      (chains (a .table .now) t e .modulus) (same-room to-begun) (m .run .ensures))
+
+-- ── the answers ──
 slice-aggregate-start : tie.Need-slice-aggregate-start
 slice-aggregate-start c = search needs
 
@@ -68,12 +98,12 @@ same-length c = search needs
 returns : tie.Need-returns
 returns c t e =
     let f = c .before .before .before .before in
-    let a = entry f .args in
-    in-words (a .work .now) (length (a .output .now) / 4) (a .limit) t
-    (no-room t (capacity (a .work .now)) (a .limit) (view (f .start .last .1 .0)) (begun f t e) (length (a .output .now) / 4) (a .output .now) (not-true (f .start .result) (c .if1 .taken)))
+    let s = entry f in
+    in-words (s .args .work .now) (room s) (s .args .limit) t
+    (no-room t (most s) (s .args .limit) (view (area f)) (begun f t e) (room s) (s .args .output .now) (not-true (f .start .result) (c .if1 .taken)))
 
 shared-slice-read-p : tie.Need-shared-slice-read-p
-shared-slice-read-p c = omega (arith, header (entry (c .before .before .before .before .before)))
+shared-slice-read-p c = omega (arith, header (entry (to-start (c .before))))
 
 cast-p : tie.Need-cast-p
 cast-p c = omega (arith, c .shared-slice-known2 .given 0)
@@ -98,18 +128,24 @@ slice-aggregate-run-6 c = search needs
 
 run-requires : tie.Need-run-requires
 run-requires c κs =
-    let f = c .before .before .before .before .before .before .before .before .before .before .before .before in
+    let m = run-due c in
+    let f = to-start m in
     let s = entry f in
-    let k = told s in (
-      (readable-modulus (k .readable), begins (s .pre .0) (capacity (s .args .work .now)) (s .args .limit) (view (f .start .last .1 .0)) (begun f (s .pre .0) (s .pre .1)) (yes (c .before .before .before .before .before .before .before .before)) (k .modulus) (room f)),
+    let k = told s in
+    let first = begins (s .pre .0) (most s) (s .args .limit) (view (area f)) (begun f (s .pre .0) (s .pre .1)) (found-room m) (k .modulus) (same-room f) in (
+      (readable-modulus (k .readable), first),
       (search needs, search needs, omega (arith, f .start .kept .1 .1 .0), search needs, search needs, search needs),
     )
 
+-- The run is delivered.
+abbrev delivers : tie.After-deliver-arg2 → tie.After-run
+delivers m = m .before .before .before .before .before .before .before .before .before .before
+
 deliver-requires : tie.Need-deliver-requires
 deliver-requires c κs =
-    let n = c .before .before .before .before .before .before .before .before .before .before in
-    let s = entry (started n) in
-    (s .pre .0, run-of (limits-in (capacity (s .args .work .now))) (s .args .limit) (s .pre .0), s .pre .1, ran n (s .pre .0) (s .pre .1))
+    let n = delivers c in
+    let s = entry (to-begun n) in
+    (s .pre .0, due s (s .pre .0), s .pre .1, ran n (s .pre .0) (s .pre .1))
 
 same-length-2 : tie.Need-same-length-2
 same-length-2 c = search needs
@@ -120,9 +156,9 @@ same-length-3 c = search needs
 returns-2 : tie.Need-returns-2
 returns-2 c t e =
     let d = c .before .before in
-    let n = d .before .before .before .before .before .before .before .before .before .before .before in
-    let a = entry (started n) .args in
-    in-words (a .work .now) (length (a .output .now) / 4) (a .limit) t (d .deliver .ensures t (run-of (limits-in (capacity (a .work .now))) (a .limit) t) e (ran n t e))
+    let n = delivers (d .before) in
+    let s = entry (to-begun n) in
+    in-words (s .args .work .now) (room s) (s .args .limit) t (d .deliver .ensures t (due s t) e (ran n t e))
 
 pub eliminate-accepted-spec : {M : Type 1} → statement M
 eliminate-accepted-spec =

@@ -14,12 +14,37 @@ use Rattle.elimination.proofs.AnswerLaws.{refused-run, left-systems, to
 use Rattle.elimination.proofs.deliver.deliver.Statement.{statement}
 use Rattle.elimination.proofs.deliver.deliver.Tie as tie
 
-told : (s : tie.Start) → TableRead (s .args .table .now) (s .pre .0)
-told s = table-read (s .args .table .now) (s .pre .0) (s .pre .2)
+-- ── the call ──
+module _ (s : tie.Start) where
+  told : TableRead (s .args .table .now) (s .pre .0)
+  told = table-read (s .args .table .now) (s .pre .0) (s .pre .2)
 
-header : (s : tie.Start) → 4 ≤ length (s .args .table .now)
-header s = readable-words (told s .readable)
+  header : 4 ≤ length (s .args .table .now)
+  header = readable-words (told .readable)
 
+  -- The area has these systems and no branch.
+  abbrev Left : List Stored → Type 0
+  Left ss = Held (view (s .args .work .now)) (capacity (s .args .work .now)) (record { branches = []; systems = ss })
+
+-- ── the outcome is seen ──
+abbrev refused-in : tie.After-enum-told2 → tie.Start
+refused-in m = m .before .before .before .before .before
+
+abbrev finished-in : tie.After-enum-told → tie.Start
+finished-in m = m .before .before .before .before .before
+
+-- The systems that the contract's run left.
+systems : (m : tie.After-enum-told) → (ss : List Stored) × Left (finished-in m) ss × All-listed ss
+systems m = left-systems (finished-in m .pre .3) (m .enum-told .given .1)
+
+-- ── the list has room ──
+abbrev sized-in : tie.After-list-size → tie.Start
+sized-in m = finished-in (m .before)
+
+abbrev writes-in : tie.Else1 → tie.Start
+writes-in m = sized-in (m .before)
+
+-- ── the answers ──
 enum-told : tie.Need-enum-told
 enum-told c = search needs
 
@@ -27,13 +52,7 @@ enum-told-2 : tie.Need-enum-told-2
 enum-told-2 c = search needs
 
 returns : tie.Need-returns
-returns c t e h x =
-    let a = c .before .before .before .before .before .args in refused-run t _ (a .output .now) x (c .enum-told2 .given .1)
-
--- The systems that the contract's run left.
-systems : (c : tie.After-enum-told)
-    → let s = c .before .before .before .before .before in (ss : List Stored) × Held (view (s .args .work .now)) (capacity (s .args .work .now)) (record { branches = []; systems = ss }) × All-listed ss
-systems c = left-systems (c .before .before .before .before .before .pre .3) (c .enum-told .given .1)
+returns c t e h x = refused-run t _ (refused-in c .args .output .now) x (c .enum-told2 .given .1)
 
 list-size-requires : tie.Need-list-size-requires
 list-size-requires c κs = systems c
@@ -41,14 +60,13 @@ list-size-requires c κs = systems c
 returns-2 : tie.Need-returns-2
 returns-2 c t e h x =
     let k = c .before in
-    let a = k .before .before .before .before .before .before .args in
-    too-long t _ (k .list-size .result) (a .output .now) x (k .before .enum-told .given .1) (k .list-size .ensures) (c .if1 .taken)
+    too-long t _ (k .list-size .result) (sized-in k .args .output .now) x (k .before .enum-told .given .1) (k .list-size .ensures) (c .if1 .taken)
 
 shared-slice-read-write-list : tie.Need-shared-slice-read-write-list
-shared-slice-read-write-list c = omega (arith, header (c .before .before .before .before .before .before .before .before))
+shared-slice-read-write-list c = omega (arith, header (writes-in (c .before)))
 
 shared-slice-read-write-list-2 : tie.Need-shared-slice-read-write-list-2
-shared-slice-read-write-list-2 c = omega (arith, header (c .before .before .before .before .before .before .before .before .before))
+shared-slice-read-write-list-2 c = omega (arith, header (writes-in (c .before .before)))
 
 write-list-requires : tie.Need-write-list-requires
 write-list-requires c κs =
@@ -67,9 +85,10 @@ returns-3 c t e h x =
     let n = c .before .before in
     let f = n .before .before .before .before in
     let k = f .before in
-    let a = k .before .before .before .before .before .before .args in
+    let a = writes-in f .args in
     let r = table-read (a .table .now) t h in
-    list-written t _ (k .list-size .result) _ _ (a .output .now) _ x (k .before .enum-told .given .1) (k .list-size .ensures) (f .if1 .left) (r .modulus) (r .variables) (n .write-list .ensures)
+    list-written t _ (k .list-size .result) _ _ (a .output .now) _ x (k .before .enum-told .given .1) (k .list-size .ensures) (f .if1 .left)
+    (r .modulus) (r .variables) (n .write-list .ensures)
 
 pub deliver-spec : {M : Type 1} → statement M
 deliver-spec =

@@ -29,14 +29,16 @@ use Rattle.elimination.proofs.Slices.{Kept, kept-then, Long, long-kept}
 use Rattle.elimination.proofs.Invariants.{AtRun, AtMembers, AtDivision, division-begins, round-less, division-goes-on, division-ends, division-passes}
 use Rattle.elimination.proofs.MembersLaws.{AtMember, PutBack, Comes-to, member-taken, member-inside, member-holds, member-put, member-not-put}
 use Rattle.elimination.proofs.RunLaws.{Goes-to, Stops, Some-open, All-open, None-open, Answers, run-open-some, run-stopped}
-use Rattle.elimination.proofs.RunLaws.{Preparation, Pivot-in, prepared-as, prepared-done, prepared-stop, prepared-pivot, members-first, members-done, members-stop}
+use Rattle.elimination.proofs.RunLaws.{Preparation, Pivot-in, prepared-as, prepared-done, prepared-stop, prepared-pivot}
+use Rattle.elimination.proofs.RunLaws.{members-first, members-done, members-stop}
 use Rattle.elimination.proofs.run.run.Proof.Places.{Entry, RunTurn, NoneOpen, BranchOpen, StepPrepared, StepStopped, MembersFound, MembersTurn}
 use Rattle.elimination.proofs.run.run.Proof.Places.{MemberTaken, DivisionTurn, RoundDue, RoundDone, WordsFormed, MemberDivided, MemberPut, StepDone}
 use Rattle.elimination.proofs.run.run.Proof.Places.{to-entry, none-in, to-turn, to-open, to-due, to-run, stopped-in, to-prepared, run-of, entry-of}
 use Rattle.elimination.proofs.run.run.Proof.Places.{to-found, to-left, to-members, found-of, to-taken, division-of, to-division}
 use Rattle.elimination.proofs.run.run.Proof.Places.{to-round, round-of, to-rounded, divided-in, to-divided, put-of, done-in}
 use Rattle.elimination.proofs.run.run.Proof.Places.{prepare-call, take-call, round-call, put-call}
-use Rattle.elimination.proofs.run.run.Proof.Places.{at-entry, at-turn, at-prepared, at-found, at-members, at-taken, at-division, at-rounded, at-put, at-done}
+use Rattle.elimination.proofs.run.run.Proof.Places.{at-entry, at-turn, at-prepared, at-found, at-members}
+use Rattle.elimination.proofs.run.run.Proof.Places.{at-taken, at-division, at-rounded, at-put, at-done}
 
 -- ── the function begins ──
 module _ (m : Entry) where

@@ -1,9 +1,10 @@
--- The laws behind `division`, on values and lists: a factor of 1, a row taken off, the factor of a round, and the round from what its calls answered.
+-- The laws behind `division`, on values and lists: the words lent, a factor of 1, a row taken off, the factor of a round, the round from what its calls
+-- answered, and a round apart.
 use mathlib.Core.Path.{_≡_, refl, sym, _∙_, ap, ap₂, subst}
 use mathlib.Core.List.{List, [], _∷_}
 use mathlib.Core.Bool.{Bool, true, false}
-use Prim.Native.Nat.{ℕ, zero, suc, _+_, _-_, _*_, _≤_, _<_, Fin}
-use native.Mathlib.Nat.{add-sub-of-le, le-of-lt}
+use Prim.Native.Nat.{ℕ, zero, suc, _+_, _-_, _*_, _/_, _≤_, _<_, Fin}
+use native.Mathlib.Nat.{add-sub-of-le, le-of-lt, mul-le-mul-right}
 use native.Mathlib.Omega.{arith}
 use lib.ListN.{length, take, drop, getD}
 use lib.Seq.{length-take-le, take-all, getD-take, paste, take-paste, length-paste}
@@ -22,6 +23,7 @@ use Rattle.polynomials.specs.Bounds.{
   Bounded,
   within,
   degree-passed,
+  terms-passed,
   and-then,
   degrees-over,
   tested,
@@ -29,7 +31,7 @@ use Rattle.polynomials.specs.Bounds.{
   bounded-difference,
   bounded-round,
 }
-use Rattle.polynomials.specs.Working.{Holds, Written, Forms}
+use Rattle.polynomials.specs.Working.{Pairs, Holds, Written, Forms}
 use Rattle.polynomials.specs.declared.Formed.{Formed}
 use Rattle.polynomials.specs.declared.Formed.the-variants.{Words, OverDegree, OverTerms}
 use Rattle.polynomials.specs.laws.Order.{order-join}
@@ -42,9 +44,12 @@ use Rattle.polynomials.specs.laws.Terms.{length-terms, words-of-terms}
 use Rattle.polynomials.specs.laws.Places.{Places, places-terms, places-coefficient}
 use Rattle.polynomials.specs.laws.Bounds.{no-degrees-over, degree-small}
 use Rattle.polynomials.specs.laws.Product.{product-length, row-fits}
-use Rattle.polynomials.specs.laws.Bounded.{at-most-over, product-within}
+use Rattle.polynomials.specs.laws.Bounded.{at-most-over, product-within, product-formed}
 use Rattle.polynomials.specs.laws.Answers.{Answered, then-formed, then-degree, then-terms}
 use Rattle.sums.proofs.MergeLaws.{formed, refused}
+use Rattle.products.specs.Lent.{lent-for-product}
+use Rattle.products.proofs.ProductLaws.{copied}
+use Rattle.division.specs.Lent.{lent-for-difference, lent-for-round}
 
 byte-zero : (n k : ℕ) → getD (bytes n 0) k 0 ≡ 0
 unfolding bytes
@@ -55,6 +60,36 @@ byte-zero (suc n) (suc k) = byte-zero n k
 -- a minus f times g, tested.
 abbrev subtracted : ℕ → Poly → Poly → Poly → Bounded
 subtracted p f g a = and-then (bounded-product standard p f g) (bounded-difference standard p a)
+
+-- ── the words lent: R has n, the initial c, the pivot m and the factor l ──
+module _ (n c m : ℕ) where
+  pub initial-lent : (k x : ℕ) → k ≡ n → lent-for-round n c m ≤ x → lent-for-product c k ≤ x
+  initial-lent k x q h = omega (arith, ap (λ k. c * k) q)
+
+  module _ (l : ℕ) (fewer : l ≤ n) where
+    pub factor-lent : (y : ℕ) → lent-for-round n c m ≤ y → lent-for-product l m ≤ y
+    factor-lent y h = omega (arith, mul-le-mul-right m fewer)
+
+    pub difference-lent : (a r : ℕ) → a ≤ c * n / 2 → lent-for-round n c m ≤ r → lent-for-difference a l m ≤ r
+    difference-lent a r k h = omega (arith, mul-le-mul-right m fewer)
+
+pub factor-lent-as : (l k m y : ℕ) → k ≡ l → lent-for-product l m ≤ y → lent-for-product k m ≤ y
+factor-lent-as l k m y q h = omega (arith, ap (λ k. k * m) q)
+
+-- ── the words of a difference: a, and a product of factors of l and m words ──
+-- A factor of one term: its row has the other's words.
+pub row-difference-lent : (a l m r : ℕ) → l ≡ 2 → a ≤ 512 → m ≤ 512 → lent-for-difference a l m ≤ r → a + m ≤ r
+row-difference-lent a l m r q ha hm h = omega (arith, ap (λ l. l * m) q)
+
+pub product-difference-lent : (a b l m r : ℕ) → a ≤ 512 → b ≤ 512 → b ≤ l * m / 2 → lent-for-difference a l m ≤ r → a + b ≤ r
+product-difference-lent a b l m r ha hb few h = omega arith
+
+-- A product has no more words than all term products.
+pub product-words : (p : ℕ) (f g : List ℕ) (l m : ℕ) → Pairs f → Pairs g → length f ≡ l → length g ≡ m → (n : ℕ) (s : List ℕ) → Answered p (bounded-product standard p (terms f) (terms g)) n s → n ≤ l * m / 2
+product-words p f g l m pf pg hl hm n s A =
+    let is-product = product-formed standard p (terms f) (terms g) (terms (take n s)) (A .is) .same in
+    let words = ap₂ _*_ (sym hl ∙ words-of-terms f pf) (sym hm ∙ words-of-terms g pg) in
+    omega (arith, length-take-le n s (A .inside), words-of-terms (take n s) (A .holds .pairs), ap length is-product, product-length p (terms f) (terms g), words)
 
 -- ── the polynomials of a round ──
 module _ (p : ℕ) (h : 1 ≤ p) where
@@ -139,7 +174,7 @@ single (c ∷ (m ∷ [])) e = refl
 single (c ∷ (m ∷ (x ∷ s))) e = absurd (omega arith)
 
 -- f copied, where the initial is 1.
-module _ (p : ℕ) (h : 1 ≤ p) (i f x y : List ℕ) (words : length i ≡ 2) (one : getD i 0 0 ≡ 1) (none : getD i 1 0 ≡ 0) (H : Holds p f) (room : 1024 ≤ length x)
+module _ (p : ℕ) (h : 1 ≤ p) (i f x y : List ℕ) (words : length i ≡ 2) (one : getD i 0 0 ≡ 1) (none : getD i 1 0 ≡ 0) (H : Holds p f) (room : length f ≤ length x)
     (copied : y ≡ paste x 0 (drop 0 f) (length f - 0)) where
   first : take (length f) y ≡ f
   first = ap (take (length f)) copied ∙ ap (λ (n : ℕ). take n (paste x 0 f (length f - 0))) len ∙ take-paste x 0 f (length f - 0) (omega arith) (omega arith) ∙ take-all (length f - 0) f (omega arith)
@@ -158,7 +193,7 @@ module _ (p : ℕ) (h : 1 ≤ p) (i f x y : List ℕ) (words : length i ≡ 2) (
       twice = words-of-terms f (H .pairs)
 
 -- ── a row taken off, on words: the first two of r are its factor ──
-module _ (p : ℕ) (h : 1 ≤ p) (r t : List ℕ) (room : 1024 ≤ length r) (K : Holds p (take 2 r)) where
+module _ (p : ℕ) (h : 1 ≤ p) (r t : List ℕ) (room : 2 ≤ length r) (K : Holds p (take 2 r)) where
   two : length (take 2 r) ≡ 2
   two = length-take-le 2 r (omega arith)
 
@@ -215,3 +250,30 @@ module _ (p k d : ℕ) (G R I : Poly) (initial : I ≡ coefficient k d G) (s : L
 
   pub round-terms : (r : Formed) (x : List ℕ) → r ≡ OverTerms → Forms (bounded-product standard p I R) r x → Forms (bounded-round standard p k d G R) OverTerms s
   round-terms r x q F = subst (λ B. Forms B OverTerms s) round-is (then-terms (bounded-product standard p I R) after s r x q F)
+
+-- ── a round apart: R is copied to other words, and what is formed there copied back ──
+-- The first n words of s, as `copied` takes them.
+pub first-written : (p n : ℕ) (s : List ℕ) → n ≤ length s → Holds p (take n s) → Written (terms (take n s)) n s × (n ≤ 512)
+first-written p n s inside H = (record { within = inside; pairs = omega (arith, taken, words-of-terms (take n s) (H .pairs)); holds = refl }, omega (arith, taken, H .few))
+  where
+    taken : length (take n s) ≡ n
+    taken = length-take-le n s inside
+
+pub copied-back : (p : ℕ) (B : Bounded) (m : ℕ) (a r s : List ℕ) → Answered p B m a → 512 ≤ length r → s ≡ paste r 0 (drop 0 (take m a)) (length (take m a) - 0) → Forms B (Words m) s
+copied-back p B m a r s A room e = subst (λ B. Forms B (Words m) s) (sym (A .is)) (ap Words (W .pairs), subst (λ k. Written (terms (take m a)) k s) (W .pairs) W)
+  where
+    W : Written (terms (take m a)) m s
+    W = copied (terms (take m a)) m a r (first-written p m a (A .inside) (A .holds)) room s e
+
+-- A refusal says nothing of the words.
+module _ (B : Bounded) (q : Formed) (a s : List ℕ) where
+  alone : (B : Bounded) → and-then B within ≡ B
+  alone (within f) = refl
+  alone degree-passed = refl
+  alone terms-passed = refl
+
+  pub degree-refused : q ≡ OverDegree → Forms B q a → Forms B OverDegree s
+  degree-refused e F = subst (λ B. Forms B OverDegree s) (alone B) (then-degree B within s q a e F)
+
+  pub terms-refused : q ≡ OverTerms → Forms B q a → Forms B OverTerms s
+  terms-refused e F = subst (λ B. Forms B OverTerms s) (alone B) (then-terms B within s q a e F)

@@ -1,16 +1,20 @@
 // One round of the division of R by T in v(k+1): R becomes I×R minus L×v(k+1)^(e−d)×T, with T of degree d and initial I,
 // R of degree e ≥ d, and L the coefficient of the highest power in R.
 ghost use mathlib.Core.Path.{_≡_};
-ghost use Prim.Native.Nat.{_≤_, _<_};
+ghost use Prim.Native.Nat.{_+_, _≤_, _<_};
+ghost use lib.Dec.{leb};
 ghost use lib.ListN.{length, take};
 ghost use Rattle.polynomials.specs.Bounds.{standard, bounded-product, bounded-difference, bounded-round, and-then};
 ghost use Rattle.polynomials.specs.Division.{degree, coefficient, factor};
 ghost use Rattle.polynomials.specs.Packed.{terms};
 ghost use Rattle.polynomials.specs.Working.{Pairs, Holds, Written, Forms};
+ghost use Rattle.products.specs.Lent.{lent-for-product};
+ghost use Rattle.division.specs.Lent.{lent-for-difference, lent-for-round};
 use polynomials::Formed;
 use terms::parts;
 
-// R, the first n words of r, becomes what one round leaves. i is T's initial, t is T; x, y and z are lent besides. Stack: that of `product`.
+// R, the first n words of r, becomes what one round leaves. i is T's initial, t is T; x, y and z are lent besides. Stack: that of `product`,
+// so none to speak of in buffers below 1,024 words.
 pub fn round(
     p: u64,
     k: u32,
@@ -27,8 +31,9 @@ pub fn round(
     requires { ⌜ (1 ≤ p) × (p < 2147483648) × (k < 8) × (1 ≤ d) × (d ≤ e) ⌝ }
     requires { ⌜ Holds p (now t) × (degree k (terms (now t)) ≡ d) ⌝ }
     requires { ⌜ Holds p (now i) × (terms (now i) ≡ coefficient k d (terms (now t))) ⌝ }
-    requires { ⌜ (n ≤ length (now r)) × (1024 ≤ length (now r)) × Holds p (take n (now r)) × (degree k (terms (take n (now r))) ≡ e) ⌝ }
-    requires { ⌜ (1024 ≤ length (now x)) × (1024 ≤ length (now y)) × (1024 ≤ length (now z)) ⌝ }
+    requires { ⌜ (n ≤ length (now r)) × Holds p (take n (now r)) × (degree k (terms (take n (now r))) ≡ e) ⌝ }
+    requires { ⌜ (lent-for-round n (length (now i)) (length (now t)) ≤ length (now r)) × (lent-for-round n (length (now i)) (length (now t)) ≤ length (now x))
+        × (lent-for-round n (length (now i)) (length (now t)) ≤ length (now y)) × (lent-for-round n (length (now i)) (length (now t)) ≤ length (now z)) ⌝ }
     ensures { λ f. ⌜ Forms (bounded-round standard p k d (terms (now (t .entry))) (terms (take n (now (r .entry))))) f (now (r .exit)) ⌝ }
 {
     match times_initial(p, i, &r[..n], x, z) {
@@ -41,12 +46,57 @@ pub fn round(
     }
 }
 
+// Whether buffers of so many words suit a round with R of n words, an initial of c and a pivot of m.
+pub fn round_fits(n: usize, c: usize, m: usize, words: usize) -> bool
+    requires { ⌜ (n ≤ 512) × (c ≤ 512) × (m ≤ 512) ⌝ }
+    ensures { λ b. ⌜ b ≡ leb (lent-for-round n c m) words ⌝ }
+{
+    if 1024 <= words {
+        return true;
+    }
+    n * (c + m) / 2 <= words
+}
+
+// `round` in buffers of its own, for one that doesn't fit those at hand (`round_fits`): r need only hold the result. Stack: 32 KiB, cleared at
+// each call, besides that of `product`.
+pub fn round_apart(
+    p: u64,
+    k: u32,
+    d: u64,
+    e: u64,
+    i: &[u64],
+    t: &[u64],
+    r: &mut [u64],
+    n: usize,
+) -> Formed
+    requires { ⌜ (1 ≤ p) × (p < 2147483648) × (k < 8) × (1 ≤ d) × (d ≤ e) ⌝ }
+    requires { ⌜ Holds p (now t) × (degree k (terms (now t)) ≡ d) ⌝ }
+    requires { ⌜ Holds p (now i) × (terms (now i) ≡ coefficient k d (terms (now t))) ⌝ }
+    requires { ⌜ (n ≤ length (now r)) × Holds p (take n (now r)) × (degree k (terms (take n (now r))) ≡ e) ⌝ }
+    requires { ⌜ 512 ≤ length (now r) ⌝ }
+    ensures { λ f. ⌜ Forms (bounded-round standard p k d (terms (now (t .entry))) (terms (take n (now (r .entry))))) f (now (r .exit)) ⌝ }
+{
+    let mut a = [0u64; 1024];
+    let mut x = [0u64; 1024];
+    let mut y = [0u64; 1024];
+    let mut z = [0u64; 1024];
+    sums::copy(&r[..n], 0, &mut a, 0);
+    match round(p, k, d, e, i, t, &mut a, n, &mut x, &mut y, &mut z) {
+        Formed::Words(m) => {
+            sums::copy(&a[..m], 0, r, 0);
+            Formed::Words(m)
+        }
+        Formed::OverDegree => Formed::OverDegree,
+        Formed::OverTerms => Formed::OverTerms,
+    }
+}
+
 // i times f, in the first words of x. The initial is 1 in many divisions: then f is copied.
 fn times_initial(p: u64, i: &[u64], f: &[u64], x: &mut [u64], z: &mut [u64]) -> Formed
     requires { ⌜ (1 ≤ p) × (p < 2147483648) ⌝ }
     requires { ⌜ Holds p (now i) ⌝ }
     requires { ⌜ Holds p (now f) ⌝ }
-    requires { ⌜ (1024 ≤ length (now x)) × (1024 ≤ length (now z)) ⌝ }
+    requires { ⌜ (lent-for-product (length (now i)) (length (now f)) ≤ length (now x)) × (lent-for-product (length (now i)) (length (now f)) ≤ length (now z)) ⌝ }
     ensures { λ r. ⌜ Forms (bounded-product standard p (terms (now (i .entry))) (terms (now (f .entry)))) r (now (x .exit)) ⌝ }
 {
     if i.len() == 2 && i[0] == 1 && i[1] == 0 {
@@ -88,9 +138,9 @@ fn subtract_product(
 ) -> Formed
     requires { ⌜ (1 ≤ p) × (p < 2147483648) ⌝ }
     requires { ⌜ Holds p (now t) ⌝ }
-    requires { ⌜ (l ≤ length (now r)) × (1024 ≤ length (now r)) × Holds p (take l (now r)) ⌝ }
+    requires { ⌜ (l ≤ length (now r)) × (lent-for-difference (length (now a)) l (length (now t)) ≤ length (now r)) × Holds p (take l (now r)) ⌝ }
     requires { ⌜ Holds p (now a) ⌝ }
-    requires { ⌜ (1024 ≤ length (now y)) × (1024 ≤ length (now z)) ⌝ }
+    requires { ⌜ (lent-for-product l (length (now t)) ≤ length (now y)) × (lent-for-product l (length (now t)) ≤ length (now z)) ⌝ }
     ensures { λ f. ⌜ Forms (and-then (bounded-product standard p (terms (take l (now (r .entry)))) (terms (now (t .entry)))) (bounded-difference standard p (terms (now (a .entry))))) f (now (r .exit)) ⌝ }
 {
     if l == 2 {
@@ -107,8 +157,8 @@ fn subtract_product(
 fn subtract_row(p: u64, t: &[u64], r: &mut [u64], a: &[u64]) -> Formed
     requires { ⌜ (1 ≤ p) × (p < 2147483648) ⌝ }
     requires { ⌜ Holds p (now t) ⌝ }
-    requires { ⌜ (1024 ≤ length (now r)) × Holds p (take 2 (now r)) ⌝ }
-    requires { ⌜ Holds p (now a) ⌝ }
+    requires { ⌜ (2 ≤ length (now r)) × Holds p (take 2 (now r)) ⌝ }
+    requires { ⌜ Holds p (now a) × (length (now a) + length (now t) ≤ length (now r)) ⌝ }
     ensures { λ f. ⌜ Forms (and-then (bounded-product standard p (terms (take 2 (now (r .entry)))) (terms (now (t .entry)))) (bounded-difference standard p (terms (now (a .entry))))) f (now (r .exit)) ⌝ }
 {
     let c = r[0];

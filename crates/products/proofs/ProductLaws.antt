@@ -4,7 +4,7 @@ use mathlib.Core.Logic.{_≢_, ⊎-elim}
 use mathlib.Core.List.{List, [], _∷_}
 use mathlib.Core.Bool.{Bool, true, false}
 use Prim.Native.Nat.{ℕ, _+_, _-_, _*_, _/_, _%_, _≤_, _<_}
-use native.Mathlib.Nat.{mul-le-mul}
+use native.Mathlib.Nat.{mul-le-mul, mul-le-mul-right}
 use native.Mathlib.Omega.{arith}
 use lib.Dec.{ltb}
 use lib.ListN.{length, take, drop, getD}
@@ -18,6 +18,7 @@ use Rattle.polynomials.specs.Working.{Pairs, Holds, Written, Forms}
 use Rattle.polynomials.specs.declared.Formed.{Formed}
 use Rattle.polynomials.specs.declared.Formed.the-variants.{Words, OverDegree, OverTerms}
 use Rattle.products.specs.Gathers.{room-for, Gathers}
+use Rattle.products.specs.Lent.{lent-for-product}
 use Rattle.products.specs.declared.Gathered.{Gathered}
 use Rattle.products.specs.declared.Gathered.the-variants as ended
 pub use Rattle.sums.proofs.MergeLaws.{formed, refused}
@@ -40,6 +41,18 @@ over-terms-ended f need r a b x w e = go (over (at-most 256) (length f)) (subst 
 
 pub never-short : (f : Poly) (need : ℕ) (r : Gathered) (a b : List ℕ) → Gathers f need r a b → r ≡ ended.Short → need ≤ length a → need ≤ length b → ⊥
 never-short f need r a b w e ha hb = ⊎-elim (λ (h : length a < need). omega arith) (λ (h : length b < need). omega arith) (subst (λ r. Gathers f need r a b) e w)
+
+-- ── the words lent for factors of a and b words ──
+module _ (a b : ℕ) where
+  pub lent-exchanged : (x : ℕ) → lent-for-product a b ≤ x → lent-for-product b a ≤ x
+  lent-exchanged x h = omega arith
+
+  pub row-lent : (x : ℕ) → 2 ≤ a → b ≤ 512 → lent-for-product a b ≤ x → b ≤ x
+  row-lent x h k l = omega (arith, mul-le-mul-right b h)
+
+  -- Buffers too short for the gathering have 1,024 words.
+  pub short-lent : (f : Poly) (r : Gathered) (x z : List ℕ) → Gathers f (room-for a b) r x z → r ≡ ended.Short → (lent-for-product a b ≤ length x) × (lent-for-product a b ≤ length z) → 512 ≤ length x
+  short-lent f r x z w e l = ⊎-elim (λ (h : length x < room-for a b). omega (arith, l)) (λ (h : length z < room-for a b). omega (arith, l)) (subst (λ r. Gathers f (room-for a b) r x z) e w)
 
 -- ── what a buffer was formed in, and its copy ──
 pub words-formed : (f : Poly) (n : ℕ) (a : List ℕ) → Forms (tested standard f) (Words n) a → Written f n a × (n ≤ 512)
@@ -215,7 +228,7 @@ module _ (p : ℕ) (f g : List ℕ) {D : Type 0} (asked : Factors p f g D) where
 
     -- Where the two do not find room, the words are less than those asked for.
     pub no-room : (r : ℕ) → r < n + 2 * length g → r < room-for (length f) (length g)
-    no-room r h = omega (arith, v .few, v .rows .done, doubled)
+    no-room r h = omega (arith, v .few, v .rows .done, doubled, mul-le-mul-right (length g) full)
 
     upper-place : Place f (i - 4 + 2) (i - 4 + 3) i
     upper-place = record { even = omega (arith, even, full); inside = omega (arith, full, v .inside); second = omega arith; next = omega (arith, full) }

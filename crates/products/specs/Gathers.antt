@@ -1,5 +1,5 @@
 -- What the gathering of a product by rows answers, in two buffers that may be too short for it.
-use Prim.Native.Nat.{ℕ, _+_, _*_, _/_, _<_}
+use Prim.Native.Nat.{ℕ, _+_, _*_, _/_, _<_, min}
 use mathlib.Core.Logic.{_⊎_}
 use mathlib.Core.List.{List}
 use lib.ListN.{length}
@@ -10,9 +10,9 @@ use Rattle.polynomials.specs.declared.Formed.the-variants as formed
 use Rattle.products.specs.declared.Gathered.{Gathered}
 use Rattle.products.specs.declared.Gathered.the-variants.{Words, OverTerms, Short}
 
--- The words that a buffer must have to hold what is gathered of factors of a and b words: half of all term products, two rows and 256 words more.
+-- The words that a buffer must have to hold what is gathered of factors of a and b words: all term products, or half of them with two rows and 256 words more.
 abbrev pub room-for : ℕ → ℕ → ℕ
-room-for a b = a * b / 4 + 2 * b + 256
+room-for a b = min (a * b / 2) (a * b / 4 + 2 * b + 256)
 
 -- In x and z the product f was formed or refused as its test says; too short is said only where a buffer has fewer than `need` words.
 abbrev pub Gathers : Poly → ℕ → Gathered → List ℕ → List ℕ → Type 0

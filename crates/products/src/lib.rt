@@ -12,6 +12,7 @@ ghost use Rattle.polynomials.specs.Bounds.{standard, at-most, bounded-product, 
 ghost use Rattle.polynomials.specs.Packed.{terms};
 ghost use Rattle.polynomials.specs.Working.{Holds, Forms};
 ghost use Rattle.products.specs.Gathers.{Gathers, room-for};
+ghost use Rattle.products.specs.Lent.{lent-for-product};
 use polynomials::Formed;
 use terms::parts;
 
@@ -22,13 +23,13 @@ pub enum Gathered {
     Short,
 }
 
-// f times g, in the first words of x; z is lent besides. Stack: none to speak of where x and z hold what is gathered, else 1.1 MiB,
-// of which 128 KiB are cleared up to 8,192 words.
+// f times g, in the first words of x; z is lent besides. Stack: none to speak of where x and z hold what is gathered, as they do wherever
+// all term products fit; else 1.1 MiB, of which 128 KiB are cleared up to 8,192 words.
 pub fn product(p: u64, f: &[u64], g: &[u64], x: &mut [u64], z: &mut [u64]) -> Formed
     requires { ⌜ (1 ≤ p) × (p < 2147483648) ⌝ }
     requires { ⌜ Holds p (now f) ⌝ }
     requires { ⌜ Holds p (now g) ⌝ }
-    requires { ⌜ (1024 ≤ length (now x)) × (1024 ≤ length (now z)) ⌝ }
+    requires { ⌜ (lent-for-product (length (now f)) (length (now g)) ≤ length (now x)) × (lent-for-product (length (now f)) (length (now g)) ≤ length (now z)) ⌝ }
     ensures { λ r. ⌜ Forms (bounded-product standard p (terms (now (f .entry))) (terms (now (g .entry)))) r (now (x .exit)) ⌝ }
 {
     if f.len() == 0 {
@@ -50,7 +51,7 @@ fn rows(p: u64, f: &[u64], g: &[u64], x: &mut [u64], z: &mut [u64]) -> Formed
     requires { ⌜ Holds p (now f) × (0 < length (now f)) ⌝ }
     requires { ⌜ Holds p (now g) × (degrees-over (at-most 255) (terms (now f)) (terms (now g)) ≡ false) ⌝ }
     requires { ⌜ 0 < length (now g) ⌝ }
-    requires { ⌜ (1024 ≤ length (now x)) × (1024 ≤ length (now z)) ⌝ }
+    requires { ⌜ (lent-for-product (length (now f)) (length (now g)) ≤ length (now x)) × (lent-for-product (length (now f)) (length (now g)) ≤ length (now z)) ⌝ }
     ensures { λ r. ⌜ Forms (tested standard (product p (terms (now (f .entry))) (terms (now (g .entry))))) r (now (x .exit)) ⌝ }
 {
     if g.len() < f.len() {
@@ -67,12 +68,13 @@ fn rows(p: u64, f: &[u64], g: &[u64], x: &mut [u64], z: &mut [u64]) -> Formed
     }
 }
 
-// The rows of f added up, from the last on, in x and z by turns: at the end in x. It ends early where a row finds no room.
+// The rows of f added up, from the last on, in x and z by turns: at the end in x. It ends early where a row finds no room;
+// x has room for one.
 fn gather(p: u64, f: &[u64], g: &[u64], x: &mut [u64], z: &mut [u64]) -> Gathered
     requires { ⌜ (1 ≤ p) × (p < 2147483648) ⌝ }
     requires { ⌜ Holds p (now f) × (0 < length (now f)) ⌝ }
     requires { ⌜ Holds p (now g) × (degrees-over (at-most 255) (terms (now f)) (terms (now g)) ≡ false) ⌝ }
-    requires { ⌜ (512 ≤ length (now x)) × (512 ≤ length (now z)) ⌝ }
+    requires { ⌜ length (now g) ≤ length (now x) ⌝ }
     ensures { λ r. ⌜ Gathers (product p (terms (now (f .entry))) (terms (now (g .entry)))) (room-for (length (now (f .entry))) (length (now (g .entry)))) r (now (x .exit)) (now (z .exit)) ⌝ }
 {
     let mut i = f.len();

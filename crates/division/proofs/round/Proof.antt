@@ -1,15 +1,15 @@
 -- `round`: what its three calls answered is I×R, the factor L×v(k+1)^(e−d), and the difference.
 use borrow.Author.Needs.{needs}
-use mathlib.Core.Path.{sym}
+use mathlib.Core.Path.{_≡_, refl, sym}
 use mathlib.Core.List.{List}
-use Prim.Native.Nat.{ℕ}
+use Prim.Native.Nat.{ℕ, _*_, _/_, _≤_}
 use native.Mathlib.Omega.{arith}
-use lib.ListN.{take}
+use lib.ListN.{length, take}
 use lib.Seq.{length-take-le}
 use Rattle.polynomials.specs.Bounds.{Bounded, standard, bounded-product}
 use Rattle.polynomials.specs.Packed.{terms}
 use Rattle.polynomials.specs.laws.Answers.{Answered, product-answered, written-holds}
-use Rattle.division.proofs.RoundLaws.{canonical-factor, round-formed, round-degree, round-terms}
+use Rattle.division.proofs.RoundLaws.{initial-lent, factor-lent, difference-lent, product-words, canonical-factor, round-formed, round-degree, round-terms}
 use Rattle.division.proofs.round.Statement.{statement}
 use Rattle.division.proofs.round.Tie as tie
 
@@ -34,16 +34,25 @@ answer c =
     let s = start (called c) in
     product-answered (s .args .p) (s .pre .0 .0) _ _ _ (c .a .given .1) (terms (s .args .i .now)) (terms (R s)) (called c .times-initial .ensures)
 
+-- R has n words.
+words : (s : tie.Start) → length (R s) ≡ s .args .n
+words s = length-take-le (s .args .n) (s .args .r .now) (s .pre .1 .1 .1 .0 .0)
+
+-- I×R has at most as many words as all its term products.
+few : (c : tie.After-a) → let s = start (called c) in c .a .given .0 .0 ≤ length (s .args .i .now) * s .args .n / 2
+few c = let s = start (called c) in product-words (s .args .p) _ _ _ _ (s .pre .1 .1 .0 .0 .pairs) (s .pre .1 .1 .1 .0 .1 .pairs) refl (words s) _ _ (answer c)
+
 slice-reshare-prefix-times-initial : tie.Need-slice-reshare-prefix-times-initial
 slice-reshare-prefix-times-initial c = search needs
 
 slice-aggregate-times-initial : tie.Need-slice-aggregate-times-initial
-slice-aggregate-times-initial c = let s = c .before .before .before .before .before .before .before in sym (length-take-le (s .args .n) (s .args .r .now) (s .pre .1 .1 .1 .0 .0))
+slice-aggregate-times-initial c = sym (words (c .before .before .before .before .before .before .before))
 
 times-initial-requires : tie.Need-times-initial-requires
 times-initial-requires c κs =
     let s = c .before .before .before .before .before .before .before .before .before in
-    (omega arith, (s .pre .1 .1 .0 .0, (s .pre .1 .1 .1 .0 .2, omega arith)))
+    let lent = s .pre .1 .1 .1 .1 in
+    (omega arith, (s .pre .1 .1 .0 .0, (s .pre .1 .1 .1 .0 .1, (initial-lent _ _ _ _ _ (words s) (lent .1), initial-lent _ _ _ _ _ (words s) (lent .3)))))
 
 enum-known-a : tie.Need-enum-known-a
 enum-known-a c = search needs
@@ -61,17 +70,26 @@ subtract-product-requires : tie.Need-subtract-product-requires
 subtract-product-requires c κs =
     let l = c .before .before .before .before .before .before in
     let a = l .before .before .before in
-    let s = start (called a) in (
+    let s = start (called a) in
+    let fewer = l .factor .ensures .1 in
+    let lent = s .pre .1 .1 .1 .1 in
+    let kept = called a .times-initial .kept in (
       omega arith,
       (
         s .pre .1 .0 .0,
         (
           (
             l .factor .ensures .0 .within,
-            omega (arith, s .pre .1 .1 .1 .0, l .factor .kept),
-            written-holds (s .args .p) _ _ _ (l .factor .ensures .0) (omega (arith, l .factor .ensures .1, s .pre .1 .1 .1 .0 .2 .few, length-take-le (s .args .n) (s .args .r .now) (s .pre .1 .1 .1 .0 .0))) (canonical-factor (s .args .p) (s .args .k) (s .args .d) (R s) (s .pre .1 .1 .1 .0 .2 .canonical)),
+            difference-lent (s .args .n) (length (s .args .i .now)) _ _ fewer _ _ (omega (arith, few a, length-take-le (a .a .given .0 .0) (X (called a)) (answer a .inside))) (omega (arith, lent .0, l .factor .kept)),
+            written-holds (s .args .p) _ _ _ (l .factor .ensures .0) (omega (arith, fewer, s .pre .1 .1 .1 .0 .1 .few, words s)) (canonical-factor (s .args .p) (s .args .k) (s .args .d) (R s) (s .pre .1 .1 .1 .0 .1 .canonical)),
           ),
-          (answer a .holds, omega (arith, s .pre .1 .1 .1 .1, called a .times-initial .kept)),
+          (
+            answer a .holds,
+            (
+              factor-lent (s .args .n) (length (s .args .i .now)) _ _ fewer _ (omega (arith, lent .2, kept)),
+              factor-lent (s .args .n) (length (s .args .i .now)) _ _ fewer _ (omega (arith, lent .3, kept)),
+            ),
+          ),
         ),
       ),
     )

@@ -1,15 +1,16 @@
 -- `subtract_product`: what `product` answered, and then `difference`; with one term, what `subtract_row` answered.
 use borrow.Author.Needs.{needs}
-use mathlib.Core.Path.{sym, subst}
+use mathlib.Core.Path.{refl, sym, subst}
 use mathlib.Core.List.{List}
-use Prim.Native.Nat.{ℕ}
+use Prim.Native.Nat.{ℕ, _+_, _≤_}
 use native.Mathlib.Omega.{arith}
-use lib.ListN.{take}
+use lib.ListN.{length, take}
 use lib.Seq.{length-take-le}
 use Rattle.polynomials.specs.Bounds.{Bounded, standard, and-then, bounded-product, bounded-difference}
 use Rattle.polynomials.specs.Packed.{terms}
 use Rattle.polynomials.specs.Working.{Holds, Forms}
 use Rattle.polynomials.specs.laws.Answers.{Answered, product-answered, then-formed, then-degree, then-terms}
+use Rattle.division.proofs.RoundLaws.{factor-lent-as, row-difference-lent, product-difference-lent, product-words}
 use Rattle.division.proofs.subtract_product.Statement.{statement}
 use Rattle.division.proofs.subtract_product.Tie as tie
 
@@ -31,10 +32,27 @@ answer c =
     let s = start (called c) in
     product-answered (s .args .p) (s .pre .0 .0) _ _ _ (c .b .given .1) (terms (take (s .args .l) (s .args .r .now))) (terms (s .args .t .now)) (called c .product .ensures)
 
+-- a and the product find room in r.
+room : (c : tie.After-b) → length (start (called c) .args .a .now) + length (take (c .b .given .0 .0) (Y (called c))) ≤ length (start (called c) .args .r .now)
+room c =
+    let s = start (called c) in
+    let taken = length-take-le (s .args .l) (s .args .r .now) (s .pre .1 .1 .0 .0) in
+    let few = product-words (s .args .p) _ _ _ _ (s .pre .1 .1 .0 .2 .pairs) (s .pre .1 .0 .pairs) taken refl _ _ (answer c) in
+    product-difference-lent _ _ _ _ _ (s .pre .1 .1 .1 .0 .few) (answer c .holds .few) (omega (arith, few, length-take-le (c .b .given .0 .0) (Y (called c)) (answer c .inside))) (s .pre .1 .1 .0 .1)
+
 subtract-row-requires : tie.Need-subtract-row-requires
 subtract-row-requires c κs =
     let s = c .before .before .before .before .before .before .before in
-    (s .pre .0, (s .pre .1 .0, ((s .pre .1 .1 .0 .1, subst (λ (l : ℕ). Holds (s .args .p) (take l (s .args .r .now))) (c .before .if1 .taken) (s .pre .1 .1 .0 .2)), s .pre .1 .1 .1 .0)))
+    let one = c .before .if1 .taken in (
+      s .pre .0,
+      (
+        s .pre .1 .0,
+        (
+          (omega (arith, one, s .pre .1 .1 .0 .0), subst (λ (l : ℕ). Holds (s .args .p) (take l (s .args .r .now))) one (s .pre .1 .1 .0 .2)),
+          (s .pre .1 .1 .1 .0, row-difference-lent _ _ _ _ one (s .pre .1 .1 .1 .0 .few) (s .pre .1 .0 .few) (s .pre .1 .1 .0 .1)),
+        ),
+      ),
+    )
 
 same-length : tie.Need-same-length
 same-length c = search needs
@@ -52,7 +70,10 @@ slice-aggregate-product : tie.Need-slice-aggregate-product
 slice-aggregate-product c = let s = c .before .before .before .before .before .before .before in sym (length-take-le (s .args .l) (s .args .r .now) (s .pre .1 .1 .0 .0))
 
 product-requires : tie.Need-product-requires
-product-requires c κs = search needs
+product-requires c κs =
+    let s = c .before .before .before .before .before .before .before .before .before in
+    let taken = length-take-le (s .args .l) (s .args .r .now) (s .pre .1 .1 .0 .0) in
+    (s .pre .0, (s .pre .1 .1 .0 .2, (s .pre .1 .0, (factor-lent-as _ _ _ _ taken (s .pre .1 .1 .1 .1 .0), factor-lent-as _ _ _ _ taken (s .pre .1 .1 .1 .1 .1)))))
 
 enum-known-b : tie.Need-enum-known-b
 enum-known-b c = search needs
@@ -67,7 +88,7 @@ difference-requires : tie.Need-difference-requires
 difference-requires c κs =
     let b = c .before .before .before in
     let s = start (called b) in
-    (s .pre .0, (s .pre .1 .1 .1 .0, (answer b .holds, omega (arith, s .pre .1 .1 .1 .0 .few, answer b .holds .few))))
+    (s .pre .0, (s .pre .1 .1 .1 .0, (answer b .holds, room b)))
 
 enum-told : tie.Need-enum-told
 enum-told c = search needs

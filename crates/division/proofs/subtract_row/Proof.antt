@@ -54,7 +54,7 @@ add-multiple-requires c κs =
       omega (arith, coefficient s),
       (
         (s .pre .1 .0 .pairs, s .pre .1 .0 .canonical, factor-fits (s .args .p) (s .pre .0 .0) (s .args .r .now) (s .args .t .now) (s .pre .1 .1 .0 .0) (s .pre .1 .1 .0 .1) (within (c .before))),
-        ((s .pre .1 .1 .1 .pairs, s .pre .1 .1 .1 .canonical), omega arith),
+        ((s .pre .1 .1 .1 .0 .pairs, s .pre .1 .1 .1 .0 .canonical), omega (arith, s .pre .1 .1 .1 .1)),
       ),
     )
 
@@ -65,7 +65,7 @@ returns-2 : tie.Need-returns-2
 returns-2 c =
     let e = c .before .before .before .before .before in
     let s = start e in
-    row-too-long (s .args .p) (s .pre .0 .0) (s .args .r .now) (s .args .t .now) (s .pre .1 .1 .0 .0) (s .pre .1 .1 .0 .1) (s .args .a .now) (s .pre .1 .0) (s .pre .1 .1 .1)
+    row-too-long (s .args .p) (s .pre .0 .0) (s .args .r .now) (s .args .t .now) (s .pre .1 .1 .0 .0) (s .pre .1 .1 .0 .1) (s .args .a .now) (s .pre .1 .0) (s .pre .1 .1 .1 .0)
     (within e) _ _ (c .before .before .before .add-multiple .ensures) (omega arith)
 
 same-length-3 : tie.Need-same-length-3
@@ -75,7 +75,7 @@ returns-3 : tie.Need-returns-3
 returns-3 c =
     let e = c .before .before .before .before .before in
     let s = start e in
-    row-formed (s .args .p) (s .pre .0 .0) (s .args .r .now) (s .args .t .now) (s .pre .1 .1 .0 .0) (s .pre .1 .1 .0 .1) (s .args .a .now) (s .pre .1 .0) (s .pre .1 .1 .1)
+    row-formed (s .args .p) (s .pre .0 .0) (s .args .r .now) (s .args .t .now) (s .pre .1 .1 .0 .0) (s .pre .1 .1 .0 .1) (s .args .a .now) (s .pre .1 .0) (s .pre .1 .1 .1 .0)
     (within e) _ _ (c .before .before .before .add-multiple .ensures) (omega arith)
 
 pub subtract-row-spec : {M : Type 1} → statement M

@@ -8,7 +8,7 @@ use lib.ListN.{length}
 use borrow.Fn.Kinds.{In}
 use borrow.Fn.PlainCycle.{Measures, is, falls, and}
 use Rattle.polynomials.specs.laws.Product.{degrees-over-comm}
-use Rattle.products.proofs.ProductLaws.{exchanged, single-asks, single-formed, words-ended, over-terms-ended}
+use Rattle.products.proofs.ProductLaws.{exchanged, lent-exchanged, row-lent, short-lent, single-asks, single-formed, words-ended, over-terms-ended}
 use Rattle.products.proofs.rows.Reads as rows
 use Rattle.products.proofs.rows.Kinds as rows-kinds
 use Rattle.products.proofs.+rows.Lts-rows as rows-lts
@@ -44,7 +44,7 @@ rows-rows-requires : (t : ℕ) → rows-lts.Need-rows-requires (calls t) (rows-a
 rows-rows-requires t c κs =
     let s = c .before .before .before .before .before .before .before in
     let asked = s .pre .1 in
-    (omega (arith, s .pre .0, c .before .before .if1 .taken), (asked .0, ((asked .1 .1 .0 .0, asked .1 .1 .1 .0), ((asked .1 .0 .0, degrees-over-comm 255 _ _ ∙ asked .1 .1 .0 .1), (asked .1 .0 .1, asked .1 .1 .1 .1)))))
+    (omega (arith, s .pre .0, c .before .before .if1 .taken), (asked .0, ((asked .1 .1 .0 .0, asked .1 .1 .1 .0), ((asked .1 .0 .0, degrees-over-comm 255 _ _ ∙ asked .1 .1 .0 .1), (asked .1 .0 .1, (lent-exchanged _ _ _ (asked .1 .1 .1 .1 .0), lent-exchanged _ _ _ (asked .1 .1 .1 .1 .1)))))))
 
 rows-same-length : (t : ℕ) → rows-lts.Need-same-length (calls t) (rows-at t) rows.Post
 rows-same-length t c = search needs
@@ -66,8 +66,9 @@ rows-slice-aggregate-add-multiple t c = search needs
 
 rows-add-multiple-requires : (t : ℕ) → rows-lts.Need-add-multiple-requires (calls t) (rows-at t) rows.Post
 rows-add-multiple-requires t c κs =
-    let s = c .before .before .before .before .before .before .before .before .before .before in
-    single-asks _ _ _ (s .pre .1) (c .before .before .before .before .if2 .taken) _ (omega (arith, s .pre .1 .1 .1 .1, s .pre .1 .1 .1 .0 .0 .few))
+    let asked = c .before .before .before .before .before .before .before .before .before .before .pre .1 in
+    let single = c .before .before .before .before .if2 .taken in
+    single-asks _ _ _ asked single _ (row-lent _ _ _ (omega (arith, single)) (asked .1 .1 .0 .0 .few) (asked .1 .1 .1 .1 .0))
 
 rows-same-length-3 : (t : ℕ) → rows-lts.Need-same-length-3 (calls t) (rows-at t) rows.Post
 rows-same-length-3 t c = search needs
@@ -78,7 +79,7 @@ rows-returns-2 t c = single-formed _ _ _ (c .before .before .before .before .bef
 rows-gather-requires : (t : ℕ) → rows-lts.Need-gather-requires (calls t) (rows-at t) rows.Post
 rows-gather-requires t c κs =
     let asked = c .before .before .before .before .before .before .before .before .pre .1 in
-    (asked .0, (asked .1 .0, (asked .1 .1 .0, (omega (arith, asked .1 .1 .1 .1), omega (arith, asked .1 .1 .1 .1)))))
+    (asked .0, (asked .1 .0, (asked .1 .1 .0, row-lent _ _ _ (omega (arith, asked .1 .0 .0 .pairs, asked .1 .0 .1)) (asked .1 .1 .0 .0 .few) (asked .1 .1 .1 .1 .0))))
 
 rows-enum-known-ended : (t : ℕ) → rows-lts.Need-enum-known-ended (calls t) (rows-at t) rows.Post
 rows-enum-known-ended t c = search needs
@@ -92,7 +93,8 @@ rows-enum-told-2 t c = search needs
 rows-gather-apart-requires : (t : ℕ) → rows-lts.Need-gather-apart-requires (calls t) (rows-at t) rows.Post
 rows-gather-apart-requires t c κs =
     let asked = c .before .before .before .before .before .before .before .before .before .before .before .before .before .before .before .before .pre .1 in
-    (asked .0, (asked .1 .0, (asked .1 .1 .0, omega (arith, asked .1 .1 .1 .1, c .before .before .before .before .before .before .before .gather .kept))))
+    let g = c .before .before .before .before .before .before .before .gather in
+    (asked .0, (asked .1 .0, (asked .1 .1 .0, short-lent _ _ _ _ _ _ (g .ensures) (c .before .enum-told2 .given .1) (omega (arith, asked .1 .1 .1 .1, g .kept)))))
 
 rows-same-length-4 : (t : ℕ) → rows-lts.Need-same-length-4 (calls t) (rows-at t) rows.Post
 rows-same-length-4 t c = search needs

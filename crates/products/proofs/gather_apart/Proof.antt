@@ -16,7 +16,7 @@ slice-aggregate-gather-2 c = search needs
 gather-requires : tie.Need-gather-requires
 gather-requires c κs =
     let s = c .before .before .before .before .before in
-    (s .pre .0, (s .pre .1 .0, (s .pre .1 .1 .0, (omega arith, omega arith))))
+    (s .pre .0, (s .pre .1 .0, (s .pre .1 .1 .0, omega (arith, s .pre .1 .1 .0 .0 .few))))
 
 enum-known-ended : tie.Need-enum-known-ended
 enum-known-ended c = search needs

@@ -29,7 +29,7 @@ round-requires c κs =
     let s = c .before .before .before .before .before .before .before .before .before in
     let e = c .before .before .before .before .degree .ensures in
     let r = s .pre .1 .1 .1 in
-    (omega (arith, e), (s .pre .1 .0, (s .pre .1 .1 .0, ((r .0, r .1, r .2, sym e), search needs))))
+    (omega (arith, e), (s .pre .1 .0, (s .pre .1 .1 .0, ((r .0, r .2, sym e), (omega (arith, r .1), omega arith, omega arith, omega arith)))))
 
 same-length : tie.Need-same-length
 same-length c = search needs

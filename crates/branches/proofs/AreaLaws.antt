@@ -296,3 +296,12 @@ module _ {v : List Rec} {most : ℕ} {b : Stored} {bs ss : List Stored} (H : Hel
 
     pub q-is : (q : ℕ) → q ≡ getD v a nul .w1 → q ≡ length (b .Q)
     q-is q h = h ∙ ap (λ (r : Rec). r .w1) own-read
+
+    -- The member of P at place i, behind those before it.
+    module _ (i : ℕ) (h : i < length (b .P)) where
+      pub skip-inside-P : skip-to v (a + 1) i ≤ most
+      skip-inside-P = omega (arith, skip-P i (omega arith), within (take i (b .P)) (drop i (b .P) ++ (b .Q ++ b .T)) (parted-P b i))
+
+      pub found-P : (r : ℕ) → r ≡ skip-to v (a + 1) i → Found v most r (getD (b .P) i [])
+      found-P r e =
+          found (take i (b .P)) (getD (b .P) i []) (drop (suc i) (b .P) ++ (b .Q ++ b .T)) (parted-at-P b i h) (storable-member (b .P) i h (H .storable .0 .0)) r (e ∙ skip-P i (omega arith))

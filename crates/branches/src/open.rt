@@ -87,11 +87,22 @@ pub fn find_q(w: &[u32], f: &[u64]) -> bool
     stored::find(w, from, q, f)
 }
 
+// How many words the member of P at place i takes.
+pub fn words_p(w: &[u32], i: usize) -> usize
+    requires { ⌜ Opened (view (now w)) (capacity (now w)) ⌝ }
+    requires { ⌜ ((b : Stored) (bs ss : List Stored) → Held (view (now w)) (capacity (now w)) (with-open b bs ss) → i < length (b .P)) ⌝ }
+    ensures { λ r. ⌜ ((b : Stored) (bs ss : List Stored) → Held (view (now (w .entry))) (capacity (now (w .entry))) (with-open b bs ss) → r ≡ length (getD (b .P) i [])) ⌝ }
+{
+    let at = records::get0(w, 0) as usize;
+    let head = stored::skip(w, at + 1, i);
+    2 * records::get0(w, head) as usize
+}
+
 // Loads the member of P at place i into the first words of `out`; how many.
 pub fn load_p(w: &[u32], i: usize, out: &mut [u64]) -> usize
     requires { ⌜ Opened (view (now w)) (capacity (now w)) ⌝ }
     requires { ⌜ ((b : Stored) (bs ss : List Stored) → Held (view (now w)) (capacity (now w)) (with-open b bs ss) → i < length (b .P)) ⌝ }
-    requires { ⌜ 512 ≤ length (now out) ⌝ }
+    requires { ⌜ ((b : Stored) (bs ss : List Stored) → Held (view (now w)) (capacity (now w)) (with-open b bs ss) → length (getD (b .P) i []) ≤ length (now out)) ⌝ }
     ensures { λ r. ⌜ ((b : Stored) (bs ss : List Stored) → Held (view (now (w .entry))) (capacity (now (w .entry))) (with-open b bs ss)
         → (r ≡ length (getD (b .P) i [])) × (take r (now (out .exit)) ≡ getD (b .P) i [])) ⌝ }
 {

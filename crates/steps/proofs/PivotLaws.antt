@@ -47,12 +47,12 @@ pub record Pivot-in (p k place : ℕ) (b : Stored) (t : List ℕ) (n : ℕ) : Ty
   pub sound : Sound p (take n t)
   pub led : leader (terms (take n t)) ≡ k + 1
 
-pub pivot-in : (p k place : ℕ) (b : Stored) (bs ss : List Stored) (t : List ℕ) (n : ℕ) → Ready p (with-open b bs ss) → Leads k place b → 512 ≤ length t
+pub pivot-in : (p k place : ℕ) (b : Stored) (bs ss : List Stored) (t : List ℕ) (n : ℕ) → Ready p (with-open b bs ss) → Leads k place b → length (getD (b .P) place []) ≤ length t
     → (n ≡ length (getD (b .P) place [])) × (take n t ≡ getD (b .P) place []) → Pivot-in p k place b t n
 pivot-in p k place b bs ss t n R L room e =
     let s = sound-at p place (b .P) (R .sound .branches .0 .in-P) in
     record {
-      inside = omega (arith, e .0, s .holds .few, room);
+      inside = omega (arith, e .0, room);
       is = e .1;
       sound = subst (Sound p) (sym (e .1)) s;
       led = ap (λ (f : List ℕ). leader (terms f)) (e .1) ∙ L .2;

@@ -12,6 +12,8 @@ use Rattle.representation.specs.Represent.{All-sound}
 use Rattle.survey.specs.Survey.{All-hold, other-place}
 use Rattle.survey.specs.declared.Other.the-variants.{None, At}
 use Rattle.steps.specs.declared.Division.{Division}
+use Rattle.steps.specs.declared.Prepared.{Prepared}
+use Rattle.steps.specs.declared.Prepared.the-variants.{Done, Members, Stop, Crowded}
 use Rattle.steps.specs.Pending.{division-of, aimed}
 
 -- A work area of the same length has the same capacity.
@@ -37,3 +39,13 @@ module _ (k d n m i : ℕ) (b : Stored) (bs ss : List Stored) (v : List Rec) (mo
 pub all-hold : (p : ℕ) (fs : List (List ℕ)) → All-sound p fs → All-hold p fs
 all-hold p [] h = tt
 all-hold p (f ∷ fs) h = (h .0 .holds, all-hold p fs (h .1))
+
+-- The answers but `Crowded`.
+abbrev pub Begun : Prepared → Type 0
+Begun Done = Unit {0}
+Begun (Members d) = Unit {0}
+Begun (Stop why) = Unit {0}
+Begun Crowded = ⊥
+
+pub begun : {A : Type 0} (q : Prepared) → Begun q → q ≡ Crowded → A
+begun q h e = absurd (subst Begun e h)

@@ -16,7 +16,7 @@ use Rattle.records.specs.Records.{Rec}
 use Rattle.branches.specs.Area.{Stored, Area, Held, with-open, put-into-P, put-into-Q, without-P, without-Q, closed}
 use Rattle.steps.specs.declared.Division.{Division}
 use Rattle.steps.specs.declared.Prepared.{Prepared}
-use Rattle.steps.specs.declared.Prepared.the-variants.{Done, Members, Stop}
+use Rattle.steps.specs.declared.Prepared.the-variants.{Done, Members, Stop, Crowded}
 use Rattle.steps.specs.Ready.{Ready}
 use Rattle.representation.specs.Represent.{branch-of, system-of, state-of, chosen, with-new}
 
@@ -85,11 +85,12 @@ pub record Comes (l : Limits) (p : ℕ) (S : Stepped) (d : Division) (t i : List
   pub has : Has-members (d .closing) (d .place) (d .left) b
   pub goes : S ≡ rest-of-step l p (d .closing) (d .place) (d .left) (d .k) (terms (take (d .pivot) t)) b bs ss
 
--- What the code answers of the step S: it is done, it comes to a division, or it stops.
+-- What the code answers of the step S: it is done, it comes to a division, or it stops; or the step was not begun.
 abbrev pub Prepares : Limits → ℕ → Stepped → Prepared → List ℕ → List ℕ → List Rec → ℕ → List Stored → List Stored → Type 0
 Prepares l p S Done t i v most bs ss = (a : Area) × (S ≡ next (state-of a)) × Held v most a × Ready p a
 Prepares l p S (Members d) t i v most bs ss = (b : Stored) × Comes l p S d t i v most b bs ss
 Prepares l p S (Stop why) t i v most bs ss = S ≡ stopped why
+Prepares l p S Crowded t i v most bs ss = Unit {0}
 
 -- The member of P at `place` is led by v(k+1).
 abbrev pub Leads : ℕ → ℕ → Stored → Type 0

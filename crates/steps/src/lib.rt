@@ -18,6 +18,7 @@ ghost use Rattle.rules.specs.Rule.{rule-with};
 ghost use Rattle.rules.specs.Step.{apply, step};
 ghost use Rattle.survey.specs.Survey.{All-hold};
 ghost use Rattle.representation.specs.Represent.{Sound, branch-of, system-of, chosen};
+ghost use Rattle.steps.specs.declared.Prepared.the-variants.{Crowded};
 ghost use Rattle.steps.specs.Ready.{Ready, Modulus, limits-in};
 ghost use Rattle.steps.specs.Pending.{Has-left, Has-behind, next-member, taken-out, put-in, division-of, aimed, Leads, Prepares};
 use branches::open;
@@ -39,11 +40,12 @@ pub struct Division {
     pub left: usize,
 }
 
-// What a step has done when its rule has been found.
+// What a step has done when its rule has been found. `Crowded`: the pivot is longer than the slice for it, and nothing was changed.
 pub enum Prepared {
     Done,
     Members(Division),
     Stop(Reason),
+    Crowded,
 }
 
 // How many members Q has.
@@ -169,7 +171,7 @@ fn apply_split(
     splits::split(w, place, t, i, &r[..l])
 }
 
-// Rules 3 to 5 for the pivot in v(k+1), which stands in P at `place`: it and its initial are loaded into t and i.
+// Rules 3 to 5 for the pivot in v(k+1), which stands in P at `place`: it and its initial are loaded into t and i, if it fits t.
 fn with_pivot(
     w: &mut [u32],
     p: u64,
@@ -181,13 +183,17 @@ fn with_pivot(
 ) -> Prepared
     requires { ⌜ Modulus p × ((b : Stored) × (bs : List Stored) × (ss : List Stored) × Held (view (now w)) (capacity (now w)) (with-open b bs ss)
         × Ready p (with-open b bs ss) × Leads k place b) ⌝ }
-    requires { ⌜ (512 ≤ length (now t)) × (512 ≤ length (now i)) × (512 ≤ length (now r)) ⌝ }
+    requires { ⌜ (length (now t) ≤ length (now i)) × (512 ≤ length (now r)) ⌝ }
     ensures { λ q. ⌜ ((b : Stored) (bs ss : List Stored) → Held (view (now (w .entry))) (capacity (now (w .entry))) (with-open b bs ss)
         → Ready p (with-open b bs ss) → Leads k place b
         → Prepares (limits-in (capacity (now (w .entry)))) p
         (apply (limits-in (capacity (now (w .entry)))) p (map branch-of bs) (reverse (map system-of ss)) (rule-with k (chosen b place) (branch-of b)) (branch-of b))
         q (now (t .exit)) (now (i .exit)) (view (now (w .exit))) (capacity (now (w .entry))) bs ss) ⌝ }
+    ensures { λ q. ⌜ (q ≡ Crowded → (length (now (t .entry)) < 512) × (now (w .exit) ≡ now (w .entry))) ⌝ }
 {
+    if t.len() < open::words_p(w, place) {
+        return Prepared::Crowded;
+    }
     let n = open::load_p(w, place, t);
     let m = parts::initial(&t[..n], k, i);
     if is_settled(w, &i[..m]) {
@@ -203,11 +209,12 @@ fn with_pivot(
 // Finds the rule that fits and applies it, but for the divisions of rules 4 and 5.
 pub fn prepare(w: &mut [u32], p: u64, t: &mut [u64], i: &mut [u64], r: &mut [u64]) -> Prepared
     requires { ⌜ Modulus p × ((b : Stored) × (bs : List Stored) × (ss : List Stored) × Held (view (now w)) (capacity (now w)) (with-open b bs ss) × Ready p (with-open b bs ss)) ⌝ }
-    requires { ⌜ (512 ≤ length (now t)) × (512 ≤ length (now i)) × (512 ≤ length (now r)) ⌝ }
+    requires { ⌜ (length (now t) ≤ length (now i)) × (512 ≤ length (now r)) ⌝ }
     ensures { λ q. ⌜ ((b : Stored) (bs ss : List Stored) → Held (view (now (w .entry))) (capacity (now (w .entry))) (with-open b bs ss) → Ready p (with-open b bs ss)
         → Prepares (limits-in (capacity (now (w .entry)))) p
         (step (limits-in (capacity (now (w .entry)))) p (branch-of b) (map branch-of bs) (reverse (map system-of ss)))
         q (now (t .exit)) (now (i .exit)) (view (now (w .exit))) (capacity (now (w .entry))) bs ss) ⌝ }
+    ensures { λ q. ⌜ (q ≡ Crowded → (length (now (t .entry)) < 512) × (now (w .exit) ≡ now (w .entry))) ⌝ }
 {
     match survey::choose(w) {
         Choice::Drop => {

@@ -2,11 +2,13 @@
 use mathlib.Core.Path.{_≡_}
 use mathlib.Core.Bool.{true}
 use mathlib.Core.List.{List}
+use Prim.Native.Nat.{_<_}
 use native.Mathlib.Omega.{arith}
 use borrow.Author.Needs.{needs}
 use lib.ListN.{length}
 use Rattle.records.specs.Records.{view}
 use Rattle.branches.specs.Area.{Stored, Held, with-open, capacity}
+use Rattle.branches.proofs.AreaLaws.{storable-member}
 use Rattle.steps.specs.Pending.{Has-left}
 use Rattle.steps.proofs.TakeLaws.{has-Q, has-P, took-Q, took-P}
 use Rattle.steps.proofs.take.Statement.{statement}
@@ -49,10 +51,22 @@ returns c = λ b bs ss H.
     let s = a .before .before .before .before .before in
     took-Q (s .args .place) (s .args .left) b bs ss _ _ _ _ (a .before .before .if1 .taken) (a .count-q .result) (a .count-q .ensures b bs ss H) (c .before .before .before .before .before .before .load-q .ensures b bs ss H) (c .before .before .remove-q .ensures b bs ss H)
 
+-- The place of the member of P, before the removal.
+has : (c : tie.After-load-p-arg2) (b : Stored) (bs ss : List Stored) → Held (view (c .before .before .before .before .before .args .w .now)) (capacity (c .before .before .before .before .before .args .w .now)) (with-open b bs ss)
+    → c .before .before .before .before .before .args .place < length (b .P)
+has c b bs ss H =
+    let s = c .before .before .before .before .before in
+    has-P (s .args .place) (s .args .left) b (c .before .before .if1 .left) (s .pre .1 .0 b bs ss H)
+
 load-p-requires : tie.Need-load-p-requires
 load-p-requires c κs =
-    let s = c .before .before .before .before .before in
-    (s .pre .0, ((λ b bs ss H. has-P (s .args .place) (s .args .left) b (c .before .before .if1 .left) (s .pre .1 .0 b bs ss H)), s .pre .1 .1))
+    let s = c .before .before .before .before .before in (
+      s .pre .0,
+      (
+        has c,
+        (λ b bs ss H. omega (arith, storable-member (b .P) (s .args .place) (has c b bs ss H) (H .storable .0 .0) .few, s .pre .1 .1)),
+      ),
+    )
 
 remove-p-requires : tie.Need-remove-p-requires
 remove-p-requires c κs =

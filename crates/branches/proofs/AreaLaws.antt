@@ -187,6 +187,9 @@ module _ {v : List Rec} {most : ℕ} {b : Stored} {bs ss : List Stored} (H : Hel
   pub room-is : end-of b bs + length (H .free) + length (systems-records ss) ≡ most
   room-is = omega (arith, H .fits, end-is b bs)
 
+  pub storable-open : All-storable (b .P) × All-storable (b .Q) × All-storable (b .T)
+  storable-open = (H .storable .0 .0, H .storable .0 .1, H .storable .0 .2)
+
   -- The state with another open branch, from its records.
   pub held-again : (v₁ : List Rec) (b₁ : Stored) (free : List Rec)
       → Lies v₁ (control b₁ bs ss free ∷ stack bs .0) (own-of b₁ bs) (all b₁) free (systems-records ss ++ H .beyond) (at-of bs)
@@ -252,6 +255,9 @@ module _ {v : List Rec} {most : ℕ} {b : Stored} {bs ss : List Stored} (H : Hel
   pub within : (xs ys : List (List ℕ)) → all b ≡ xs ++ ys → (place (at-of bs) xs ≤ end-of b bs) × (end-of b bs ≤ most)
   within xs ys s = (omega (arith, ap (place (at-of bs)) s, place-add (at-of bs) xs ys), omega (arith, room-is H))
 
+  pub place-inside : (xs ys : List (List ℕ)) → all b ≡ xs ++ ys → {n : ℕ} → n ≡ place (at-of bs) xs → n ≤ most
+  place-inside xs ys s e = let h = within xs ys s in omega arith
+
   pub in-Q : (q k : ℕ) → q ≡ place (at-of bs) (b .P) → k ≤ length (b .Q) → polys-at v q k ≡ take k (b .Q)
   in-Q q k e h =
       ap₂ (polys-at v) e (sym (length-take-le k (b .Q) h))
@@ -293,6 +299,9 @@ module _ {v : List Rec} {most : ℕ} {b : Stored} {bs ss : List Stored} (H : Hel
 
     pub p-is : (p : ℕ) → p ≡ getD v a nul .w0 → p ≡ length (b .P)
     p-is p h = h ∙ ap (λ (r : Rec). r .w0) own-read
+
+    pub all-P : (p : ℕ) → p ≡ getD v a nul .w0 → polys-at v (a + 1) p ≡ b .P
+    all-P p h = let n : p ≡ length (b .P) = p-is p h in in-P p (omega arith) ∙ take-all p (b .P) (omega arith)
 
     pub q-is : (q : ℕ) → q ≡ getD v a nul .w1 → q ≡ length (b .Q)
     q-is q h = h ∙ ap (λ (r : Rec). r .w1) own-read

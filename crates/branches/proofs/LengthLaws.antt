@@ -2,13 +2,17 @@
 use mathlib.Core.Path.{_≡_, ap, subst}
 use mathlib.Core.Bool.{Bool}
 use mathlib.Core.List.{List}
-use Prim.Native.Nat.{ℕ, _/_, min}
+use Prim.Native.Nat.{ℕ, _/_, _≤_, min}
+use native.Mathlib.Omega.{arith}
 use lib.ListN.{length}
-use Rattle.records.specs.Records.{Rec}
+use Rattle.records.specs.Records.{Rec, room}
 use Rattle.branches.specs.Area.{Area, Held, Leaves, capacity}
 
 pub same-capacity : (xs ys : List ℕ) → length xs ≡ length ys → capacity xs ≡ capacity ys
 same-capacity xs ys e = ap (λ (n : ℕ). min (n / 4) 65536) e
+
+pub inside-room : (w : List ℕ) {n : ℕ} → n ≤ capacity w → n ≤ room w
+inside-room w h = omega arith
 
 pub held-by : (v : List Rec) (a : Area) (xs ys : List ℕ) → length xs ≡ length ys → Held v (capacity xs) a → Held v (capacity ys) a
 held-by v a xs ys e H = subst (λ (n : ℕ). Held v n a) (same-capacity xs ys e) H

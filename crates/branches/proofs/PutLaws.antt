@@ -8,12 +8,13 @@ use borrow.Author.Tests.{le-leb, lt-leb}
 use lib.Dec.{eqb}
 use lib.ListN.{length, take, drop, getD, length-append, take-append-drop}
 use Rattle.records.specs.Records.{Rec, nul}
-use Rattle.stored.specs.Stored.{member, same, Storable}
+use Rattle.stored.specs.Stored.{member, same, skip-to, polys-at, Storable}
 use Rattle.stored.specs.laws.Stored.{equal-of-same, length-le-polys-records}
 use Rattle.branches.specs.Words.{put-P, put-Q, put-Q-before, is-zero, is-one, unless, remove}
 use Rattle.branches.specs.Area.{Stored, Area, Held, Leaves, size, with-open, All-storable, put-into-P, put-into-Q, without-P, closed}
-use Rattle.branches.proofs.AreaLaws.{lies, first-is, place, place-add, place-one, all, at-of, end-of, end-is, room-is, storable-take, parted-at-P}
-use Rattle.branches.proofs.OpenLaws.{parted-without-P}
+use Rattle.branches.proofs.AreaLaws.{lies, first-is, place, place-add, place-one, all, at-of, end-of, end-is, room-is, storable-take, parted-at-P, parted-Q, in-Q, skip-Q}
+use Rattle.branches.proofs.OpenLaws.{Storable-branch, parted-without-P}
+use Rattle.branches.proofs.ChangeLaws.{More, more-ends, more-P}
 
 -- ── the answers ──
 pub leaves-held : {v : List Rec} {most : ℕ} {a : Area} → Held v most a → Leaves most a true v
@@ -24,16 +25,12 @@ nothing : false ≡ true → ⊥
 nothing e = let z : _≡_ {A = ℕ} 0 1 = cc in omega arith
 
 module _ {v : List Rec} {most : ℕ} {b : Stored} {bs ss : List Stored} (H : Held v most (with-open b bs ss)) where
-  pub top-is : (top : ℕ) → top ≡ getD v 0 nul .w2 → top ≡ end-of b bs + length (H .free)
-  top-is top e = e ∙ ap (λ (r : Rec). r .w2) (first-is (lies H))
-
-  pub no-room : (b₁ : Stored) (xs : List (List ℕ)) (f : List ℕ) (ys : List (List ℕ)) → all b ≡ xs ++ ys → all b₁ ≡ xs ++ (f ∷ ys) → length (H .free) < length f / 2 + 1
+  pub no-room : {b₁ : Stored} {xs : List (List ℕ)} {f : List ℕ} {ys : List (List ℕ)} → More b b₁ xs f ys → length (H .free) < length f / 2 + 1
       → Leaves most (with-open b₁ bs ss) false v
   unfolding size
-  no-room b₁ xs f ys s s₁ h =
+  no-room {b₁} m h =
       record {
-        answer = sym (lt-leb (size (with-open b₁ bs ss)) most
-            (omega (arith, room-is H, end-is b₁ bs, ap (place (at-of bs)) s, ap (place (at-of bs)) s₁, place-one (at-of bs) xs f ys, place-add (at-of bs) xs ys)));
+        answer = sym (lt-leb (size (with-open b₁ bs ss)) most (omega (arith, room-is H, end-is b₁ bs, more-ends m bs)));
         held = λ e. absurd (nothing e);
       }
 
@@ -76,14 +73,15 @@ module _ (f : List ℕ) (b : Stored) where
   pub kept-P : put-P f (b .P) ≡ b .P → b ≡ put-into-P f b
   kept-P e = λ t. record { P = sym e t; Q = b .Q; T = b .T }
 
-  pub parted-new-P : put-P f (b .P) ≡ b .P ++ (f ∷ []) → all (put-into-P f b) ≡ b .P ++ (f ∷ (b .Q ++ b .T))
-  parted-new-P e = ap (λ (l : List (List ℕ)). l ++ (b .Q ++ b .T)) e ∙ append-assoc (b .P) (f ∷ []) (b .Q ++ b .T)
+  module _ (e : put-P f (b .P) ≡ b .P ++ (f ∷ [])) where
+    pub adds-P : More b (put-into-P f b) (b .P) f (b .Q ++ b .T)
+    adds-P = record { less = refl; more = ap (λ (l : List (List ℕ)). l ++ (b .Q ++ b .T)) e ∙ append-assoc (b .P) (f ∷ []) (b .Q ++ b .T) }
 
-  pub length-new-P : put-P f (b .P) ≡ b .P ++ (f ∷ []) → length (put-P f (b .P)) ≡ length (b .P) + 1
-  length-new-P e = ap length e ∙ length-append (b .P) (f ∷ [])
+    pub count-P : length (put-P f (b .P)) ≡ length (b .P) + 1
+    count-P = ap length e ∙ length-append (b .P) (f ∷ [])
 
-  pub storable-new-P : put-P f (b .P) ≡ b .P ++ (f ∷ []) → All-storable (b .P) → Storable f → All-storable (put-P f (b .P))
-  storable-new-P e h k = subst All-storable (sym e) (storable-append (b .P) (f ∷ []) h (k, tt))
+    pub storable-P : Storable-branch b → Storable f → Storable-branch (put-into-P f b)
+    storable-P h k = (subst All-storable (sym e) (storable-append (b .P) (f ∷ []) (h .0) (k, tt)), h .1, h .2)
 
 -- ── Q ──
 pub one : (f : List ℕ) → length f ≡ 2 → eqb (getD f 0 0) 1 ≡ true → eqb (getD f 1 0) 0 ≡ true → is-one f ≡ true
@@ -135,6 +133,15 @@ storable-drop (suc k) (f ∷ fs) h = storable-drop k fs (h .1)
 abbrev pub seen : ℕ → Stored → ℕ
 seen left b = length (b .Q) - left
 
+-- They lie behind P.
+module _ {v : List Rec} {most : ℕ} {b : Stored} {bs ss : List Stored} (H : Held v most (with-open b bs ss)) (left : ℕ) {from q : ℕ} (e : from ≡ place (at-of bs) (b .P))
+    (n : q ≡ length (b .Q)) where
+  pub seen-Q : polys-at v from (q - left) ≡ take (seen left b) (b .Q)
+  seen-Q = ap (λ (k : ℕ). polys-at v from (k - left)) n ∙ in-Q H from (seen left b) e (omega arith)
+
+  pub behind-seen : skip-to v from (q - left) ≡ place (at-of bs) (b .P ++ take (seen left b) (b .Q))
+  behind-seen = ap (λ (k : ℕ). skip-to v from (k - left)) n ∙ skip-Q H from (seen left b) e (omega arith)
+
 module _ (left : ℕ) (f : List ℕ) (b : Stored) where
   pub kept-Q : put-Q f (take (seen left b) (b .Q)) ≡ take (seen left b) (b .Q) → b ≡ put-into-Q left f b
   unfolding put-Q-before
@@ -145,26 +152,30 @@ module _ (left : ℕ) (f : List ℕ) (b : Stored) where
   }
 
   module _ (e : put-Q f (take (seen left b) (b .Q)) ≡ take (seen left b) (b .Q) ++ (f ∷ [])) where
-    pub new-Q : put-Q-before left f (b .Q) ≡ take (seen left b) (b .Q) ++ (f ∷ drop (seen left b) (b .Q))
+    new-Q : put-Q-before left f (b .Q) ≡ take (seen left b) (b .Q) ++ (f ∷ drop (seen left b) (b .Q))
     unfolding put-Q-before
     new-Q =
         ap (λ (l : List (List ℕ)). l ++ drop (seen left b) (b .Q)) e ∙ append-assoc (take (seen left b) (b .Q)) (f ∷ []) (drop (seen left b) (b .Q))
 
-    pub parted-new-Q : all (put-into-Q left f b) ≡ b .P ++ take (seen left b) (b .Q) ++ (f ∷ (drop (seen left b) (b .Q) ++ b .T))
-    parted-new-Q =
-        ap (λ (l : List (List ℕ)). b .P ++ (l ++ b .T)) new-Q
-        ∙ ap (λ (l : List (List ℕ)). b .P ++ l) (append-assoc (take (seen left b) (b .Q)) (f ∷ drop (seen left b) (b .Q)) (b .T))
-        ∙ sym (append-assoc (b .P) (take (seen left b) (b .Q)) (f ∷ (drop (seen left b) (b .Q) ++ b .T)))
+    pub adds-Q : More b (put-into-Q left f b) (b .P ++ take (seen left b) (b .Q)) f (drop (seen left b) (b .Q) ++ b .T)
+    adds-Q = record {
+      less = parted-Q b (seen left b);
+      more = ap (λ (l : List (List ℕ)). b .P ++ (l ++ b .T)) new-Q
+          ∙ ap (λ (l : List (List ℕ)). b .P ++ l) (append-assoc (take (seen left b) (b .Q)) (f ∷ drop (seen left b) (b .Q)) (b .T))
+          ∙ sym (append-assoc (b .P) (take (seen left b) (b .Q)) (f ∷ (drop (seen left b) (b .Q) ++ b .T)));
+    }
 
-    pub length-new-Q : length (put-Q-before left f (b .Q)) ≡ length (b .Q) + 1
-    length-new-Q =
-        ap length new-Q
-        ∙ omega (arith, length-append (take (seen left b) (b .Q)) (f ∷ drop (seen left b) (b .Q)), length-append (take (seen left b) (b .Q)) (drop (seen left b) (b .Q)), ap length (take-append-drop (seen left b) (b .Q)))
+    pub count-Q : length (put-Q-before left f (b .Q)) ≡ length (b .Q) + 1
+    count-Q =
+        let xs : List (List ℕ) = take (seen left b) (b .Q) in
+        let ys : List (List ℕ) = drop (seen left b) (b .Q) in
+        ap length new-Q ∙ omega (arith, length-append xs (f ∷ ys), length-append xs ys, ap length (take-append-drop (seen left b) (b .Q)))
 
-    pub storable-new-Q : All-storable (b .Q) → Storable f → All-storable (put-Q-before left f (b .Q))
-    storable-new-Q h k =
-        subst All-storable (sym new-Q)
-        (storable-append (take (seen left b) (b .Q)) (f ∷ drop (seen left b) (b .Q)) (storable-take (seen left b) (b .Q) h) (k, storable-drop (seen left b) (b .Q) h))
+    pub storable-Q : Storable-branch b → Storable f → Storable-branch (put-into-Q left f b)
+    storable-Q h k =
+        let xs = storable-take (seen left b) (b .Q) (h .1) in
+        let ys = storable-drop (seen left b) (b .Q) (h .1) in
+        (h .0, subst All-storable (sym new-Q) (storable-append (take (seen left b) (b .Q)) (f ∷ drop (seen left b) (b .Q)) xs (k, ys)), h .2)
 
 -- ── a member of P moved to the front of T ──
 pub parted-closed : (b : Stored) (i : ℕ) (f : List ℕ) → getD (b .P) i [] ≡ f → all (closed i b) ≡ remove i (b .P) ++ b .Q ++ (f ∷ b .T)

@@ -1,49 +1,166 @@
--- `put_p` meets its contract.
+-- `put_p` meets its contract: f is dropped if it is zero or found in P, and else put in behind P where there is room.
 use mathlib.Core.Path.{_≡_, refl, sym, ap, _∙_}
 use mathlib.Core.List.{List, [], _∷_, _++_}
-use Prim.Native.Nat.{_+_, _/_, _≤_}
+use Prim.Native.Nat.{ℕ, _+_, _/_, _≤_, _<_}
 use native.Mathlib.Omega.{arith}
-use lib.ListN.{length, getD}
-use lib.Seq.{take-all}
-use Rattle.records.specs.Records.{Rec, mk, nul, view}
-use Rattle.stored.specs.Stored.{member}
-use Rattle.stored.specs.laws.Stored.{length-le-polys-records}
+use lib.ListN.{length}
+use mir.Syntax.{w32}
+use mir.Val.{Fits}
+use Rattle.records.specs.Records.{Rec, mk, view, room}
+use Rattle.stored.specs.Stored.{member, skip-to}
 use Rattle.branches.specs.Words.{put-P}
 use Rattle.branches.specs.Area.{Stored, Held, with-open, capacity, put-into-P}
-use Rattle.branches.proofs.AreaLaws.{place, at-of, own-of, room-is, within, at-inside, in-P, end-P, p-is}
-use Rattle.branches.proofs.OpenLaws.{ends, own-in, control-in, taken-in, mk-equal}
-use Rattle.branches.proofs.PutLaws.{leaves-held, leaves-same, no-room, top-is, put-P-zero, put-P-found, put-P-new, kept-P, parted-new-P, length-new-P, storable-new-P}
+use Rattle.branches.proofs.AreaLaws.{place, at-of, own-of, storable-open, place-inside, at-inside, end-P, p-is, all-P}
+use Rattle.branches.proofs.ChangeLaws.{Read, Gap, free-is, fits-word, at-fits, top-fits, gap-inside, end-in-fits, own-in, top-kept, held-in}
+use Rattle.branches.proofs.ChangeLaws.{mk-equal, w1-is, w2-is, w3-is}
+use Rattle.branches.proofs.LengthLaws.{inside-room}
+use Rattle.branches.proofs.PutLaws.{counts-small, leaves-held, leaves-same, no-room}
+use Rattle.branches.proofs.PutLaws.{put-P-zero, put-P-found, put-P-new, kept-P, adds-P, count-P, storable-P}
 use borrow.Author.Needs.{needs}
 use Rattle.branches.proofs.open.put_p.Statement.{statement}
 use Rattle.branches.proofs.open.put_p.Tie as tie
 
-abbrev Entry : tie.Start → Stored → List Stored → List Stored → Type 0
-Entry c b bs ss = Held (view (c .args .w .now)) (capacity (c .args .w .now)) (with-open b bs ss)
+-- ── the places, and the ways back from one to another ──
+-- All that is read at first: where the branch starts and ends, where the systems start, and the count of P.
+abbrev Reading : Type 0
+Reading = tie.After-get02
+
+abbrev start : Reading → tie.Start
+start r = r .before .before .before .before .before .before .before .before .before .before
+
+abbrev at-read : Reading → tie.After-get0
+at-read r = r .before .before .before .before .before .before
+
+abbrev end-read : Reading → tie.After-get1
+end-read r = r .before .before .before .before
+
+abbrev top-read : Reading → tie.After-get2
+top-read r = r .before .before
+
+-- f was looked for; it was not found, and there is room; its place is known; it is put in.
+abbrev from-find : tie.After-find → Reading
+from-find c = c .before .before .before
+
+abbrev from-room : tie.Else3 → Reading
+from-room c = from-find (c .before .before)
+
+abbrev from-gap : tie.After-skip → Reading
+from-gap c = from-room (c .before .before)
+
+abbrev from-insert : tie.After-insert → Reading
+from-insert c = from-gap (c .before .before)
+
+-- The other words of the branch's own record are read, and it is written.
+abbrev q-from-insert : tie.After-get1-arg2 → tie.After-insert
+q-from-insert c = c .before .before .before
+
+abbrev t-from-insert : tie.After-get2-arg2 → tie.After-insert
+t-from-insert c = q-from-insert (c .before .before)
+
+abbrev under-from-insert : tie.After-get3-arg → tie.After-insert
+under-from-insert c = t-from-insert (c .before .before)
+
+abbrev own-from-insert : tie.After-put-rec-arg → tie.After-insert
+own-from-insert c = under-from-insert (c .before .before)
+
+abbrev under-read : tie.After-put-rec → tie.After-get3
+under-read c = c .before .before
+
+abbrev t-read : tie.After-put-rec → tie.After-get22
+t-read c = under-read c .before .before
+
+abbrev q-read : tie.After-put-rec → tie.After-get12
+q-read c = t-read c .before .before
+
+abbrev insert-of : tie.After-put-rec → tie.After-insert
+insert-of c = own-from-insert (c .before)
+
+abbrev from-own : tie.After-put-rec → Reading
+from-own c = from-insert (insert-of c)
+
+-- The control record is written.
+abbrev own-from-control : tie.After-put-rec-arg2 → tie.After-put-rec
+own-from-control c = c .before .before .before .before .before
+
+-- ── what is read ──
+abbrev w : Reading → List ℕ
+w r = start r .args .w .now
+
+abbrev f : Reading → List ℕ
+f r = start r .args .f .now
+
+abbrev at : Reading → ℕ
+at r = at-read r .get0 .result
+
+abbrev end : Reading → ℕ
+end r = end-read r .get1 .result
+
+abbrev top : Reading → ℕ
+top r = top-read r .get2 .result
+
+abbrev own : tie.After-put-rec → Rec
+own c = mk (from-own c .get02 .result + 1) (q-read c .get12 .result) (t-read c .get22 .result) (under-read c .get3 .result)
+
+read : (r : Reading) → Read (view (w r)) (at r) (end r)
+read r = record { at-word = at-read r .get0 .ensures; end-word = end-read r .get1 .ensures }
+
+-- ── what is known ──
+abbrev Entry : Reading → Stored → List Stored → List Stored → Type 0
+Entry r b bs ss = Held (view (w r)) (capacity (w r)) (with-open b bs ss)
 
 module _ {b : Stored} {bs ss : List Stored} where
-  found-is : (c : tie.After-find) → Entry (c .before .before .before .before .before .before .before .before .before .before .before .before .before) b bs ss → member (c .before .before .before .before .before .before .before .before .before .before .before .before .before .args .f .now) (b .P) ≡ c .find .result
-  found-is c H =
-      let p = c .before .before .before .get02 .result in
-      let n : p ≡ length (b .P) = p-is H (c .before .before .before .before .before .before .before .before .before .get0 .result) (c .before .before .before .before .before .before .before .before .before .get0 .ensures) p (c .before .before .before .get02 .ensures) in
-      sym (c .find .ensures ∙ ap (member (c .before .before .before .before .before .before .before .before .before .before .before .before .before .args .f .now)) (in-P H (c .before .before .before .before .before .before .before .before .before .get0 .result) (c .before .before .before .before .before .before .before .before .before .get0 .ensures) p (omega arith) ∙ take-all p (b .P) (omega arith)))
+  count-is : (r : Reading) → Entry r b bs ss → r .get02 .result ≡ length (b .P)
+  count-is r H = p-is H _ (read r .at-word) _ (r .get02 .ensures)
 
-  new-is : (c : tie.Else2) → Entry (c .before .before .before .before .before .before .before .before .before .before .before .before .before .before) b bs ss → put-P (c .before .before .before .before .before .before .before .before .before .before .before .before .before .before .args .f .now) (b .P) ≡ b .P ++ (c .before .before .before .before .before .before .before .before .before .before .before .before .before .before .args .f .now ∷ [])
-  new-is c H = put-P-new (c .before .before .before .before .before .before .before .before .before .before .before .before .before .before .args .f .now) (b .P) (c .before .before .before .if1 .left) (found-is (c .before) H ∙ c .if2 .left)
+  -- The records up to the systems are free.
+  between : (r : Reading) (H : Entry r b bs ss) → top r ≡ end r + length (H .free)
+  between r H = free-is H (read r) _ (top-read r .get2 .ensures)
 
-  -- The records between the branch and the systems.
-  between : (c : tie.Else2) (H : Entry (c .before .before .before .before .before .before .before .before .before .before .before .before .before .before) b bs ss) → c .before .before .before .before .before .before .get2 .result ≡ c .before .before .before .before .before .before .before .before .get1 .result + length (H .free)
-  between c H = omega (arith, top-is H (c .before .before .before .before .before .before .get2 .result) (c .before .before .before .before .before .before .get2 .ensures), ends H (c .before .before .before .before .before .before .before .before .before .before .get0 .result) (c .before .before .before .before .before .before .before .before .get1 .result) (c .before .before .before .before .before .before .before .before .before .before .get0 .ensures) (c .before .before .before .before .before .before .before .before .get1 .ensures))
+  there : (r : Reading) → Entry r b bs ss → skip-to (view (w r)) (at r + 1) (r .get02 .result) ≡ place (at-of bs) (b .P)
+  there r H = end-P H _ (read r .at-word) _ (r .get02 .ensures)
 
-  fits : (c : tie.Else3) (H : Entry (c .before .before .before .before .before .before .before .before .before .before .before .before .before .before .before) b bs ss) → length (c .before .before .before .before .before .before .before .before .before .before .before .before .before .before .before .args .f .now) / 2 + 1 ≤ length (H .free)
-  fits c H = omega (arith, c .if3 .left, between (c .before) H)
+  found-is : (c : tie.After-find) → Entry (from-find c) b bs ss → member (f (from-find c)) (b .P) ≡ c .find .result
+  found-is c H = let r = from-find c in sym (c .find .ensures ∙ ap (member (f r)) (all-P H _ (read r .at-word) _ (r .get02 .ensures)))
 
-  there : (c : tie.After-skip) → Entry (c .before .before .before .before .before .before .before .before .before .before .before .before .before .before .before .before .before) b bs ss → c .skip .result ≡ place (at-of bs) (b .P)
-  there c H = c .skip .ensures ∙ end-P H (c .before .before .before .before .before .before .before .before .before .before .before .before .before .get0 .result) (c .before .before .before .before .before .before .before .before .before .before .before .before .before .get0 .ensures) (c .before .before .before .before .before .before .before .get02 .result) (c .before .before .before .before .before .before .before .get02 .ensures)
+  new-is : (c : tie.Else2) → Entry (from-find (c .before)) b bs ss → let r = from-find (c .before) in put-P (f r) (b .P) ≡ b .P ++ (f r ∷ [])
+  new-is c H = put-P-new _ (b .P) (c .before .before .before .if1 .left) (found-is (c .before) H ∙ c .if2 .left)
 
-  own-record : (c : tie.After-insert) (H : Entry (c .before .before .before .before .before .before .before .before .before .before .before .before .before .before .before .before .before .before .before) b bs ss) → getD (view (c .insert .last .0)) (c .before .before .before .before .before .before .before .before .before .before .before .before .before .before .before .get0 .result) nul ≡ own-of b bs
-  own-record c H =
-      own-in H (c .before .before .before .before .before .before .before .before .before .before .before .before .before .before .before .get0 .result) (c .before .before .before .before .before .before .before .before .before .before .before .before .before .get1 .result) (c .before .before .before .before .before .before .before .before .before .before .before .before .before .before .before .get0 .ensures) (c .before .before .before .before .before .before .before .before .before .before .before .before .before .get1 .ensures) (b .P) (b .Q ++ b .T) refl (c .before .before .before .before .before .before .before .before .before .before .before .before .before .before .before .before .before .before .before .args .f .now) (fits (c .before .before .before .before) H) (c .before .before .skip .result) (there (c .before .before) H) (view (c .insert .last .0)) (c .insert .ensures)
+  -- f goes in behind P.
+  gap : (c : tie.After-skip) (H : Entry (from-gap c) b bs ss)
+      → let r = from-gap c in Gap H (read r) (c .skip .result) (put-into-P (f r) b) (b .P) (f r) (b .Q ++ b .T)
+  gap c H = record {
+    adds = adds-P _ b (new-is (c .before .before .before) H);
+    there = c .skip .ensures ∙ there (from-gap c) H;
+    fits = omega (arith, c .before .before .if3 .left, between (from-gap c) H);
+  }
 
+  own-is : (c : tie.After-put-rec) → Entry (from-own c) b bs ss → own c ≡ own-of (put-into-P (f (from-own c)) b) bs
+  own-is c H =
+      let r = from-own c in
+      let i = insert-of c in
+      let o = own-in H (read r) (gap (i .before .before) H) (i .insert .ensures) in
+      let count = count-P (f r) b (new-is (i .before .before .before .before .before) H) in
+      mk-equal (ap (λ (n : ℕ). n + 1) (count-is r H) ∙ sym count)
+      (w1-is o (q-read c .get12 .ensures)) (w2-is o (t-read c .get22 .ensures)) (w3-is o (under-read c .get3 .ensures))
+
+-- The branch of which the contract speaks.
+opened : (r : Reading) → Entry r (start r .pre .0 .0) (start r .pre .0 .1) (start r .pre .0 .2)
+opened r = start r .pre .0 .3
+
+-- What is read and written lies inside, and what is written fits a word.
+P-inside : (r : Reading) → skip-to (view (w r)) (at r + 1) (r .get02 .result) ≤ room (w r)
+P-inside r = let b = start r .pre .0 .0 in inside-room (w r) (place-inside (opened r) (b .P) (b .Q ++ b .T) refl (there r (opened r)))
+
+own-inside : (c : tie.After-insert) → at (from-insert c) < room (c .insert .last .0)
+own-inside c = let r = from-insert c in omega (arith, at-inside (opened r) _ (read r .at-word), c .insert .kept)
+
+control-inside : (c : tie.After-put-rec) → 0 < room (c .put-rec .last .0)
+control-inside c = omega (arith, own-inside (insert-of c), c .put-rec .kept)
+
+end-fits : (c : tie.After-put-rec) → let r = from-own c in Fits w32 (end r + (length (f r) / 2 + 1))
+end-fits c = let r = from-own c in end-in-fits (opened r) (read r) (gap (insert-of c .before .before) (opened r))
+
+-- ── the needs ──
 get0-requires : tie.Need-get0-requires
 get0-requires c κs = search needs
 
@@ -63,13 +180,14 @@ cast-top : tie.Need-cast-top
 cast-top c = search needs
 
 get0-requires-2 : tie.Need-get0-requires-2
-get0-requires-2 c κs = omega (arith, at-inside (c .before .before .before .before .before .before .before .before .before .pre .0 .3) (c .before .before .before .before .before .get0 .result) (c .before .before .before .before .before .get0 .ensures))
+get0-requires-2 c κs =
+    let a = c .before .before .before .before .before in omega (arith, at-inside (a .before .before .before .before .pre .0 .3) _ (a .get0 .ensures))
 
 same-length : tie.Need-same-length
-same-length c = search needs
+same-length c = refl
 
 returns : tie.Need-returns
-returns c b bs ss H = let f = c .before .before .before .before .before .before .before .before .before .before .before .args .f .now in leaves-same H (put-into-P f b) (kept-P f b (put-P-zero f (b .P) (c .if1 .taken)))
+returns c b bs ss H = let g = f (c .before) in leaves-same H _ (kept-P g b (put-P-zero g (b .P) (c .if1 .taken)))
 
 add-find : tie.Need-add-find
 add-find c = search needs
@@ -78,31 +196,27 @@ cast-find : tie.Need-cast-find
 cast-find c = search needs
 
 find-requires : tie.Need-find-requires
-find-requires c κs =
-    let b = c .before .before .before .before .before .before .before .before .before .before .before .before .pre .0 .0 in
-    let H = c .before .before .before .before .before .before .before .before .before .before .before .before .pre .0 .3 in
-    (omega (arith, end-P H (c .before .before .before .before .before .before .before .before .get0 .result) (c .before .before .before .before .before .before .before .before .get0 .ensures) (c .before .before .get02 .result) (c .before .before .get02 .ensures), within H (b .P) (b .Q ++ b .T) refl), c .before .before .before .before .before .before .before .before .before .before .before .before .pre .1)
+find-requires c κs = let r = c .before .before in (P-inside r, start r .pre .1)
 
 same-length-2 : tie.Need-same-length-2
-same-length-2 c = search needs
+same-length-2 c = refl
 
 returns-2 : tie.Need-returns-2
 returns-2 c b bs ss H =
-    let f = c .before .before .before .before .before .before .before .before .before .before .before .before .before .before .args .f .now in leaves-same H (put-into-P f b) (kept-P f b (put-P-found f (b .P) (found-is (c .before) H ∙ c .if2 .taken)))
+    let g = f (from-find (c .before)) in leaves-same H _ (kept-P g b (put-P-found g (b .P) (found-is (c .before) H ∙ c .if2 .taken)))
 
 add-n : tie.Need-add-n
 add-n c = search needs
 
 sub-if3 : tie.Need-sub-if3
-sub-if3 c = omega (arith, between c (c .before .before .before .before .before .before .before .before .before .before .before .before .before .before .pre .0 .3))
+sub-if3 c = let r = from-find (c .before) in omega (arith, between r (opened r))
 
 same-length-3 : tie.Need-same-length-3
-same-length-3 c = search needs
+same-length-3 c = refl
 
 returns-3 : tie.Need-returns-3
 returns-3 c b bs ss H =
-    let f = c .before .before .before .before .before .before .before .before .before .before .before .before .before .before .before .args .f .now in
-    no-room H (put-into-P f b) (b .P) f (b .Q ++ b .T) refl (parted-new-P f b (new-is (c .before) H)) (omega (arith, c .if3 .taken, between (c .before) H))
+    no-room H (adds-P _ b (new-is (c .before) H)) (omega (arith, c .if3 .taken, between (from-find (c .before .before)) H))
 
 add-skip : tie.Need-add-skip
 add-skip c = search needs
@@ -111,78 +225,68 @@ cast-skip : tie.Need-cast-skip
 cast-skip c = search needs
 
 skip-requires : tie.Need-skip-requires
-skip-requires c κs =
-    let b = c .before .before .before .before .before .before .before .before .before .before .before .before .before .before .before .before .pre .0 .0 in
-    let H = c .before .before .before .before .before .before .before .before .before .before .before .before .before .before .before .before .pre .0 .3 in
-    omega (arith, end-P H (c .before .before .before .before .before .before .before .before .before .before .before .before .get0 .result) (c .before .before .before .before .before .before .before .before .before .before .before .before .get0 .ensures) (c .before .before .before .before .before .before .get02 .result) (c .before .before .before .before .before .before .get02 .ensures), within H (b .P) (b .Q ++ b .T) refl)
+skip-requires c κs = P-inside (from-room (c .before))
 
 insert-requires : tie.Need-insert-requires
 insert-requires c κs =
-    let b = c .before .before .before .before .before .before .before .before .before .before .before .before .before .before .before .before .before .before .pre .0 .0 in
-    let H = c .before .before .before .before .before .before .before .before .before .before .before .before .before .before .before .before .before .before .pre .0 .3 in
-    let e = ends H (c .before .before .before .before .before .before .before .before .before .before .before .before .before .before .get0 .result) (c .before .before .before .before .before .before .before .before .before .before .before .before .get1 .result) (c .before .before .before .before .before .before .before .before .before .before .before .before .before .before .get0 .ensures) (c .before .before .before .before .before .before .before .before .before .before .before .before .get1 .ensures) in
-    (c .before .before .before .before .before .before .before .before .before .before .before .before .before .before .before .before .before .before .pre .1, (omega (arith, e, there (c .before) H, within H (b .P) (b .Q ++ b .T) refl), omega (arith, e, fits (c .before .before .before) H, room-is H)))
+    let r = from-gap (c .before) in
+    let g = gap-inside (opened r) (read r) (gap (c .before) (opened r)) in
+    (start r .pre .1, (g .0, inside-room (w r) (g .1)))
 
 get1-requires-2 : tie.Need-get1-requires-2
-get1-requires-2 c κs = omega (arith, at-inside (c .before .before .before .before .before .before .before .before .before .before .before .before .before .before .before .before .before .before .before .before .before .before .pre .0 .3) (c .before .before .before .before .before .before .before .before .before .before .before .before .before .before .before .before .before .before .get0 .result) (c .before .before .before .before .before .before .before .before .before .before .before .before .before .before .before .before .before .before .get0 .ensures))
+get1-requires-2 c κs = own-inside (q-from-insert c)
 
 get2-requires-2 : tie.Need-get2-requires-2
-get2-requires-2 c κs = omega (arith, at-inside (c .before .before .before .before .before .before .before .before .before .before .before .before .before .before .before .before .before .before .before .before .before .before .before .before .pre .0 .3) (c .before .before .before .before .before .before .before .before .before .before .before .before .before .before .before .before .before .before .before .before .get0 .result) (c .before .before .before .before .before .before .before .before .before .before .before .before .before .before .before .before .before .before .before .before .get0 .ensures))
+get2-requires-2 c κs = own-inside (t-from-insert c)
 
 get3-requires : tie.Need-get3-requires
-get3-requires c κs = omega (arith, at-inside (c .before .before .before .before .before .before .before .before .before .before .before .before .before .before .before .before .before .before .before .before .before .before .before .before .before .before .pre .0 .3) (c .before .before .before .before .before .before .before .before .before .before .before .before .before .before .before .before .before .before .before .before .before .before .get0 .result) (c .before .before .before .before .before .before .before .before .before .before .before .before .before .before .before .before .before .before .before .before .before .before .get0 .ensures))
+get3-requires c κs = own-inside (under-from-insert c)
 
 add-put-rec : tie.Need-add-put-rec
-add-put-rec c =
-    let b = c .before .before .before .before .before .before .before .before .before .before .before .before .before .before .before .before .before .before .before .before .before .before .before .before .before .before .before .before .pre .0 .0 in
-    let H = c .before .before .before .before .before .before .before .before .before .before .before .before .before .before .before .before .before .before .before .before .before .before .before .before .before .before .before .before .pre .0 .3 in
-    omega (arith, p-is H (c .before .before .before .before .before .before .before .before .before .before .before .before .before .before .before .before .before .before .before .before .before .before .before .before .get0 .result) (c .before .before .before .before .before .before .before .before .before .before .before .before .before .before .before .before .before .before .before .before .before .before .before .before .get0 .ensures) (c .before .before .before .before .before .before .before .before .before .before .before .before .before .before .before .before .before .before .get02 .result) (c .before .before .before .before .before .before .before .before .before .before .before .before .before .before .before .before .before .before .get02 .ensures), length-le-polys-records (b .P), within H (b .P) (b .Q ++ b .T) refl)
+add-put-rec c = let r = from-insert (own-from-insert c) in fits-word (opened r) (read r) (omega (arith, count-is r (opened r), counts-small (opened r)))
 
 put-rec-requires : tie.Need-put-rec-requires
-put-rec-requires c κs = omega (arith, at-inside (c .before .before .before .before .before .before .before .before .before .before .before .before .before .before .before .before .before .before .before .before .before .before .before .before .before .before .before .before .pre .0 .3) (c .before .before .before .before .before .before .before .before .before .before .before .before .before .before .before .before .before .before .before .before .before .before .before .before .get0 .result) (c .before .before .before .before .before .before .before .before .before .before .before .before .before .before .before .before .before .before .before .before .before .before .before .before .get0 .ensures))
+put-rec-requires c κs = own-inside (own-from-insert c)
 
 get3-requires-2 : tie.Need-get3-requires-2
-get3-requires-2 c κs = omega (arith, at-inside (c .before .before .before .before .before .before .before .before .before .before .before .before .before .before .before .before .before .before .before .before .before .before .before .before .before .before .before .before .before .before .before .before .pre .0 .3) (c .before .before .before .before .before .before .before .before .before .before .before .before .before .before .before .before .before .before .before .before .before .before .before .before .before .before .before .before .get0 .result) (c .before .before .before .before .before .before .before .before .before .before .before .before .before .before .before .before .before .before .before .before .before .before .before .before .before .before .before .before .get0 .ensures))
+get3-requires-2 c κs = control-inside (c .before .before .before)
 
 cast-put-rec : tie.Need-cast-put-rec
-cast-put-rec c = omega (arith, at-inside (c .before .before .before .before .before .before .before .before .before .before .before .before .before .before .before .before .before .before .before .before .before .before .before .before .before .before .before .before .before .before .before .before .before .before .pre .0 .3) (c .before .before .before .before .before .before .before .before .before .before .before .before .before .before .before .before .before .before .before .before .before .before .before .before .before .before .before .before .before .before .get0 .result) (c .before .before .before .before .before .before .before .before .before .before .before .before .before .before .before .before .before .before .before .before .before .before .before .before .before .before .before .before .before .before .get0 .ensures))
+cast-put-rec c = let r = from-own (own-from-control c) in at-fits (opened r) (read r)
 
 add-put-rec-2 : tie.Need-add-put-rec-2
-add-put-rec-2 c = search needs
+add-put-rec-2 c = omega (arith, end-fits (own-from-control c))
 
 cast-put-rec-2 : tie.Need-cast-put-rec-2
-cast-put-rec-2 c = search needs
+cast-put-rec-2 c = end-fits (own-from-control c)
 
 cast-put-rec-3 : tie.Need-cast-put-rec-3
-cast-put-rec-3 c = search needs
+cast-put-rec-3 c = let r = from-own (own-from-control c) in top-fits (opened r) (read r) _ (top-read r .get2 .ensures)
 
 put-rec-requires-2 : tie.Need-put-rec-requires-2
-put-rec-requires-2 c κs = omega (arith, at-inside (c .before .before .before .before .before .before .before .before .before .before .before .before .before .before .before .before .before .before .before .before .before .before .before .before .before .before .before .before .before .before .before .before .before .before .pre .0 .3) (c .before .before .before .before .before .before .before .before .before .before .before .before .before .before .before .before .before .before .before .before .before .before .before .before .before .before .before .before .before .before .get0 .result) (c .before .before .before .before .before .before .before .before .before .before .before .before .before .before .before .before .before .before .before .before .before .before .before .before .before .before .before .before .before .before .get0 .ensures))
+put-rec-requires-2 c κs = control-inside (own-from-control c)
 
 same-length-4 : tie.Need-same-length-4
 same-length-4 c = search needs
 
 returns-4 : tie.Need-returns-4
 returns-4 c b bs ss H =
-    let f = c .before .before .before .before .before .before .before .before .before .before .before .before .before .before .before .before .before .before .before .before .before .before .before .before .before .before .before .before .before .before .before .before .before .before .before .before .before .args .f .now in
-    let a = c .before .before .before .before .before .before .before .before .before .before .before .before .before .before .before .before .before .before .before .before .before .before .before .before .before .before .before .before .before .before .before .before .before .get0 in
-    let e = c .before .before .before .before .before .before .before .before .before .before .before .before .before .before .before .before .before .before .before .before .before .before .before .before .before .before .before .before .before .before .before .get1 in
-    let top = c .before .before .before .before .before .before .before .before .before .before .before .before .before .before .before .before .before .before .before .before .before .before .before .before .before .before .before .before .before .get2 in
-    let p = c .before .before .before .before .before .before .before .before .before .before .before .before .before .before .before .before .before .before .before .before .before .before .before .before .before .before .before .get02 in
-    let r = c .before .before .before .before .before .before .before .before .before .before .before .before .before .before .before .before .before .before .before .before .skip .result in
-    let v₁ = view (c .before .before .before .before .before .before .before .before .before .before .before .before .before .before .before .before .before .before .insert .last .0) in
-    let v₂ = view (c .before .before .before .before .before .before .before .before .put-rec .last .0) in
-    let new = new-is (c .before .before .before .before .before .before .before .before .before .before .before .before .before .before .before .before .before .before .before .before .before .before .before) H in
-    let own = own-record (c .before .before .before .before .before .before .before .before .before .before .before .before .before .before .before .before .before .before) H in
-    let o : Rec = mk (p .result + 1) (c .before .before .before .before .before .before .before .before .before .before .before .before .before .before .get12 .result) (c .before .before .before .before .before .before .before .before .before .before .before .before .get22 .result) (c .before .before .before .before .before .before .before .before .before .before .get3 .result) in
-    let count : p .result + 1 ≡ length (put-P f (b .P)) = omega (arith, p-is H (a .result) (a .ensures) (p .result) (p .ensures), length-new-P f b new) in
-    let kept : getD v₂ 0 nul ≡ getD (view (c .before .before .before .before .before .before .before .before .before .before .before .before .before .before .before .before .before .before .before .before .before .before .before .before .before .before .before .before .before .before .before .before .before .before .before .before .before .args .w .now)) 0 nul =
-    control-in H (a .result) (e .result) (a .ensures) (e .ensures) (b .P) (b .Q ++ b .T) refl f (fits (c .before .before .before .before .before .before .before .before .before .before .before .before .before .before .before .before .before .before .before .before .before .before) H) r (there (c .before .before .before .before .before .before .before .before .before .before .before .before .before .before .before .before .before .before .before .before) H) v₁ (c .before .before .before .before .before .before .before .before .before .before .before .before .before .before .before .before .before .before .insert .ensures) o v₂ (c .before .before .before .before .before .before .before .before .put-rec .ensures) in
+    let o = own-from-control (c .before .before .before) in
+    let i = insert-of o in
+    let r = from-insert i in
+    let g = gap (i .before .before) H in
+    let new = new-is (i .before .before .before .before .before) H in
     leaves-held
-    (taken-in H (a .result) (e .result) (a .ensures) (e .ensures) (b .P) (b .Q ++ b .T) refl f (fits (c .before .before .before .before .before .before .before .before .before .before .before .before .before .before .before .before .before .before .before .before .before .before) H) r (there (c .before .before .before .before .before .before .before .before .before .before .before .before .before .before .before .before .before .before .before .before) H) v₁ (c .before .before .before .before .before .before .before .before .before .before .before .before .before .before .before .before .before .before .insert .ensures) (put-into-P f b) (parted-new-P f b new)
-    (storable-new-P f b new (H .storable .0 .0) (c .before .before .before .before .before .before .before .before .before .before .before .before .before .before .before .before .before .before .before .before .before .before .before .before .before .before .before .before .before .before .before .before .before .before .before .before .before .pre .1), H .storable .0 .1, H .storable .0 .2) o
-    (mk-equal count (c .before .before .before .before .before .before .before .before .before .before .before .before .before .before .get12 .ensures ∙ ap (λ (u : Rec). u .w1) own) (c .before .before .before .before .before .before .before .before .before .before .before .before .get22 .ensures ∙ ap (λ (u : Rec). u .w2) own) (c .before .before .before .before .before .before .before .before .before .before .get3 .ensures ∙ ap (λ (u : Rec). u .w3) own))
-    v₂ (c .before .before .before .before .before .before .before .before .put-rec .ensures) (top .result) (c .before .before .before .before .get32 .result) (top .ensures ∙ ap (λ (u : Rec). u .w2) (sym kept)) (c .before .before .before .before .get32 .ensures) (view (c .before .before .put-rec2 .last .0)) (c .before .before .put-rec2 .ensures))
+    (held-in H (read r) g (i .insert .ensures) (storable-P (f r) b new (storable-open H) (start r .pre .1)) (own-is o H)
+    (record {
+      v₂ = view (o .put-rec .last .0);
+      own-put = o .put-rec .ensures;
+      top = top r;
+      top-word = top-kept H (read r) g (i .insert .ensures) (top-read r .get2 .ensures) (own o) (o .put-rec .ensures);
+      systems = c .before .before .before .before .get32 .result;
+      systems-word = c .before .before .before .before .get32 .ensures;
+      control-put = c .before .before .put-rec2 .ensures;
+    }))
 
 pub put-p-spec : {M : Type 1} → statement M
 put-p-spec =

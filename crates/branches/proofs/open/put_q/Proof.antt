@@ -1,81 +1,198 @@
--- `put_q` meets its contract.
+-- `put_q` meets its contract: f is dropped if it is 1 or found among the members of Q that are looked at, and else put in behind those where there is room.
 use mathlib.Core.Path.{_≡_, refl, sym, ap, _∙_}
 use mathlib.Core.Bool.{false}
 use mathlib.Core.List.{List, [], _∷_, _++_}
 use mathlib.Core.Logic.{⊎-elim}
-use Prim.Native.Nat.{ℕ, _+_, _-_, _/_, _≤_}
+use Prim.Native.Nat.{ℕ, _+_, _-_, _/_, _≤_, _<_}
 use native.Mathlib.Omega.{arith}
-use lib.ListN.{length, getD, take, drop}
-use Rattle.records.specs.Records.{Rec, mk, nul, view}
-use Rattle.stored.specs.Stored.{member, skip-to, polys-at}
-use Rattle.branches.specs.Words.{put-Q, put-Q-before, is-one}
+use lib.ListN.{length, take, drop}
+use mir.Syntax.{w32}
+use mir.Val.{Fits}
+use Rattle.records.specs.Records.{Rec, mk, view, room}
+use Rattle.stored.specs.Stored.{member, skip-to}
+use Rattle.branches.specs.Words.{put-Q, is-one}
 use Rattle.branches.specs.Area.{Stored, Held, with-open, capacity, put-into-Q}
-use Rattle.branches.proofs.AreaLaws.{place, at-of, own-of, room-is, within, at-inside, in-Q, skip-Q, end-P, p-is, q-is, parted-Q}
-use Rattle.branches.proofs.OpenLaws.{ends, own-in, control-in, taken-in, mk-equal}
-use Rattle.branches.proofs.PutLaws.{counts-small, leaves-held, leaves-same, no-room, top-is, one, not-one-by-length, not-one-by-coefficient, not-one-by-monomial, put-Q-one, put-Q-found, put-Q-new, seen, kept-Q, parted-new-Q, length-new-Q, storable-new-Q}
+use Rattle.branches.proofs.AreaLaws.{place, at-of, own-of, storable-open, place-inside, at-inside, end-P, p-is, q-is, parted-Q}
+use Rattle.branches.proofs.ChangeLaws.{Read, Gap, free-is, fits-word, at-fits, top-fits, gap-inside, end-in-fits, own-in, top-kept, held-in}
+use Rattle.branches.proofs.ChangeLaws.{mk-equal, w2-is, w3-is}
+use Rattle.branches.proofs.LengthLaws.{inside-room}
+use Rattle.branches.proofs.PutLaws.{counts-small, leaves-held, leaves-same, no-room, one, not-one-by-length, not-one-by-coefficient, not-one-by-monomial}
+use Rattle.branches.proofs.PutLaws.{put-Q-one, put-Q-found, put-Q-new, seen, seen-Q, behind-seen, kept-Q, adds-Q, count-Q, storable-Q}
 use borrow.Author.Needs.{needs}
 use Rattle.branches.proofs.open.put_q.Statement.{statement}
 use Rattle.branches.proofs.open.put_q.Tie as tie
 
-abbrev Entry : tie.Start → Stored → List Stored → List Stored → Type 0
-Entry c b bs ss = Held (view (c .args .w .now)) (capacity (c .args .w .now)) (with-open b bs ss)
+-- ── the places, and the ways back from one to another ──
+-- All that is read at first: where the branch starts and ends, where the systems start, and the counts of P and Q.
+abbrev Reading : Type 0
+Reading = tie.After-get12
+
+abbrev start : Reading → tie.Start
+start r = r .before .before .before .before .before .before .before .before .before .before .before .before
+
+abbrev at-read : Reading → tie.After-get0
+at-read r = r .before .before .before .before .before .before .before .before
+
+abbrev end-read : Reading → tie.After-get1
+end-read r = r .before .before .before .before .before .before
+
+abbrev top-read : Reading → tie.After-get2
+top-read r = r .before .before .before .before
+
+abbrev p-read : Reading → tie.After-get02
+p-read r = r .before .before
+
+-- The end of P is known; f was looked for; it was not found, and there is room; its place is known; it is put in.
+abbrev from-skip : tie.After-skip → Reading
+from-skip c = c .before .before .before
+
+abbrev from-find : tie.After-find → Reading
+from-find c = from-skip (c .before .before)
+
+abbrev skip-from-room : tie.Else5 → tie.After-skip
+skip-from-room c = c .before .before .before .before
+
+abbrev skip-from-gap : tie.After-skip2 → tie.After-skip
+skip-from-gap c = skip-from-room (c .before .before)
+
+abbrev from-gap : tie.After-skip2 → Reading
+from-gap c = from-skip (skip-from-gap c)
+
+abbrev from-insert : tie.After-insert → Reading
+from-insert c = from-gap (c .before .before)
+
+-- The other words of the branch's own record are read, and it is written.
+abbrev t-from-insert : tie.After-get2-arg2 → tie.After-insert
+t-from-insert c = c .before .before .before
+
+abbrev under-from-insert : tie.After-get3-arg → tie.After-insert
+under-from-insert c = t-from-insert (c .before .before)
+
+abbrev own-from-insert : tie.After-put-rec-arg → tie.After-insert
+own-from-insert c = under-from-insert (c .before .before)
+
+abbrev under-read : tie.After-put-rec → tie.After-get3
+under-read c = c .before .before
+
+abbrev t-read : tie.After-put-rec → tie.After-get22
+t-read c = under-read c .before .before
+
+abbrev insert-of : tie.After-put-rec → tie.After-insert
+insert-of c = own-from-insert (c .before)
+
+abbrev from-own : tie.After-put-rec → Reading
+from-own c = from-insert (insert-of c)
+
+-- The control record is written.
+abbrev own-from-control : tie.After-put-rec-arg2 → tie.After-put-rec
+own-from-control c = c .before .before .before .before .before
+
+-- ── what is read ──
+abbrev w : Reading → List ℕ
+w r = start r .args .w .now
+
+abbrev f : Reading → List ℕ
+f r = start r .args .f .now
+
+abbrev left : Reading → ℕ
+left r = start r .args .left
+
+abbrev at : Reading → ℕ
+at r = at-read r .get0 .result
+
+abbrev end : Reading → ℕ
+end r = end-read r .get1 .result
+
+abbrev top : Reading → ℕ
+top r = top-read r .get2 .result
+
+abbrev own : tie.After-put-rec → Rec
+own c = let r = from-own c in mk (p-read r .get02 .result) (r .get12 .result + 1) (t-read c .get22 .result) (under-read c .get3 .result)
+
+read : (r : Reading) → Read (view (w r)) (at r) (end r)
+read r = record { at-word = at-read r .get0 .ensures; end-word = end-read r .get1 .ensures }
+
+-- ── what is known ──
+abbrev Entry : Reading → Stored → List Stored → List Stored → Type 0
+Entry r b bs ss = Held (view (w r)) (capacity (w r)) (with-open b bs ss)
 
 -- The polynomials before the place in Q, and those behind it.
-abbrev before-it : tie.Start → Stored → List (List ℕ)
-before-it c b = b .P ++ take (seen (c .args .left) b) (b .Q)
+abbrev before-it : Reading → Stored → List (List ℕ)
+before-it r b = b .P ++ take (seen (left r) b) (b .Q)
 
-abbrev behind-it : tie.Start → Stored → List (List ℕ)
-behind-it c b = drop (seen (c .args .left) b) (b .Q) ++ b .T
+abbrev behind-it : Reading → Stored → List (List ℕ)
+behind-it r b = drop (seen (left r) b) (b .Q) ++ b .T
 
-not-one : (c : tie.Joined1) → is-one (c .before .before .before .before .before .before .before .before .before .before .before .before .before .args .f .now) ≡ false
+not-one : (c : tie.Joined1) → is-one (f (c .before)) ≡ false
 not-one c =
-    let f = c .before .before .before .before .before .before .before .before .before .before .before .before .before .args .f .now in
-    ⊎-elim (λ w. not-one-by-monomial f (w .4 .left)) (⊎-elim (λ w. not-one-by-coefficient f (w .2 .left)) (λ w. not-one-by-length f (w .left))) (c .if1 .came)
+    ⊎-elim (λ m. not-one-by-monomial _ (m .4 .left)) (⊎-elim (λ m. not-one-by-coefficient _ (m .2 .left)) (λ m. not-one-by-length _ (m .left))) (c .if1 .came)
 
 module _ {b : Stored} {bs ss : List Stored} where
-  from-is : (c : tie.After-skip) → Entry (c .before .before .before .before .before .before .before .before .before .before .before .before .before .before .before) b bs ss → c .skip .result ≡ place (at-of bs) (b .P)
-  from-is c H = c .skip .ensures ∙ end-P H (c .before .before .before .before .before .before .before .before .before .before .before .get0 .result) (c .before .before .before .before .before .before .before .before .before .before .before .get0 .ensures) (c .before .before .before .before .before .get02 .result) (c .before .before .before .before .before .get02 .ensures)
+  count-is : (r : Reading) → Entry r b bs ss → r .get12 .result ≡ length (b .Q)
+  count-is r H = q-is H _ (read r .at-word) _ (r .get12 .ensures)
 
-  count-is : (c : tie.After-skip) → Entry (c .before .before .before .before .before .before .before .before .before .before .before .before .before .before .before) b bs ss → c .before .before .before .get12 .result ≡ length (b .Q)
-  count-is c H = q-is H (c .before .before .before .before .before .before .before .before .before .before .before .get0 .result) (c .before .before .before .before .before .before .before .before .before .before .before .get0 .ensures) (c .before .before .before .get12 .result) (c .before .before .before .get12 .ensures)
+  -- The records up to the systems are free.
+  between : (r : Reading) (H : Entry r b bs ss) → top r ≡ end r + length (H .free)
+  between r H = free-is H (read r) _ (top-read r .get2 .ensures)
 
-  to-it : (c : tie.After-skip) → Entry (c .before .before .before .before .before .before .before .before .before .before .before .before .before .before .before) b bs ss
-      → skip-to (view (c .before .before .before .before .before .before .before .before .before .before .before .before .before .before .before .args .w .now)) (c .skip .result) (c .before .before .before .get12 .result - c .before .before .before .before .before .before .before .before .before .before .before .before .before .before .before .args .left) ≡ place (at-of bs) (before-it (c .before .before .before .before .before .before .before .before .before .before .before .before .before .before .before) b)
-  to-it c H =
-      ap (λ (n : ℕ). skip-to (view (c .before .before .before .before .before .before .before .before .before .before .before .before .before .before .before .args .w .now)) (c .skip .result) (n - c .before .before .before .before .before .before .before .before .before .before .before .before .before .before .before .args .left)) (count-is c H)
-      ∙ skip-Q H (c .skip .result) (seen (c .before .before .before .before .before .before .before .before .before .before .before .before .before .before .before .args .left) b) (from-is c H) (omega arith)
+  end-P-is : (c : tie.After-skip) → Entry (from-skip c) b bs ss → c .skip .result ≡ place (at-of bs) (b .P)
+  end-P-is c H = let r = from-skip c in c .skip .ensures ∙ end-P H _ (read r .at-word) _ (p-read r .get02 .ensures)
 
-  found-is : (c : tie.After-find) → Entry (c .before .before .before .before .before .before .before .before .before .before .before .before .before .before .before .before .before) b bs ss → member (c .before .before .before .before .before .before .before .before .before .before .before .before .before .before .before .before .before .args .f .now) (take (seen (c .before .before .before .before .before .before .before .before .before .before .before .before .before .before .before .before .before .args .left) b) (b .Q)) ≡ c .find .result
+  there : (c : tie.After-skip) → Entry (from-skip c) b bs ss
+      → let r = from-skip c in skip-to (view (w r)) (c .skip .result) (r .get12 .result - left r) ≡ place (at-of bs) (before-it r b)
+  there c H = let r = from-skip c in behind-seen H (left r) (end-P-is c H) (count-is r H)
+
+  found-is : (c : tie.After-find) → Entry (from-find c) b bs ss → let r = from-find c in member (f r) (take (seen (left r) b) (b .Q)) ≡ c .find .result
   found-is c H =
-      sym
-      (c .find .ensures
-      ∙ ap (λ (n : ℕ). member (c .before .before .before .before .before .before .before .before .before .before .before .before .before .before .before .before .before .args .f .now) (polys-at (view (c .before .before .before .before .before .before .before .before .before .before .before .before .before .before .before .before .before .args .w .now)) (c .before .before .skip .result) (n - c .before .before .before .before .before .before .before .before .before .before .before .before .before .before .before .before .before .args .left))) (count-is (c .before .before) H)
-      ∙ ap (member (c .before .before .before .before .before .before .before .before .before .before .before .before .before .before .before .before .before .args .f .now)) (in-Q H (c .before .before .skip .result) (seen (c .before .before .before .before .before .before .before .before .before .before .before .before .before .before .before .before .before .args .left) b) (from-is (c .before .before) H) (omega arith)))
+      let r = from-find c in
+      sym (c .find .ensures ∙ ap (member (f r)) (seen-Q H (left r) (end-P-is (c .before .before) H) (count-is r H)))
 
-  new-is : (c : tie.Else4) → Entry (c .before .before .before .before .before .before .before .before .before .before .before .before .before .before .before .before .before .before) b bs ss
-      → put-Q (c .before .before .before .before .before .before .before .before .before .before .before .before .before .before .before .before .before .before .args .f .now) (take (seen (c .before .before .before .before .before .before .before .before .before .before .before .before .before .before .before .before .before .before .args .left) b) (b .Q)) ≡ take (seen (c .before .before .before .before .before .before .before .before .before .before .before .before .before .before .before .before .before .before .args .left) b) (b .Q) ++ (c .before .before .before .before .before .before .before .before .before .before .before .before .before .before .before .before .before .before .args .f .now ∷ [])
-  new-is c H = put-Q-new (c .before .before .before .before .before .before .before .before .before .before .before .before .before .before .before .before .before .before .args .f .now) (take (seen (c .before .before .before .before .before .before .before .before .before .before .before .before .before .before .before .before .before .before .args .left) b) (b .Q)) (not-one (c .before .before .before .before .before)) (found-is (c .before) H ∙ c .if4 .left)
+  new-is : (c : tie.Else4) → Entry (from-find (c .before)) b bs ss
+      → let r = from-find (c .before) in put-Q (f r) (take (seen (left r) b) (b .Q)) ≡ take (seen (left r) b) (b .Q) ++ (f r ∷ [])
+  new-is c H = put-Q-new _ _ (not-one (c .before .before .before .before .before)) (found-is (c .before) H ∙ c .if4 .left)
 
-  -- The records between the branch and the systems.
-  between : (c : tie.Else4) (H : Entry (c .before .before .before .before .before .before .before .before .before .before .before .before .before .before .before .before .before .before) b bs ss) → c .before .before .before .before .before .before .before .before .before .before .get2 .result ≡ c .before .before .before .before .before .before .before .before .before .before .before .before .get1 .result + length (H .free)
-  between c H = omega (arith, top-is H (c .before .before .before .before .before .before .before .before .before .before .get2 .result) (c .before .before .before .before .before .before .before .before .before .before .get2 .ensures), ends H (c .before .before .before .before .before .before .before .before .before .before .before .before .before .before .get0 .result) (c .before .before .before .before .before .before .before .before .before .before .before .before .get1 .result) (c .before .before .before .before .before .before .before .before .before .before .before .before .before .before .get0 .ensures) (c .before .before .before .before .before .before .before .before .before .before .before .before .get1 .ensures))
+  -- f goes in there.
+  gap : (c : tie.After-skip2) (H : Entry (from-gap c) b bs ss)
+      → let r = from-gap c in Gap H (read r) (c .skip2 .result) (put-into-Q (left r) (f r) b) (before-it r b) (f r) (behind-it r b)
+  gap c H = record {
+    adds = adds-Q _ _ b (new-is (c .before .before .before) H);
+    there = c .skip2 .ensures ∙ there (skip-from-gap c) H;
+    fits = omega (arith, c .before .before .if5 .left, between (from-gap c) H);
+  }
 
-  fits : (c : tie.Else5) (H : Entry (c .before .before .before .before .before .before .before .before .before .before .before .before .before .before .before .before .before .before .before) b bs ss) → length (c .before .before .before .before .before .before .before .before .before .before .before .before .before .before .before .before .before .before .before .args .f .now) / 2 + 1 ≤ length (H .free)
-  fits c H = omega (arith, c .if5 .left, between (c .before) H)
+  own-is : (c : tie.After-put-rec) → Entry (from-own c) b bs ss → let r = from-own c in own c ≡ own-of (put-into-Q (left r) (f r) b) bs
+  own-is c H =
+      let r = from-own c in
+      let i = insert-of c in
+      let o = own-in H (read r) (gap (i .before .before) H) (i .insert .ensures) in
+      let count = count-Q (left r) (f r) b (new-is (i .before .before .before .before .before) H) in
+      mk-equal (p-is H _ (read r .at-word) _ (p-read r .get02 .ensures)) (ap (λ (n : ℕ). n + 1) (count-is r H) ∙ sym count)
+      (w2-is o (t-read c .get22 .ensures)) (w3-is o (under-read c .get3 .ensures))
 
-  -- What is written as the branch's end and as the systems' start is at most the area's records.
-  end-small : (c : tie.Else5) (H : Entry (c .before .before .before .before .before .before .before .before .before .before .before .before .before .before .before .before .before .before .before) b bs ss)
-      → (c .before .before .before .before .before .before .before .before .before .before .before .before .before .get1 .result + (length (c .before .before .before .before .before .before .before .before .before .before .before .before .before .before .before .before .before .before .before .args .f .now) / 2 + 1) ≤ c .before .before .before .before .before .before .before .before .before .before .before .get2 .result) × (c .before .before .before .before .before .before .before .before .before .before .before .get2 .result ≤ capacity (c .before .before .before .before .before .before .before .before .before .before .before .before .before .before .before .before .before .before .before .args .w .now))
-  end-small c H =
-      (omega (arith, fits c H, between (c .before) H), omega (arith, room-is H, top-is H (c .before .before .before .before .before .before .before .before .before .before .before .get2 .result) (c .before .before .before .before .before .before .before .before .before .before .before .get2 .ensures)))
+-- The branch of which the contract speaks.
+opened : (r : Reading) → Entry r (start r .pre .0 .0) (start r .pre .0 .1) (start r .pre .0 .2)
+opened r = start r .pre .0 .3
 
-  there : (c : tie.After-skip2) → Entry (c .before .before .before .before .before .before .before .before .before .before .before .before .before .before .before .before .before .before .before .before .before) b bs ss → c .skip2 .result ≡ place (at-of bs) (before-it (c .before .before .before .before .before .before .before .before .before .before .before .before .before .before .before .before .before .before .before .before .before) b)
-  there c H = c .skip2 .ensures ∙ to-it (c .before .before .before .before .before .before) H
+-- What is read and written lies inside, and what is written fits a word.
+seen-inside : (c : tie.After-skip) → let r = from-skip c in skip-to (view (w r)) (c .skip .result) (r .get12 .result - left r) ≤ room (w r)
+seen-inside c =
+    let r = from-skip c in
+    let b = start r .pre .0 .0 in
+    inside-room (w r) (place-inside (opened r) (before-it r b) (behind-it r b) (parted-Q b (seen (left r) b)) (there c (opened r)))
 
-  own-record : (c : tie.After-insert) (H : Entry (c .before .before .before .before .before .before .before .before .before .before .before .before .before .before .before .before .before .before .before .before .before .before .before) b bs ss) → getD (view (c .insert .last .0)) (c .before .before .before .before .before .before .before .before .before .before .before .before .before .before .before .before .before .before .before .get0 .result) nul ≡ own-of b bs
-  own-record c H =
-      own-in H (c .before .before .before .before .before .before .before .before .before .before .before .before .before .before .before .before .before .before .before .get0 .result) (c .before .before .before .before .before .before .before .before .before .before .before .before .before .before .before .before .before .get1 .result) (c .before .before .before .before .before .before .before .before .before .before .before .before .before .before .before .before .before .before .before .get0 .ensures) (c .before .before .before .before .before .before .before .before .before .before .before .before .before .before .before .before .before .get1 .ensures) (before-it (c .before .before .before .before .before .before .before .before .before .before .before .before .before .before .before .before .before .before .before .before .before .before .before) b) (behind-it (c .before .before .before .before .before .before .before .before .before .before .before .before .before .before .before .before .before .before .before .before .before .before .before) b) (parted-Q b (seen (c .before .before .before .before .before .before .before .before .before .before .before .before .before .before .before .before .before .before .before .before .before .before .before .args .left) b)) (c .before .before .before .before .before .before .before .before .before .before .before .before .before .before .before .before .before .before .before .before .before .before .before .args .f .now) (fits (c .before .before .before .before) H) (c .before .before .skip2 .result) (there (c .before .before) H) (view (c .insert .last .0)) (c .insert .ensures)
+at-in : (c : tie.After-get0) → c .get0 .result < room (c .before .before .before .before .args .w .now)
+at-in c = omega (arith, at-inside (c .before .before .before .before .pre .0 .3) _ (c .get0 .ensures))
 
+own-inside : (c : tie.After-insert) → at (from-insert c) < room (c .insert .last .0)
+own-inside c = let r = from-insert c in omega (arith, at-inside (opened r) _ (read r .at-word), c .insert .kept)
+
+control-inside : (c : tie.After-put-rec) → 0 < room (c .put-rec .last .0)
+control-inside c = omega (arith, own-inside (insert-of c), c .put-rec .kept)
+
+end-fits : (c : tie.After-put-rec) → let r = from-own c in Fits w32 (end r + (length (f r) / 2 + 1))
+end-fits c = let r = from-own c in end-in-fits (opened r) (read r) (gap (insert-of c .before .before) (opened r))
+
+-- ── the needs ──
 get0-requires : tie.Need-get0-requires
 get0-requires c κs = search needs
 
@@ -95,10 +212,10 @@ cast-top : tie.Need-cast-top
 cast-top c = search needs
 
 get0-requires-2 : tie.Need-get0-requires-2
-get0-requires-2 c κs = omega (arith, at-inside (c .before .before .before .before .before .before .before .before .before .pre .0 .3) (c .before .before .before .before .before .get0 .result) (c .before .before .before .before .before .get0 .ensures))
+get0-requires-2 c κs = at-in (c .before .before .before .before .before)
 
 get1-requires-2 : tie.Need-get1-requires-2
-get1-requires-2 c κs = omega (arith, at-inside (c .before .before .before .before .before .before .before .before .before .before .before .pre .0 .3) (c .before .before .before .before .before .before .before .get0 .result) (c .before .before .before .before .before .before .before .get0 .ensures))
+get1-requires-2 c κs = at-in (c .before .before .before .before .before .before .before)
 
 shared-slice-read-if2 : tie.Need-shared-slice-read-if2
 shared-slice-read-if2 c = search needs
@@ -107,13 +224,13 @@ shared-slice-read-if3 : tie.Need-shared-slice-read-if3
 shared-slice-read-if3 c = search needs
 
 same-length : tie.Need-same-length
-same-length c = search needs
+same-length c = refl
 
 returns : tie.Need-returns
 returns c b bs ss H =
-    let left = c .before .before .before .before .before .before .before .before .before .before .before .before .before .before .before .before .before .args .left in
-    let f = c .before .before .before .before .before .before .before .before .before .before .before .before .before .before .before .before .before .args .f .now in
-    leaves-same H (put-into-Q left f b) (kept-Q left f b (put-Q-one f (take (seen left b) (b .Q)) (one f (c .before .before .before .before .if1 .taken) (c .before .before .if2 .taken) (c .if3 .taken))))
+    let r = c .before .before .before .before .before in
+    let is-1 = one (f r) (c .before .before .before .before .if1 .taken) (c .before .before .if2 .taken) (c .if3 .taken) in
+    leaves-same H _ (kept-Q (left r) (f r) b (put-Q-one (f r) _ is-1))
 
 add-skip : tie.Need-add-skip
 add-skip c = search needs
@@ -123,123 +240,99 @@ cast-skip c = search needs
 
 skip-requires : tie.Need-skip-requires
 skip-requires c κs =
-    let b = c .before .before .before .before .before .before .before .before .before .before .before .before .before .before .pre .0 .0 in
-    let H = c .before .before .before .before .before .before .before .before .before .before .before .before .before .before .pre .0 .3 in
-    omega (arith, end-P H (c .before .before .before .before .before .before .before .before .before .before .get0 .result) (c .before .before .before .before .before .before .before .before .before .before .get0 .ensures) (c .before .before .before .before .get02 .result) (c .before .before .before .before .get02 .ensures), within H (b .P) (b .Q ++ b .T) refl)
+    let r = c .before .before in
+    let b = start r .pre .0 .0 in
+    inside-room (w r) (place-inside (opened r) (b .P) (b .Q ++ b .T) refl (end-P (opened r) _ (read r .at-word) _ (p-read r .get02 .ensures)))
 
 cast-new : tie.Need-cast-new
 cast-new c = search needs
 
 sub-new : tie.Need-sub-new
-sub-new c =
-    let H = c .before .before .before .before .before .before .before .before .before .before .before .before .before .before .before .pre .0 .3 in omega (arith, count-is c H, c .before .before .before .before .before .before .before .before .before .before .before .before .before .before .before .pre .1 .0 (c .before .before .before .before .before .before .before .before .before .before .before .before .before .before .before .pre .0 .0) (c .before .before .before .before .before .before .before .before .before .before .before .before .before .before .before .pre .0 .1) (c .before .before .before .before .before .before .before .before .before .before .before .before .before .before .before .pre .0 .2) H)
+sub-new c = let r = from-skip c in omega (arith, count-is r (opened r), start r .pre .1 .0 _ _ _ (opened r))
 
 find-requires : tie.Need-find-requires
-find-requires c κs =
-    let s = c .before .before .before .before .before .before .before .before .before .before .before .before .before .before .before .before in
-    let b = s .pre .0 .0 in
-    let H = s .pre .0 .3 in
-    (omega (arith, to-it (c .before) H, within H (before-it s b) (behind-it s b) (parted-Q b (seen (s .args .left) b))), s .pre .1 .1)
+find-requires c κs = (seen-inside (c .before), start (from-skip (c .before)) .pre .1 .1)
 
 same-length-2 : tie.Need-same-length-2
-same-length-2 c = search needs
+same-length-2 c = refl
 
 returns-2 : tie.Need-returns-2
 returns-2 c b bs ss H =
-    let left = c .before .before .before .before .before .before .before .before .before .before .before .before .before .before .before .before .before .before .args .left in
-    let f = c .before .before .before .before .before .before .before .before .before .before .before .before .before .before .before .before .before .before .args .f .now in
-    leaves-same H (put-into-Q left f b) (kept-Q left f b (put-Q-found f (take (seen left b) (b .Q)) (found-is (c .before) H ∙ c .if4 .taken)))
+    let r = from-find (c .before) in leaves-same H _ (kept-Q (left r) (f r) b (put-Q-found (f r) _ (found-is (c .before) H ∙ c .if4 .taken)))
 
 add-n : tie.Need-add-n
 add-n c = search needs
 
 sub-if5 : tie.Need-sub-if5
-sub-if5 c = omega (arith, between c (c .before .before .before .before .before .before .before .before .before .before .before .before .before .before .before .before .before .before .pre .0 .3))
+sub-if5 c = let r = from-find (c .before) in omega (arith, between r (opened r))
 
 same-length-3 : tie.Need-same-length-3
-same-length-3 c = search needs
+same-length-3 c = refl
 
 returns-3 : tie.Need-returns-3
 returns-3 c b bs ss H =
-    let s = c .before .before .before .before .before .before .before .before .before .before .before .before .before .before .before .before .before .before .before in
-    let left = s .args .left in
-    let f = s .args .f .now in
-    no-room H (put-into-Q left f b) (before-it s b) f (behind-it s b) (parted-Q b (seen left b)) (parted-new-Q left f b (new-is (c .before) H)) (omega (arith, c .if5 .taken, between (c .before) H))
+    no-room H (adds-Q _ _ b (new-is (c .before) H)) (omega (arith, c .if5 .taken, between (from-find (c .before .before)) H))
 
 skip-requires-2 : tie.Need-skip-requires-2
-skip-requires-2 c κs =
-    let s = c .before .before .before .before .before .before .before .before .before .before .before .before .before .before .before .before .before .before .before .before in
-    let b = s .pre .0 .0 in
-    let H = s .pre .0 .3 in
-    omega (arith, to-it (c .before .before .before .before .before) H, within H (before-it s b) (behind-it s b) (parted-Q b (seen (s .args .left) b)))
+skip-requires-2 c κs = seen-inside (skip-from-room (c .before))
 
 insert-requires : tie.Need-insert-requires
 insert-requires c κs =
-    let s = c .before .before .before .before .before .before .before .before .before .before .before .before .before .before .before .before .before .before .before .before .before .before in
-    let b = s .pre .0 .0 in
-    let H = s .pre .0 .3 in
-    let e = ends H (c .before .before .before .before .before .before .before .before .before .before .before .before .before .before .before .before .before .before .get0 .result) (c .before .before .before .before .before .before .before .before .before .before .before .before .before .before .before .before .get1 .result) (c .before .before .before .before .before .before .before .before .before .before .before .before .before .before .before .before .before .before .get0 .ensures) (c .before .before .before .before .before .before .before .before .before .before .before .before .before .before .before .before .get1 .ensures) in
-    (s .pre .1 .1, (omega (arith, e, there (c .before) H, within H (before-it s b) (behind-it s b) (parted-Q b (seen (s .args .left) b))), omega (arith, end-small (c .before .before .before) H)))
+    let r = from-gap (c .before) in
+    let g = gap-inside (opened r) (read r) (gap (c .before) (opened r)) in
+    (start r .pre .1 .1, (g .0, inside-room (w r) (g .1)))
 
 get2-requires-2 : tie.Need-get2-requires-2
-get2-requires-2 c κs = omega (arith, at-inside (c .before .before .before .before .before .before .before .before .before .before .before .before .before .before .before .before .before .before .before .before .before .before .before .before .before .before .pre .0 .3) (c .before .before .before .before .before .before .before .before .before .before .before .before .before .before .before .before .before .before .before .before .before .before .get0 .result) (c .before .before .before .before .before .before .before .before .before .before .before .before .before .before .before .before .before .before .before .before .before .before .get0 .ensures))
+get2-requires-2 c κs = own-inside (t-from-insert c)
 
 get3-requires : tie.Need-get3-requires
-get3-requires c κs = omega (arith, at-inside (c .before .before .before .before .before .before .before .before .before .before .before .before .before .before .before .before .before .before .before .before .before .before .before .before .before .before .before .before .pre .0 .3) (c .before .before .before .before .before .before .before .before .before .before .before .before .before .before .before .before .before .before .before .before .before .before .before .before .get0 .result) (c .before .before .before .before .before .before .before .before .before .before .before .before .before .before .before .before .before .before .before .before .before .before .before .before .get0 .ensures))
+get3-requires c κs = own-inside (under-from-insert c)
 
 add-put-rec : tie.Need-add-put-rec
-add-put-rec c =
-    let b = c .before .before .before .before .before .before .before .before .before .before .before .before .before .before .before .before .before .before .before .before .before .before .before .before .before .before .before .before .before .before .pre .0 .0 in
-    let H = c .before .before .before .before .before .before .before .before .before .before .before .before .before .before .before .before .before .before .before .before .before .before .before .before .before .before .before .before .before .before .pre .0 .3 in
-    omega (arith, count-is (c .before .before .before .before .before .before .before .before .before .before .before .before .before .before .before) H, counts-small H)
+add-put-rec c = let r = from-insert (own-from-insert c) in fits-word (opened r) (read r) (omega (arith, count-is r (opened r), counts-small (opened r)))
 
 put-rec-requires : tie.Need-put-rec-requires
-put-rec-requires c κs = omega (arith, at-inside (c .before .before .before .before .before .before .before .before .before .before .before .before .before .before .before .before .before .before .before .before .before .before .before .before .before .before .before .before .before .before .pre .0 .3) (c .before .before .before .before .before .before .before .before .before .before .before .before .before .before .before .before .before .before .before .before .before .before .before .before .before .before .get0 .result) (c .before .before .before .before .before .before .before .before .before .before .before .before .before .before .before .before .before .before .before .before .before .before .before .before .before .before .get0 .ensures))
+put-rec-requires c κs = own-inside (own-from-insert c)
 
 get3-requires-2 : tie.Need-get3-requires-2
-get3-requires-2 c κs = omega (arith, at-inside (c .before .before .before .before .before .before .before .before .before .before .before .before .before .before .before .before .before .before .before .before .before .before .before .before .before .before .before .before .before .before .before .before .before .before .pre .0 .3) (c .before .before .before .before .before .before .before .before .before .before .before .before .before .before .before .before .before .before .before .before .before .before .before .before .before .before .before .before .before .before .get0 .result) (c .before .before .before .before .before .before .before .before .before .before .before .before .before .before .before .before .before .before .before .before .before .before .before .before .before .before .before .before .before .before .get0 .ensures))
+get3-requires-2 c κs = control-inside (c .before .before .before)
 
 cast-put-rec : tie.Need-cast-put-rec
-cast-put-rec c = omega (arith, at-inside (c .before .before .before .before .before .before .before .before .before .before .before .before .before .before .before .before .before .before .before .before .before .before .before .before .before .before .before .before .before .before .before .before .before .before .before .before .pre .0 .3) (c .before .before .before .before .before .before .before .before .before .before .before .before .before .before .before .before .before .before .before .before .before .before .before .before .before .before .before .before .before .before .before .before .get0 .result) (c .before .before .before .before .before .before .before .before .before .before .before .before .before .before .before .before .before .before .before .before .before .before .before .before .before .before .before .before .before .before .before .before .get0 .ensures))
+cast-put-rec c = let r = from-own (own-from-control c) in at-fits (opened r) (read r)
 
 add-put-rec-2 : tie.Need-add-put-rec-2
-add-put-rec-2 c = omega (arith, end-small (c .before .before .before .before .before .before .before .before .before .before .before .before .before .before .before .before .before) (c .before .before .before .before .before .before .before .before .before .before .before .before .before .before .before .before .before .before .before .before .before .before .before .before .before .before .before .before .before .before .before .before .before .before .before .before .pre .0 .3))
+add-put-rec-2 c = omega (arith, end-fits (own-from-control c))
 
 cast-put-rec-2 : tie.Need-cast-put-rec-2
-cast-put-rec-2 c = omega (arith, end-small (c .before .before .before .before .before .before .before .before .before .before .before .before .before .before .before .before .before) (c .before .before .before .before .before .before .before .before .before .before .before .before .before .before .before .before .before .before .before .before .before .before .before .before .before .before .before .before .before .before .before .before .before .before .before .before .pre .0 .3))
+cast-put-rec-2 c = end-fits (own-from-control c)
 
 cast-put-rec-3 : tie.Need-cast-put-rec-3
-cast-put-rec-3 c = omega (arith, end-small (c .before .before .before .before .before .before .before .before .before .before .before .before .before .before .before .before .before) (c .before .before .before .before .before .before .before .before .before .before .before .before .before .before .before .before .before .before .before .before .before .before .before .before .before .before .before .before .before .before .before .before .before .before .before .before .pre .0 .3))
+cast-put-rec-3 c = let r = from-own (own-from-control c) in top-fits (opened r) (read r) _ (top-read r .get2 .ensures)
 
 put-rec-requires-2 : tie.Need-put-rec-requires-2
-put-rec-requires-2 c κs = omega (arith, at-inside (c .before .before .before .before .before .before .before .before .before .before .before .before .before .before .before .before .before .before .before .before .before .before .before .before .before .before .before .before .before .before .before .before .before .before .before .before .pre .0 .3) (c .before .before .before .before .before .before .before .before .before .before .before .before .before .before .before .before .before .before .before .before .before .before .before .before .before .before .before .before .before .before .before .before .get0 .result) (c .before .before .before .before .before .before .before .before .before .before .before .before .before .before .before .before .before .before .before .before .before .before .before .before .before .before .before .before .before .before .before .before .get0 .ensures))
+put-rec-requires-2 c κs = control-inside (own-from-control c)
 
 same-length-4 : tie.Need-same-length-4
 same-length-4 c = search needs
 
 returns-4 : tie.Need-returns-4
 returns-4 c b bs ss H =
-    let s = c .before .before .before .before .before .before .before .before .before .before .before .before .before .before .before .before .before .before .before .before .before .before .before .before .before .before .before .before .before .before .before .before .before .before .before .before .before .before .before in
-    let left = s .args .left in
-    let f = s .args .f .now in
-    let a = c .before .before .before .before .before .before .before .before .before .before .before .before .before .before .before .before .before .before .before .before .before .before .before .before .before .before .before .before .before .before .before .before .before .before .before .get0 in
-    let e = c .before .before .before .before .before .before .before .before .before .before .before .before .before .before .before .before .before .before .before .before .before .before .before .before .before .before .before .before .before .before .before .before .before .get1 in
-    let top = c .before .before .before .before .before .before .before .before .before .before .before .before .before .before .before .before .before .before .before .before .before .before .before .before .before .before .before .before .before .before .before .get2 in
-    let r = c .before .before .before .before .before .before .before .before .before .before .before .before .before .before .before .before .before .before .skip2 .result in
-    let v₁ = view (c .before .before .before .before .before .before .before .before .before .before .before .before .before .before .before .before .insert .last .0) in
-    let v₂ = view (c .before .before .before .before .before .before .before .before .put-rec .last .0) in
-    let parts = parted-Q b (seen left b) in
-    let new = new-is (c .before .before .before .before .before .before .before .before .before .before .before .before .before .before .before .before .before .before .before .before .before) H in
-    let own = own-record (c .before .before .before .before .before .before .before .before .before .before .before .before .before .before .before .before) H in
-    let o : Rec = mk (c .before .before .before .before .before .before .before .before .before .before .before .before .before .before .before .before .before .before .before .before .before .before .before .before .before .before .before .before .before .get02 .result) (c .before .before .before .before .before .before .before .before .before .before .before .before .before .before .before .before .before .before .before .before .before .before .before .before .before .before .before .get12 .result + 1) (c .before .before .before .before .before .before .before .before .before .before .before .before .get22 .result) (c .before .before .before .before .before .before .before .before .before .before .get3 .result) in
-    let count : c .before .before .before .before .before .before .before .before .before .before .before .before .before .before .before .before .before .before .before .before .before .before .before .before .before .before .before .get12 .result + 1 ≡ length (put-Q-before left f (b .Q)) = omega (arith, count-is (c .before .before .before .before .before .before .before .before .before .before .before .before .before .before .before .before .before .before .before .before .before .before .before .before) H, length-new-Q left f b new) in
-    let kept : getD v₂ 0 nul ≡ getD (view (s .args .w .now)) 0 nul =
-    control-in H (a .result) (e .result) (a .ensures) (e .ensures) (before-it s b) (behind-it s b) parts f (fits (c .before .before .before .before .before .before .before .before .before .before .before .before .before .before .before .before .before .before .before .before) H) r (there (c .before .before .before .before .before .before .before .before .before .before .before .before .before .before .before .before .before .before) H) v₁ (c .before .before .before .before .before .before .before .before .before .before .before .before .before .before .before .before .insert .ensures) o v₂ (c .before .before .before .before .before .before .before .before .put-rec .ensures) in
+    let o = own-from-control (c .before .before .before) in
+    let i = insert-of o in
+    let r = from-insert i in
+    let g = gap (i .before .before) H in
+    let new = new-is (i .before .before .before .before .before) H in
     leaves-held
-    (taken-in H (a .result) (e .result) (a .ensures) (e .ensures) (before-it s b) (behind-it s b) parts f (fits (c .before .before .before .before .before .before .before .before .before .before .before .before .before .before .before .before .before .before .before .before) H) r (there (c .before .before .before .before .before .before .before .before .before .before .before .before .before .before .before .before .before .before) H) v₁ (c .before .before .before .before .before .before .before .before .before .before .before .before .before .before .before .before .insert .ensures) (put-into-Q left f b) (parted-new-Q left f b new)
-    (H .storable .0 .0, storable-new-Q left f b new (H .storable .0 .1) (s .pre .1 .1), H .storable .0 .2) o
-    (mk-equal (p-is H (a .result) (a .ensures) (c .before .before .before .before .before .before .before .before .before .before .before .before .before .before .before .before .before .before .before .before .before .before .before .before .before .before .before .before .before .get02 .result) (c .before .before .before .before .before .before .before .before .before .before .before .before .before .before .before .before .before .before .before .before .before .before .before .before .before .before .before .before .before .get02 .ensures)) count (c .before .before .before .before .before .before .before .before .before .before .before .before .get22 .ensures ∙ ap (λ (u : Rec). u .w2) own) (c .before .before .before .before .before .before .before .before .before .before .get3 .ensures ∙ ap (λ (u : Rec). u .w3) own))
-    v₂ (c .before .before .before .before .before .before .before .before .put-rec .ensures) (top .result) (c .before .before .before .before .get32 .result) (top .ensures ∙ ap (λ (u : Rec). u .w2) (sym kept)) (c .before .before .before .before .get32 .ensures) (view (c .before .before .put-rec2 .last .0)) (c .before .before .put-rec2 .ensures))
+    (held-in H (read r) g (i .insert .ensures) (storable-Q (left r) (f r) b new (storable-open H) (start r .pre .1 .1)) (own-is o H)
+    (record {
+      v₂ = view (o .put-rec .last .0);
+      own-put = o .put-rec .ensures;
+      top = top r;
+      top-word = top-kept H (read r) g (i .insert .ensures) (top-read r .get2 .ensures) (own o) (o .put-rec .ensures);
+      systems = c .before .before .before .before .get32 .result;
+      systems-word = c .before .before .before .before .get32 .ensures;
+      control-put = c .before .before .put-rec2 .ensures;
+    }))
 
 pub put-q-spec : {M : Type 1} → statement M
 put-q-spec =

@@ -8,9 +8,9 @@ use mir.Syntax.{w32}
 use mir.Val.{Fits}
 use lib.ListN.{length, take, drop, getD, set, length-drop}
 use Rattle.records.specs.Records.{Rec, mk, nul}
-use Rattle.stored.specs.Stored.{poly-records, inserted, removed}
+use Rattle.stored.specs.Stored.{poly-records, size-at, inserted, removed}
 use Rattle.branches.specs.Area.{Stored, Held, with-open, stack, systems-records, capacity, without-P, without-Q}
-use Rattle.branches.proofs.AreaLaws.{Lies, lies, place, place-add, place-one, own-is, first-is, own-set, first-set, put-in, take-out, freed, length-freed, all, at-of, end-of, own-of, control, room-is, at-is, held-again, parted-at-P, parted-at-Q}
+use Rattle.branches.proofs.AreaLaws.{Lies, lies, place, place-add, place-one, own-is, first-is, size-of, own-set, first-set, put-in, take-out, freed, length-freed, all, at-of, end-of, own-of, control, room-is, at-is, held-again, parted-at-P, parted-at-Q}
 use Rattle.branches.proofs.OpenLaws.{Storable-branch, remove-in-parts}
 
 -- ── a polynomial more ──
@@ -157,12 +157,24 @@ module _ {v : List Rec} {most : ℕ} {b : Stored} {bs ss : List Stored} (H : Hel
     pub there : r ≡ place (at-of bs) xs
     pub size : n ≡ length f / 2 + 1
 
+  module _ {b₁ : Stored} {xs : List (List ℕ)} {f : List ℕ} {ys : List (List ℕ)} (m : More b₁ b xs f ys) {r : ℕ} (there : r ≡ place (at-of bs) xs) where
+    pub member-inside : r < most
+    member-inside = omega (arith, more-ends m bs, place-add (at-of bs) xs ys, ap (place (at-of bs)) (m .less), room-is H)
+
+    -- The first record of f says how many are behind it.
+    pub spot : {n : ℕ} → n ≡ size-at v r → Spot r (n + 1) b₁ xs f ys
+    spot e =
+        record { takes = m; there = there; size = ap (λ (k : ℕ). k + 1) (e ∙ ap (size-at v) there ∙ size-of (lies H) xs f ys (m .more)) }
+
   module _ {r n : ℕ} {b₁ : Stored} {xs : List (List ℕ)} {f : List ℕ} {ys : List (List ℕ)} (S : Spot r n b₁ xs f ys) where
     pub spot-inside : (r + n ≤ end) × (end ≤ most)
     spot-inside = (
       omega (arith, ends, S .there, S .size, ap (place (at-of bs)) (S .takes .more), place-one (at-of bs) xs f ys),
       omega (arith, ends, room-is H),
     )
+
+    pub end-out-fits : Fits w32 (end - n)
+    end-out-fits = fits-word (omega (arith, spot-inside))
 
     module _ {v₁ : List Rec} (gone : v₁ ≡ removed v r n (end - r - n)) where
       out : Changed v₁ (xs ++ ys) (freed (lies H) (place (at-of bs) (xs ++ ys)))

@@ -28,6 +28,9 @@ length-remove i [] h = absurd (omega arith)
 length-remove zero (f ∷ fs) h = omega arith
 length-remove (suc i) (f ∷ fs) h = omega (arith, length-remove i fs (omega arith))
 
+pub count-remove : {i n : ℕ} (fs : List (List ℕ)) → i < length fs → n ≡ length fs → n - 1 ≡ length (remove i fs)
+count-remove {i} fs h e = omega (arith, length-remove i fs h)
+
 pub storable-remove : (i : ℕ) (fs : List (List ℕ)) → All-storable fs → All-storable (remove i fs)
 unfolding remove
 storable-remove i [] h = h

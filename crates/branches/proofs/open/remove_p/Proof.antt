@@ -1,54 +1,157 @@
--- `remove_p` meets its contract.
-use mathlib.Core.Path.{_≡_, refl, ap, _∙_}
+-- `remove_p` meets its contract: the member's records are closed up, and both records are written anew.
+use mathlib.Core.Path.{_≡_, _∙_}
 use mathlib.Core.List.{List, [], _++_}
-use Prim.Native.Nat.{ℕ, suc, _+_, _-_, _/_, _≤_, _<_}
+use Prim.Native.Nat.{ℕ, suc, _+_, _-_, _≤_, _<_}
 use native.Mathlib.Omega.{arith}
-use lib.ListN.{length, getD, take, drop}
-use Rattle.records.specs.Records.{Rec, mk, nul, view}
+use lib.ListN.{length, take, drop, getD}
+use Rattle.records.specs.Records.{Rec, mk, nul, view, room}
+use Rattle.stored.specs.Stored.{skip-to}
 use Rattle.branches.specs.Area.{Stored, Held, with-open, capacity, without-P}
-use Rattle.branches.proofs.AreaLaws.{place, at-of, own-of, within, at-inside, skip-P, parted-P, parted-at-P, storable-member, found, Found}
-use Rattle.branches.proofs.OpenLaws.{ends, out-ends, own-out, taken-out, mk-equal, parted-without-P, length-remove, storable-remove}
+use Rattle.branches.proofs.AreaLaws.{place, at-of, own-of, storable-open, place-inside, at-inside, skip-P, parted-P}
+use Rattle.branches.proofs.ChangeLaws.{More, more-P, Read, Spot, spot, at-fits, member-inside, spot-inside, end-out-fits, own-out, held-out}
+use Rattle.branches.proofs.ChangeLaws.{mk-equal, w0-is, w1-is, w2-is, w3-is}
+use Rattle.branches.proofs.LengthLaws.{inside-room}
+use Rattle.branches.proofs.OpenLaws.{count-remove, storable-remove}
 use borrow.Author.Needs.{needs}
 use Rattle.branches.proofs.open.remove_p.Statement.{statement}
 use Rattle.branches.proofs.open.remove_p.Tie as tie
 
-abbrev Entry : tie.Start → Stored → List Stored → List Stored → Type 0
-Entry c b bs ss = Held (view (c .args .w .now)) (capacity (c .args .w .now)) (with-open b bs ss)
+-- ── the places, and the ways back from one to another ──
+-- All that is read at first: where the branch starts and ends.
+abbrev Reading : Type 0
+Reading = tie.After-get1
+
+abbrev start : Reading → tie.Start
+start r = r .before .before .before .before .before
+
+abbrev at-read : Reading → tie.After-get0
+at-read r = r .before .before
+
+-- The member's place is known; its size is; it is taken out.
+abbrev from-place : tie.After-skip → Reading
+from-place c = c .before .before
+
+abbrev from-size : tie.After-get02 → Reading
+from-size c = from-place (c .before .before)
+
+abbrev from-remove : tie.After-remove → Reading
+from-remove c = from-size (c .before .before)
+
+-- The words of the branch's own record are read, and it is written.
+abbrev p-from-remove : tie.After-get0-arg3 → tie.After-remove
+p-from-remove c = c .before .before .before
+
+abbrev q-from-remove : tie.After-get1-arg2 → tie.After-remove
+q-from-remove c = p-from-remove (c .before .before)
+
+abbrev t-from-remove : tie.After-get2-arg → tie.After-remove
+t-from-remove c = q-from-remove (c .before .before)
+
+abbrev under-from-remove : tie.After-get3-arg → tie.After-remove
+under-from-remove c = t-from-remove (c .before .before)
+
+abbrev own-from-remove : tie.After-put-rec-arg → tie.After-remove
+own-from-remove c = under-from-remove (c .before .before)
+
+abbrev under-read : tie.After-put-rec-arg → tie.After-get3
+under-read c = c .before
+
+abbrev t-read : tie.After-put-rec-arg → tie.After-get2
+t-read c = under-read c .before .before
+
+abbrev q-read : tie.After-put-rec-arg → tie.After-get12
+q-read c = t-read c .before .before
+
+abbrev p-read : tie.After-put-rec-arg → tie.After-get03
+p-read c = q-read c .before .before
+
+abbrev remove-of : tie.After-put-rec → tie.After-remove
+remove-of c = own-from-remove (c .before)
+
+abbrev from-own : tie.After-put-rec → Reading
+from-own c = from-remove (remove-of c)
+
+-- The control record is read again, and written.
+abbrev top-from-own : tie.After-get2-arg2 → tie.After-put-rec
+top-from-own c = c .before .before .before
+
+abbrev systems-from-own : tie.After-get3-arg2 → tie.After-put-rec
+systems-from-own c = top-from-own (c .before .before)
+
+abbrev control-from-own : tie.After-put-rec-arg2 → tie.After-put-rec
+control-from-own c = systems-from-own (c .before .before)
+
+-- ── what is read ──
+abbrev w : Reading → List ℕ
+w r = start r .args .w .now
+
+abbrev i : Reading → ℕ
+i r = start r .args .i
+
+abbrev at : Reading → ℕ
+at r = at-read r .get0 .result
+
+abbrev own : tie.After-put-rec-arg → Rec
+own c = mk (p-read c .get03 .result - 1) (q-read c .get12 .result) (t-read c .get2 .result) (under-read c .get3 .result)
+
+read : (r : Reading) → Read (view (w r)) (at r) (r .get1 .result)
+read r = record { at-word = at-read r .get0 .ensures; end-word = r .get1 .ensures }
+
+-- ── what is known ──
+abbrev Entry : Reading → Stored → List Stored → List Stored → Type 0
+Entry r b bs ss = Held (view (w r)) (capacity (w r)) (with-open b bs ss)
 
 -- The polynomials before the member of P at place i, it, and those behind it.
-abbrev before-it : tie.Start → Stored → List (List ℕ)
-before-it c b = take (c .args .i) (b .P)
+abbrev before-it : Reading → Stored → List (List ℕ)
+before-it r b = take (i r) (b .P)
 
-abbrev it : tie.Start → Stored → List ℕ
-it c b = getD (b .P) (c .args .i) []
+abbrev it : Reading → Stored → List ℕ
+it r b = getD (b .P) (i r) []
 
-abbrev behind-it : tie.Start → Stored → List (List ℕ)
-behind-it c b = drop (suc (c .args .i)) (b .P) ++ (b .Q ++ b .T)
+abbrev behind-it : Reading → Stored → List (List ℕ)
+behind-it r b = drop (suc (i r)) (b .P) ++ (b .Q ++ b .T)
 
 module _ {b : Stored} {bs ss : List Stored} where
-  there : (c : tie.After-skip) → Entry (c .before .before .before .before .before .before .before) b bs ss → c .skip .result ≡ place (at-of bs) (before-it (c .before .before .before .before .before .before .before) b)
-  there c H = let h : c .before .before .before .before .before .before .before .args .i < length (b .P) = c .before .before .before .before .before .before .before .pre .1 b bs ss H in c .skip .ensures ∙ skip-P H (c .before .before .before .before .get0 .result) (c .before .before .before .before .get0 .ensures) (c .before .before .before .before .before .before .before .args .i) (omega arith)
+  i-small : (r : Reading) → Entry r b bs ss → i r < length (b .P)
+  i-small r H = start r .pre .1 b bs ss H
 
-  found-it : (c : tie.After-skip) (H : Entry (c .before .before .before .before .before .before .before) b bs ss) → Found (view (c .before .before .before .before .before .before .before .args .w .now)) (capacity (c .before .before .before .before .before .before .before .args .w .now)) (c .skip .result) (it (c .before .before .before .before .before .before .before) b)
-  found-it c H =
-      let h : c .before .before .before .before .before .before .before .args .i < length (b .P) = c .before .before .before .before .before .before .before .pre .1 b bs ss H in
-      found H (before-it (c .before .before .before .before .before .before .before) b) (it (c .before .before .before .before .before .before .before) b) (behind-it (c .before .before .before .before .before .before .before) b) (parted-at-P b (c .before .before .before .before .before .before .before .args .i) h) (storable-member (b .P) (c .before .before .before .before .before .before .before .args .i) h (H .storable .0 .0)) (c .skip .result) (there c H)
+  takes : (r : Reading) → Entry r b bs ss → More (without-P (i r) b) b (before-it r b) (it r b) (behind-it r b)
+  takes r H = more-P b (i r) (i-small r H)
 
-  size : (c : tie.After-get02) (H : Entry (c .before .before .before .before .before .before .before .before .before) b bs ss) → c .get02 .result + 1 ≡ length (it (c .before .before .before .before .before .before .before .before .before) b) / 2 + 1
-  size c H = omega (arith, c .get02 .ensures, found-it (c .before .before) H .size)
+  there : (r : Reading) → Entry r b bs ss → skip-to (view (w r)) (at r + 1) (i r) ≡ place (at-of bs) (before-it r b)
+  there r H = let h : i r ≤ length (b .P) = omega (arith, i-small r H) in skip-P H _ (read r .at-word) (i r) h
 
-  end-there : (c : tie.After-get02) (H : Entry (c .before .before .before .before .before .before .before .before .before) b bs ss) → (c .before .before .skip .result + (c .get02 .result + 1) ≤ c .before .before .before .before .get1 .result) × (c .before .before .before .before .get1 .result ≤ capacity (c .before .before .before .before .before .before .before .before .before .args .w .now))
-  end-there c H =
-      let h : c .before .before .before .before .before .before .before .before .before .args .i < length (b .P) = c .before .before .before .before .before .before .before .before .before .pre .1 b bs ss H in (
-        omega (arith, out-ends H (c .before .before .before .before .before .before .get0 .result) (c .before .before .before .before .get1 .result) (c .before .before .before .before .before .before .get0 .ensures) (c .before .before .before .before .get1 .ensures) (before-it (c .before .before .before .before .before .before .before .before .before) b) (it (c .before .before .before .before .before .before .before .before .before) b) (behind-it (c .before .before .before .before .before .before .before .before .before) b) (parted-at-P b (c .before .before .before .before .before .before .before .before .before .args .i) h) (c .before .before .skip .result) (c .get02 .result + 1) (there (c .before .before) H) (size c H)),
-        omega (arith, ends H (c .before .before .before .before .before .before .get0 .result) (c .before .before .before .before .get1 .result) (c .before .before .before .before .before .before .get0 .ensures) (c .before .before .before .before .get1 .ensures), within H (b .P) (b .Q ++ b .T) refl),
-      )
+  member : (c : tie.After-get02) (H : Entry (from-size c) b bs ss)
+      → let r = from-size c in
+      Spot H (read r) (c .before .before .skip .result) (c .get02 .result + 1) (without-P (i r) b) (before-it r b) (it r b) (behind-it r b)
+  member c H = let r = from-size c in spot H (read r) (takes r H) (c .before .before .skip .ensures ∙ there r H) (c .get02 .ensures)
 
-  own-record : (c : tie.After-remove) (H : Entry (c .before .before .before .before .before .before .before .before .before .before .before) b bs ss) → getD (view (c .remove .last .0)) (c .before .before .before .before .before .before .before .before .get0 .result) nul ≡ own-of b bs
-  own-record c H =
-      let h : c .before .before .before .before .before .before .before .before .before .before .before .args .i < length (b .P) = c .before .before .before .before .before .before .before .before .before .before .before .pre .1 b bs ss H in
-      own-out H (c .before .before .before .before .before .before .before .before .get0 .result) (c .before .before .before .before .before .before .get1 .result) (c .before .before .before .before .before .before .before .before .get0 .ensures) (c .before .before .before .before .before .before .get1 .ensures) (before-it (c .before .before .before .before .before .before .before .before .before .before .before) b) (it (c .before .before .before .before .before .before .before .before .before .before .before) b) (behind-it (c .before .before .before .before .before .before .before .before .before .before .before) b) (parted-at-P b (c .before .before .before .before .before .before .before .before .before .before .before .args .i) h) (c .before .before .before .before .skip .result) (c .before .before .get02 .result + 1) (there (c .before .before .before .before) H) (size (c .before .before) H) (view (c .remove .last .0)) (c .remove .ensures)
+  own-before : (c : tie.After-remove) → Entry (from-remove c) b bs ss → getD (view (c .remove .last .0)) (at (from-remove c)) nul ≡ own-of b bs
+  own-before c H = own-out H (read (from-remove c)) (member (c .before .before) H) (c .remove .ensures)
 
+  p-is : (c : tie.After-put-rec-arg) → Entry (from-remove (own-from-remove c)) b bs ss → p-read c .get03 .result ≡ length (b .P)
+  p-is c H = w0-is (own-before (own-from-remove c) H) (p-read c .get03 .ensures)
+
+  own-is : (c : tie.After-put-rec-arg) → Entry (from-remove (own-from-remove c)) b bs ss
+      → own c ≡ own-of (without-P (i (from-remove (own-from-remove c))) b) bs
+  own-is c H =
+      let r = from-remove (own-from-remove c) in
+      let o = own-before (own-from-remove c) H in
+      mk-equal (count-remove (b .P) (i-small r H) (p-is c H))
+      (w1-is o (q-read c .get12 .ensures)) (w2-is o (t-read c .get2 .ensures)) (w3-is o (under-read c .get3 .ensures))
+
+-- The branch of which the contract speaks.
+opened : (r : Reading) → Entry r (start r .pre .0 .0) (start r .pre .0 .1) (start r .pre .0 .2)
+opened r = start r .pre .0 .3
+
+-- What is read and written lies inside.
+own-inside : (c : tie.After-remove) → at (from-remove c) < room (c .remove .last .0)
+own-inside c = let r = from-remove c in omega (arith, at-inside (opened r) _ (read r .at-word), c .remove .kept)
+
+control-inside : (c : tie.After-put-rec) → 0 < room (c .put-rec .last .0)
+control-inside c = omega (arith, own-inside (remove-of c), c .put-rec .kept)
+
+-- ── the needs ──
 get0-requires : tie.Need-get0-requires
 get0-requires c κs = search needs
 
@@ -66,14 +169,14 @@ add-skip c = search needs
 
 skip-requires : tie.Need-skip-requires
 skip-requires c κs =
-    let i = c .before .before .before .before .before .before .args .i in
-    let b = c .before .before .before .before .before .before .pre .0 .0 in
-    let H = c .before .before .before .before .before .before .pre .0 .3 in
-    let h : i < length (b .P) = c .before .before .before .before .before .before .pre .1 b (c .before .before .before .before .before .before .pre .0 .1) (c .before .before .before .before .before .before .pre .0 .2) H in
-    omega (arith, skip-P H (c .before .before .before .get0 .result) (c .before .before .before .get0 .ensures) i (omega arith), within H (take i (b .P)) (drop i (b .P) ++ (b .Q ++ b .T)) (parted-P b i))
+    let r = c .before in
+    let b = start r .pre .0 .0 in
+    inside-room (w r) (place-inside (opened r) (before-it r b) (drop (i r) (b .P) ++ (b .Q ++ b .T)) (parted-P b (i r)) (there r (opened r)))
 
 get0-requires-2 : tie.Need-get0-requires-2
-get0-requires-2 c κs = omega (arith, found-it (c .before) (c .before .before .before .before .before .before .before .before .pre .0 .3) .inside)
+get0-requires-2 c κs =
+    let r = from-place (c .before) in
+    inside-room (w r) (member-inside (opened r) (read r) (takes r (opened r)) (c .before .skip .ensures ∙ there r (opened r)))
 
 cast-n : tie.Need-cast-n
 cast-n c = search needs
@@ -82,65 +185,73 @@ add-n : tie.Need-add-n
 add-n c = search needs
 
 remove-requires : tie.Need-remove-requires
-remove-requires c κs = (omega (arith, end-there (c .before) (c .before .before .before .before .before .before .before .before .before .before .pre .0 .3)), omega (arith, end-there (c .before) (c .before .before .before .before .before .before .before .before .before .before .pre .0 .3)))
+remove-requires c κs =
+    let r = from-size (c .before) in
+    let h = spot-inside (opened r) (read r) (member (c .before) (opened r)) in
+    (h .0, inside-room (w r) (h .1))
 
 get0-requires-3 : tie.Need-get0-requires-3
-get0-requires-3 c κs = omega (arith, at-inside (c .before .before .before .before .before .before .before .before .before .before .before .before .before .before .pre .0 .3) (c .before .before .before .before .before .before .before .before .before .before .before .get0 .result) (c .before .before .before .before .before .before .before .before .before .before .before .get0 .ensures))
+get0-requires-3 c κs = own-inside (p-from-remove c)
 
 get1-requires-2 : tie.Need-get1-requires-2
-get1-requires-2 c κs = omega (arith, at-inside (c .before .before .before .before .before .before .before .before .before .before .before .before .before .before .before .before .pre .0 .3) (c .before .before .before .before .before .before .before .before .before .before .before .before .before .get0 .result) (c .before .before .before .before .before .before .before .before .before .before .before .before .before .get0 .ensures))
+get1-requires-2 c κs = own-inside (q-from-remove c)
 
 get2-requires : tie.Need-get2-requires
-get2-requires c κs = omega (arith, at-inside (c .before .before .before .before .before .before .before .before .before .before .before .before .before .before .before .before .before .before .pre .0 .3) (c .before .before .before .before .before .before .before .before .before .before .before .before .before .before .before .get0 .result) (c .before .before .before .before .before .before .before .before .before .before .before .before .before .before .before .get0 .ensures))
+get2-requires c κs = own-inside (t-from-remove c)
 
 get3-requires : tie.Need-get3-requires
-get3-requires c κs = omega (arith, at-inside (c .before .before .before .before .before .before .before .before .before .before .before .before .before .before .before .before .before .before .before .before .pre .0 .3) (c .before .before .before .before .before .before .before .before .before .before .before .before .before .before .before .before .before .get0 .result) (c .before .before .before .before .before .before .before .before .before .before .before .before .before .before .before .before .before .get0 .ensures))
+get3-requires c κs = own-inside (under-from-remove c)
 
 sub-put-rec : tie.Need-sub-put-rec
-sub-put-rec c =
-    let b = c .before .before .before .before .before .before .before .before .before .before .before .before .before .before .before .before .before .before .before .before .before .before .pre .0 .0 in
-    let H = c .before .before .before .before .before .before .before .before .before .before .before .before .before .before .before .before .before .before .before .before .before .before .pre .0 .3 in
-    let h : c .before .before .before .before .before .before .before .before .before .before .before .before .before .before .before .before .before .before .before .before .before .before .args .i < length (b .P) = c .before .before .before .before .before .before .before .before .before .before .before .before .before .before .before .before .before .before .before .before .before .before .pre .1 b (c .before .before .before .before .before .before .before .before .before .before .before .before .before .before .before .before .before .before .before .before .before .before .pre .0 .1) (c .before .before .before .before .before .before .before .before .before .before .before .before .before .before .before .before .before .before .before .before .before .before .pre .0 .2) H in
-    omega (arith, c .before .before .before .before .before .before .before .get03 .ensures, ap (λ (r : Rec). r .w0) (own-record (c .before .before .before .before .before .before .before .before .before .before .before) H))
+sub-put-rec c = let r = from-remove (own-from-remove c) in omega (arith, i-small r (opened r), p-is c (opened r))
 
 put-rec-requires : tie.Need-put-rec-requires
-put-rec-requires c κs = omega (arith, at-inside (c .before .before .before .before .before .before .before .before .before .before .before .before .before .before .before .before .before .before .before .before .before .before .pre .0 .3) (c .before .before .before .before .before .before .before .before .before .before .before .before .before .before .before .before .before .before .before .get0 .result) (c .before .before .before .before .before .before .before .before .before .before .before .before .before .before .before .before .before .before .before .get0 .ensures))
+put-rec-requires c κs = own-inside (own-from-remove c)
 
 get2-requires-2 : tie.Need-get2-requires-2
-get2-requires-2 c κs = omega (arith, at-inside (c .before .before .before .before .before .before .before .before .before .before .before .before .before .before .before .before .before .before .before .before .before .before .before .before .before .before .pre .0 .3) (c .before .before .before .before .before .before .before .before .before .before .before .before .before .before .before .before .before .before .before .before .before .before .before .get0 .result) (c .before .before .before .before .before .before .before .before .before .before .before .before .before .before .before .before .before .before .before .before .before .before .before .get0 .ensures))
+get2-requires-2 c κs = control-inside (top-from-own c)
 
 get3-requires-2 : tie.Need-get3-requires-2
-get3-requires-2 c κs = omega (arith, at-inside (c .before .before .before .before .before .before .before .before .before .before .before .before .before .before .before .before .before .before .before .before .before .before .before .before .before .before .before .before .pre .0 .3) (c .before .before .before .before .before .before .before .before .before .before .before .before .before .before .before .before .before .before .before .before .before .before .before .before .before .get0 .result) (c .before .before .before .before .before .before .before .before .before .before .before .before .before .before .before .before .before .before .before .before .before .before .before .before .before .get0 .ensures))
+get3-requires-2 c κs = control-inside (systems-from-own c)
 
 cast-put-rec : tie.Need-cast-put-rec
-cast-put-rec c = search needs
+cast-put-rec c = let r = from-own (control-from-own c) in at-fits (opened r) (read r)
 
 sub-put-rec-2 : tie.Need-sub-put-rec-2
-sub-put-rec-2 c = omega (arith, end-there (c .before .before .before .before .before .before .before .before .before .before .before .before .before .before .before .before .before .before .before .before .before) (c .before .before .before .before .before .before .before .before .before .before .before .before .before .before .before .before .before .before .before .before .before .before .before .before .before .before .before .before .before .before .pre .0 .3))
+sub-put-rec-2 c =
+    let m = remove-of (control-from-own c) in
+    let r = from-remove m in
+    omega (arith, spot-inside (opened r) (read r) (member (m .before .before) (opened r)))
 
 cast-put-rec-2 : tie.Need-cast-put-rec-2
-cast-put-rec-2 c = search needs
+cast-put-rec-2 c =
+    let m = remove-of (control-from-own c) in
+    let r = from-remove m in
+    end-out-fits (opened r) (read r) (member (m .before .before) (opened r))
 
 put-rec-requires-2 : tie.Need-put-rec-requires-2
-put-rec-requires-2 c κs = omega (arith, at-inside (c .before .before .before .before .before .before .before .before .before .before .before .before .before .before .before .before .before .before .before .before .before .before .before .before .before .before .before .before .before .before .pre .0 .3) (c .before .before .before .before .before .before .before .before .before .before .before .before .before .before .before .before .before .before .before .before .before .before .before .before .before .before .before .get0 .result) (c .before .before .before .before .before .before .before .before .before .before .before .before .before .before .before .before .before .before .before .before .before .before .before .before .before .before .before .get0 .ensures))
+put-rec-requires-2 c κs = control-inside (control-from-own c)
 
 same-length : tie.Need-same-length
 same-length c = search needs
 
 returns : tie.Need-returns
 returns c b bs ss H =
-    let s = c .before .before .before .before .before .before .before .before .before .before .before .before .before .before .before .before .before .before .before .before .before .before .before .before .before .before .before .before .before .before .before .before .before in
-    let i = s .args .i in
-    let h : i < length (b .P) = s .pre .1 b bs ss H in
-    let a = c .before .before .before .before .before .before .before .before .before .before .before .before .before .before .before .before .before .before .before .before .before .before .before .before .before .before .before .before .before .before .get0 in
-    let e = c .before .before .before .before .before .before .before .before .before .before .before .before .before .before .before .before .before .before .before .before .before .before .before .before .before .before .before .before .get1 in
-    let own = own-record (c .before .before .before .before .before .before .before .before .before .before .before .before .before .before .before .before .before .before .before .before .before .before) H in
-    let count : c .before .before .before .before .before .before .before .before .before .before .before .before .before .before .before .before .before .before .get03 .result - 1 ≡ length (without-P i b .P) = omega (arith, c .before .before .before .before .before .before .before .before .before .before .before .before .before .before .before .before .before .before .get03 .ensures, ap (λ (r : Rec). r .w0) own, length-remove i (b .P) h) in
-    taken-out H (a .result) (e .result) (a .ensures) (e .ensures) (before-it s b) (it s b) (behind-it s b) (parted-at-P b i h) (c .before .before .before .before .before .before .before .before .before .before .before .before .before .before .before .before .before .before .before .before .before .before .before .before .before .before .skip .result) (c .before .before .before .before .before .before .before .before .before .before .before .before .before .before .before .before .before .before .before .before .before .before .before .before .get02 .result + 1) (there (c .before .before .before .before .before .before .before .before .before .before .before .before .before .before .before .before .before .before .before .before .before .before .before .before .before .before) H) (size (c .before .before .before .before .before .before .before .before .before .before .before .before .before .before .before .before .before .before .before .before .before .before .before .before) H) (view (c .before .before .before .before .before .before .before .before .before .before .before .before .before .before .before .before .before .before .before .before .before .before .remove .last .0)) (c .before .before .before .before .before .before .before .before .before .before .before .before .before .before .before .before .before .before .before .before .before .before .remove .ensures)
-    (without-P i b) (parted-without-P b i) (storable-remove i (b .P) (H .storable .0 .0), H .storable .0 .1, H .storable .0 .2)
-    (mk (c .before .before .before .before .before .before .before .before .before .before .before .before .before .before .before .before .before .before .get03 .result - 1) (c .before .before .before .before .before .before .before .before .before .before .before .before .before .before .before .before .get12 .result) (c .before .before .before .before .before .before .before .before .before .before .before .before .before .before .get2 .result) (c .before .before .before .before .before .before .before .before .before .before .before .before .get3 .result))
-    (mk-equal count (c .before .before .before .before .before .before .before .before .before .before .before .before .before .before .before .before .get12 .ensures ∙ ap (λ (r : Rec). r .w1) own) (c .before .before .before .before .before .before .before .before .before .before .before .before .before .before .get2 .ensures ∙ ap (λ (r : Rec). r .w2) own) (c .before .before .before .before .before .before .before .before .before .before .before .before .get3 .ensures ∙ ap (λ (r : Rec). r .w3) own))
-    (view (c .before .before .before .before .before .before .before .before .before .before .put-rec .last .0)) (c .before .before .before .before .before .before .before .before .before .before .put-rec .ensures) (c .before .before .before .before .before .before .get22 .result) (c .before .before .before .before .get32 .result) (c .before .before .before .before .before .before .get22 .ensures) (c .before .before .before .before .get32 .ensures) (view (c .before .before .put-rec2 .last .0)) (c .before .before .put-rec2 .ensures)
+    let k = c .before .before .before in
+    let o = control-from-own k in
+    let m = remove-of o in
+    let r = from-remove m in
+    let h = storable-open H in
+    held-out H (read r) (member (m .before .before) H) (m .remove .ensures) (storable-remove (i r) (b .P) (h .0), h .1, h .2) (own-is (o .before) H)
+    (record {
+      v₂ = view (o .put-rec .last .0);
+      own-put = o .put-rec .ensures;
+      top = k .before .before .before .get22 .result;
+      top-word = k .before .before .before .get22 .ensures;
+      systems = k .before .get32 .result;
+      systems-word = k .before .get32 .ensures;
+      control-put = c .before .before .put-rec2 .ensures;
+    })
 
 pub remove-p-spec : {M : Type 1} → statement M
 remove-p-spec =

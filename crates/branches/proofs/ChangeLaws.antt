@@ -40,6 +40,11 @@ module _ (b : Stored) (i : ℕ) where
     more = parted-at-Q b i h;
   }
 
+-- What the member took is free when it is out.
+pub freed-room : {v v₁ : List Rec} {most : ℕ} {b b₁ : Stored} {bs ss : List Stored} → Held v most (with-open b₁ bs ss) → (H : Held v₁ most (with-open b bs ss))
+    → {xs : List (List ℕ)} {f : List ℕ} {ys : List (List ℕ)} → More b b₁ xs f ys → length f / 2 + 1 ≤ length (H .free)
+freed-room {bs = bs} H₁ H m = omega (arith, room-is H, room-is H₁, more-ends m bs)
+
 -- ── the words of a record ──
 pub mk-equal : {a b c d a₁ b₁ c₁ d₁ : ℕ} → a ≡ a₁ → b ≡ b₁ → c ≡ c₁ → d ≡ d₁ → mk a b c d ≡ mk a₁ b₁ c₁ d₁
 mk-equal p q r s = λ t. mk (p t) (q t) (r t) (s t)

@@ -12,8 +12,8 @@ use Rattle.stored.specs.Stored.{member, same, skip-to, polys-at, Storable}
 use Rattle.stored.specs.laws.Stored.{equal-of-same, length-le-polys-records}
 use Rattle.branches.specs.Words.{put-P, put-Q, put-Q-before, is-zero, is-one, unless, remove}
 use Rattle.branches.specs.Area.{Stored, Area, Held, Leaves, size, with-open, All-storable, put-into-P, put-into-Q, without-P, closed}
-use Rattle.branches.proofs.AreaLaws.{lies, first-is, place, place-add, place-one, all, at-of, end-of, end-is, room-is, storable-take, parted-at-P, parted-Q, in-Q, skip-Q}
-use Rattle.branches.proofs.OpenLaws.{Storable-branch, parted-without-P}
+use Rattle.branches.proofs.AreaLaws.{lies, first-is, place, place-add, place-one, all, at-of, end-of, end-is, room-is, storable-take, storable-member, parted-Q, in-Q, skip-Q}
+use Rattle.branches.proofs.OpenLaws.{Storable-branch, storable-remove}
 use Rattle.branches.proofs.ChangeLaws.{More, more-ends, more-P}
 
 -- ── the answers ──
@@ -178,15 +178,15 @@ module _ (left : ℕ) (f : List ℕ) (b : Stored) where
         (h .0, subst All-storable (sym new-Q) (storable-append (take (seen left b) (b .Q)) (f ∷ drop (seen left b) (b .Q)) xs (k, ys)), h .2)
 
 -- ── a member of P moved to the front of T ──
-pub parted-closed : (b : Stored) (i : ℕ) (f : List ℕ) → getD (b .P) i [] ≡ f → all (closed i b) ≡ remove i (b .P) ++ b .Q ++ (f ∷ b .T)
-parted-closed b i f e =
-    sym (append-assoc (remove i (b .P)) (b .Q) (getD (b .P) i [] ∷ b .T)) ∙ ap (λ (g : List ℕ). remove i (b .P) ++ b .Q ++ (g ∷ b .T)) e
+module _ (b : Stored) (i : ℕ) where
+  pub adds-T : More (without-P i b) (closed i b) (remove i (b .P) ++ b .Q) (getD (b .P) i []) (b .T)
+  adds-T = record {
+    less = sym (append-assoc (remove i (b .P)) (b .Q) (b .T));
+    more = sym (append-assoc (remove i (b .P)) (b .Q) (getD (b .P) i [] ∷ b .T));
+  }
 
--- What the member of P took is free when it is out.
-pub freed-room : {v v₁ : List Rec} {most : ℕ} {b : Stored} {bs ss : List Stored} (H : Held v most (with-open b bs ss)) (i : ℕ) (H₁ : Held v₁ most (with-open (without-P i b) bs ss))
-    → i < length (b .P) → (f : List ℕ) → getD (b .P) i [] ≡ f → length f / 2 + 1 ≤ length (H₁ .free)
-freed-room {v} {v₁} {most} {b} {bs} {ss} H i H₁ h f e =
-    let g : length (getD (b .P) i []) ≡ length f = ap length e in
-    let xs : List (List ℕ) = take i (b .P) in
-    let ys : List (List ℕ) = drop (suc i) (b .P) ++ (b .Q ++ b .T) in
-    omega (arith, room-is H, room-is H₁, ap (place (at-of bs)) (parted-at-P b i h), ap (place (at-of bs)) (parted-without-P b i), place-one (at-of bs) xs (getD (b .P) i []) ys, place-add (at-of bs) xs ys)
+  pub count-T : {n : ℕ} → n ≡ length (b .T) → n + 1 ≡ length (closed i b .T)
+  count-T e = omega arith
+
+  pub storable-T : i < length (b .P) → Storable-branch b → Storable-branch (closed i b)
+  storable-T l h = (storable-remove i (b .P) (h .0), h .1, (storable-member (b .P) i l (h .0), h .2))

@@ -1,61 +1,188 @@
--- `close` meets its contract.
-use mathlib.Core.Path.{_≡_, refl, sym, ap, _∙_}
-use mathlib.Core.List.{List, _++_, append-assoc}
-use Prim.Native.Nat.{ℕ, _+_, _/_, _≤_}
+-- `close` meets its contract: the member is taken out of P, and put in before T, where there is room for it now.
+use mathlib.Core.Path.{_≡_, refl, sym, ap, subst, _∙_}
+use mathlib.Core.List.{List, [], _∷_, _++_, append-assoc}
+use Prim.Native.Nat.{ℕ, _+_, _/_, _≤_, _<_}
 use native.Mathlib.Omega.{arith}
-use lib.ListN.{length, getD, take}
-use lib.Seq.{take-all}
-use Rattle.records.specs.Records.{Rec, mk, nul, view}
+use lib.ListN.{length, getD}
+use mir.Syntax.{w32}
+use mir.Val.{Fits}
+use Rattle.records.specs.Records.{Rec, mk, nul, view, room}
+use Rattle.stored.specs.Stored.{skip-to}
 use Rattle.branches.specs.Words.{remove}
 use Rattle.branches.specs.Area.{Stored, Held, with-open, capacity, without-P, closed}
-use Rattle.branches.proofs.AreaLaws.{place, all, at-of, own-of, own-read, room-is, within, at-inside, skip-Q, end-P, q-is, storable-member}
-use Rattle.branches.proofs.OpenLaws.{ends, taken-in, mk-equal}
-use Rattle.branches.proofs.PutLaws.{counts-small, parted-closed, freed-room}
+use Rattle.branches.proofs.AreaLaws.{place, at-of, own-of, own-read, storable-open, place-inside, at-inside, end-P, end-Q}
+use Rattle.branches.proofs.ChangeLaws.{More, more-P, freed-room, Read, Gap, fits-word, at-fits, gap-inside, end-in-fits, held-in}
+use Rattle.branches.proofs.ChangeLaws.{mk-equal, w0-is, w1-is, w2-is, w3-is}
+use Rattle.branches.proofs.LengthLaws.{inside-room}
+use Rattle.branches.proofs.PutLaws.{counts-small, adds-T, count-T, storable-T}
 use borrow.Author.Needs.{needs}
 use Rattle.branches.proofs.open.close.Statement.{statement}
 use Rattle.branches.proofs.open.close.Tie as tie
 
-abbrev Entry : tie.Start → Stored → List Stored → List Stored → Type 0
-Entry c b bs ss = Held (view (c .args .w .now)) (capacity (c .args .w .now)) (with-open b bs ss)
+-- ── the places, and the ways back from one to another ──
+-- The member is out of P.
+abbrev Removed : Type 0
+Removed = tie.After-remove-p
 
--- The polynomials before T, when the member of P is out.
-abbrev before-T : tie.Start → Stored → List (List ℕ)
-before-T c b = remove (c .args .i) (b .P) ++ b .Q
+abbrev start : Removed → tie.Start
+start m = m .before .before .before .before
 
-parts : (c : tie.Start) (b : Stored) → all (without-P (c .args .i) b) ≡ before-T c b ++ b .T
-parts c b = sym (append-assoc (remove (c .args .i) (b .P)) (b .Q) (b .T))
+-- All words of the branch's own record are read, from where it starts.
+abbrev from-at : tie.After-get0 → Removed
+from-at c = c .before .before .before .before
+
+abbrev at-before-p : tie.After-get0-arg2 → tie.After-get0
+at-before-p c = c .before .before .before
+
+abbrev at-before-q : tie.After-get1-arg2 → tie.After-get0
+at-before-q c = at-before-p (c .before .before)
+
+abbrev at-before-t : tie.After-get2-arg → tie.After-get0
+at-before-t c = at-before-q (c .before .before)
+
+abbrev at-before-under : tie.After-get3-arg → tie.After-get0
+at-before-under c = at-before-t (c .before .before)
+
+abbrev Reading : Type 0
+Reading = tie.After-get3
+
+abbrev t-read : Reading → tie.After-get2
+t-read r = r .before .before
+
+abbrev q-read : Reading → tie.After-get12
+q-read r = t-read r .before .before
+
+abbrev p-read : Reading → tie.After-get02
+p-read r = q-read r .before .before
+
+abbrev end-read : Reading → tie.After-get1
+end-read r = p-read r .before .before
+
+abbrev at-read : Reading → tie.After-get0
+at-read r = end-read r .before .before
+
+abbrev removed : Reading → Removed
+removed r = from-at (at-read r)
+
+-- The end of P is known; the end of Q is; f is put in there.
+abbrev from-skip : tie.After-skip → Reading
+from-skip c = c .before .before
+
+abbrev from-gap : tie.After-skip2 → Reading
+from-gap c = from-skip (c .before)
+
+abbrev from-insert : tie.After-insert → Reading
+from-insert c = from-gap (c .before .before)
+
+-- The branch's own record is written.
+abbrev own-from-insert : tie.After-put-rec-arg → tie.After-insert
+own-from-insert c = c .before .before .before
+
+abbrev insert-of : tie.After-put-rec → tie.After-insert
+insert-of c = own-from-insert (c .before)
+
+-- The control record is read again, and written.
+abbrev top-from-own : tie.After-get2-arg2 → tie.After-put-rec
+top-from-own c = c .before .before .before
+
+abbrev systems-from-own : tie.After-get3-arg2 → tie.After-put-rec
+systems-from-own c = top-from-own (c .before .before)
+
+abbrev control-from-own : tie.After-put-rec-arg2 → tie.After-put-rec
+control-from-own c = systems-from-own (c .before .before)
+
+-- ── what is read ──
+abbrev i : Removed → ℕ
+i m = start m .args .i
+
+abbrev f : Removed → List ℕ
+f m = start m .args .f .now
+
+abbrev w : Removed → List ℕ
+w m = m .remove-p .last .0
+
+abbrev at : Reading → ℕ
+at r = at-read r .get0 .result
+
+abbrev end : Reading → ℕ
+end r = end-read r .get1 .result
+
+abbrev own : Reading → Rec
+own r = mk (p-read r .get02 .result) (q-read r .get12 .result) (t-read r .get2 .result + 1) (r .get3 .result)
+
+read : (r : Reading) → Read (view (w (removed r))) (at r) (end r)
+read r = record { at-word = at-read r .get0 .ensures; end-word = end-read r .get1 .ensures }
+
+-- ── what is known ──
+abbrev Entry : Removed → Stored → List Stored → List Stored → Type 0
+Entry m b bs ss = Held (view (start m .args .w .now)) (capacity (start m .args .w .now)) (with-open b bs ss)
+
+abbrev before-T : Removed → Stored → List (List ℕ)
+before-T m b = remove (i m) (b .P) ++ b .Q
 
 module _ {b : Stored} {bs ss : List Stored} where
-  after : (c : tie.After-remove-p) → Entry (c .before .before .before .before) b bs ss
-      → Held (view (c .remove-p .last .0)) (capacity (c .before .before .before .before .args .w .now)) (with-open (without-P (c .before .before .before .before .args .i) b) bs ss)
-  after c H = c .remove-p .ensures b bs ss H
+  is-member : (m : Removed) → Entry m b bs ss → (i m < length (b .P)) × (getD (b .P) (i m) [] ≡ f m)
+  is-member m H = start m .pre .1 .0 b bs ss H
 
-  fits : (c : tie.After-remove-p) (H : Entry (c .before .before .before .before) b bs ss) → length (c .before .before .before .before .args .f .now) / 2 + 1 ≤ length (after c H .free)
-  fits c H = let h = c .before .before .before .before .pre .1 .0 b bs ss H in freed-room H (c .before .before .before .before .args .i) (after c H) (h .0) (c .before .before .before .before .args .f .now) (h .1)
+  after : (m : Removed) → Entry m b bs ss → Held (view (w m)) (capacity (start m .args .w .now)) (with-open (without-P (i m) b) bs ss)
+  after m H = m .remove-p .ensures b bs ss H
 
-  from-is : (c : tie.After-skip) → Entry (c .before .before .before .before .before .before .before .before .before .before .before .before .before .before .before .before .before .before .before .before) b bs ss → c .skip .result ≡ place (at-of bs) (remove (c .before .before .before .before .before .before .before .before .before .before .before .before .before .before .before .before .before .before .before .before .args .i) (b .P))
-  from-is c H = c .skip .ensures ∙ end-P (after (c .before .before .before .before .before .before .before .before .before .before .before .before .before .before .before .before) H) (c .before .before .before .before .before .before .before .before .before .before .before .before .get0 .result) (c .before .before .before .before .before .before .before .before .before .before .before .before .get0 .ensures) (c .before .before .before .before .before .before .before .before .get02 .result) (c .before .before .before .before .before .before .before .before .get02 .ensures)
+  own-before : (r : Reading) → Entry (removed r) b bs ss → getD (view (w (removed r))) (at r) nul ≡ own-of (without-P (i (removed r)) b) bs
+  own-before r H = own-read (after (removed r) H) _ (read r .at-word)
 
-  count-is : (c : tie.After-skip) → Entry (c .before .before .before .before .before .before .before .before .before .before .before .before .before .before .before .before .before .before .before .before) b bs ss → c .before .before .before .before .before .before .get12 .result ≡ length (b .Q)
-  count-is c H = q-is (after (c .before .before .before .before .before .before .before .before .before .before .before .before .before .before .before .before) H) (c .before .before .before .before .before .before .before .before .before .before .before .before .get0 .result) (c .before .before .before .before .before .before .before .before .before .before .before .before .get0 .ensures) (c .before .before .before .before .before .before .get12 .result) (c .before .before .before .before .before .before .get12 .ensures)
+  end-P-is : (r : Reading) → Entry (removed r) b bs ss
+      → skip-to (view (w (removed r))) (at r + 1) (p-read r .get02 .result) ≡ place (at-of bs) (remove (i (removed r)) (b .P))
+  end-P-is r H = end-P (after (removed r) H) _ (read r .at-word) _ (p-read r .get02 .ensures)
 
-  there : (c : tie.After-skip2) → Entry (c .before .before .before .before .before .before .before .before .before .before .before .before .before .before .before .before .before .before .before .before .before) b bs ss → c .skip2 .result ≡ place (at-of bs) (before-T (c .before .before .before .before .before .before .before .before .before .before .before .before .before .before .before .before .before .before .before .before .before) b)
+  there : (c : tie.After-skip) → Entry (removed (from-skip c)) b bs ss
+      → let r = from-skip c in skip-to (view (w (removed r))) (c .skip .result) (q-read r .get12 .result) ≡ place (at-of bs) (before-T (removed r) b)
   there c H =
-      let q = c .before .before .before .before .before .before .before .get12 .result in
-      let n : q ≡ length (b .Q) = count-is (c .before) H in
-      c .skip2 .ensures ∙ skip-Q (after (c .before .before .before .before .before .before .before .before .before .before .before .before .before .before .before .before .before) H) (c .before .skip .result) q (from-is (c .before) H) (omega arith)
-      ∙ ap (λ (l : List (List ℕ)). place (at-of bs) (remove (c .before .before .before .before .before .before .before .before .before .before .before .before .before .before .before .before .before .before .before .before .before .args .i) (b .P) ++ l)) (take-all q (b .Q) (omega arith))
+      let r = from-skip c in end-Q (after (removed r) H) (c .skip .ensures ∙ end-P-is r H) (w1-is (own-before r H) (q-read r .get12 .ensures))
 
-  end-small : (c : tie.After-get1) (H : Entry (c .before .before .before .before .before .before .before .before .before .before) b bs ss) → c .get1 .result + (length (c .before .before .before .before .before .before .before .before .before .before .args .f .now) / 2 + 1) ≤ capacity (c .before .before .before .before .before .before .before .before .before .before .args .w .now)
-  end-small c H =
-      let H₁ = after (c .before .before .before .before .before .before) H in
-      omega (arith, ends H₁ (c .before .before .get0 .result) (c .get1 .result) (c .before .before .get0 .ensures) (c .get1 .ensures), fits (c .before .before .before .before .before .before) H, room-is H₁)
+  adds : (m : Removed) → Entry m b bs ss → More (without-P (i m) b) (closed (i m) b) (before-T m b) (f m) (b .T)
+  adds m H = subst (λ (g : List ℕ). More (without-P (i m) b) (closed (i m) b) (before-T m b) g (b .T)) (is-member m H .1) (adds-T b (i m))
 
-  own-record : (c : tie.After-get3) (H : Entry (c .before .before .before .before .before .before .before .before .before .before .before .before .before .before .before .before .before .before) b bs ss) → getD (view (c .before .before .before .before .before .before .before .before .before .before .before .before .before .before .remove-p .last .0)) (c .before .before .before .before .before .before .before .before .before .before .get0 .result) nul ≡ own-of (without-P (c .before .before .before .before .before .before .before .before .before .before .before .before .before .before .before .before .before .before .args .i) b) bs
-  own-record c H = own-read (after (c .before .before .before .before .before .before .before .before .before .before .before .before .before .before) H) (c .before .before .before .before .before .before .before .before .before .before .get0 .result) (c .before .before .before .before .before .before .before .before .before .before .get0 .ensures)
+  fits : (m : Removed) (H : Entry m b bs ss) → length (f m) / 2 + 1 ≤ length (after m H .free)
+  fits m H =
+      let h = is-member m H in
+      subst (λ (g : List ℕ). length g / 2 + 1 ≤ length (after m H .free)) (h .1) (freed-room H (after m H) (more-P b (i m) (h .0)))
 
+  gap : (c : tie.After-skip2) (H : Entry (removed (from-gap c)) b bs ss)
+      → let r = from-gap c in
+      let m = removed r in
+      Gap (after m H) (read r) (c .skip2 .result) (closed (i m) b) (before-T m b) (f m) (b .T)
+  gap c H =
+      let m = removed (from-gap c) in record { adds = adds m H; there = c .skip2 .ensures ∙ there (c .before) H; fits = fits m H }
+
+  own-is : (r : Reading) → Entry (removed r) b bs ss → own r ≡ own-of (closed (i (removed r)) b) bs
+  own-is r H =
+      let o = own-before r H in
+      mk-equal (w0-is o (p-read r .get02 .ensures)) (w1-is o (q-read r .get12 .ensures))
+      (count-T b (i (removed r)) (w2-is o (t-read r .get2 .ensures))) (w3-is o (r .get3 .ensures))
+
+-- The branch of which the contract speaks.
+opened : (m : Removed) → Entry m (start m .pre .0 .0) (start m .pre .0 .1) (start m .pre .0 .2)
+opened m = start m .pre .0 .3
+
+-- What is read and written lies inside, and what is written fits a word.
+at-in : (c : tie.After-get0) → c .get0 .result < room (w (from-at c))
+at-in c = let m = from-at c in omega (arith, at-inside (after m (opened m)) _ (c .get0 .ensures), m .remove-p .kept)
+
+own-inside : (c : tie.After-insert) → at (from-insert c) < room (c .insert .last .0)
+own-inside c = omega (arith, at-in (at-read (from-insert c)), c .insert .kept)
+
+control-inside : (c : tie.After-put-rec) → 0 < room (c .put-rec .last .0)
+control-inside c = omega (arith, own-inside (insert-of c), c .put-rec .kept)
+
+end-fits : (c : tie.After-insert) → let r = from-insert c in Fits w32 (end r + (length (f (removed r)) / 2 + 1))
+end-fits c =
+    let r = from-insert c in
+    let H = opened (removed r) in
+    end-in-fits (after (removed r) H) (read r) (gap (c .before .before) H)
+
+-- ── the needs ──
 remove-p-requires : tie.Need-remove-p-requires
-remove-p-requires c κs = (c .before .before .before .pre .0, λ b bs ss H. c .before .before .before .pre .1 .0 b bs ss H .0)
+remove-p-requires c κs = let s = c .before .before .before in (s .pre .0, λ b bs ss H. s .pre .1 .0 b bs ss H .0)
 
 get0-requires : tie.Need-get0-requires
 get0-requires c κs = search needs
@@ -70,16 +197,16 @@ cast-end : tie.Need-cast-end
 cast-end c = search needs
 
 get0-requires-2 : tie.Need-get0-requires-2
-get0-requires-2 c κs = omega (arith, at-inside (after (c .before .before .before .before .before .before .before) (c .before .before .before .before .before .before .before .before .before .before .before .pre .0 .3)) (c .before .before .before .get0 .result) (c .before .before .before .get0 .ensures))
+get0-requires-2 c κs = at-in (at-before-p c)
 
 get1-requires-2 : tie.Need-get1-requires-2
-get1-requires-2 c κs = omega (arith, at-inside (after (c .before .before .before .before .before .before .before .before .before) (c .before .before .before .before .before .before .before .before .before .before .before .before .before .pre .0 .3)) (c .before .before .before .before .before .get0 .result) (c .before .before .before .before .before .get0 .ensures))
+get1-requires-2 c κs = at-in (at-before-q c)
 
 get2-requires : tie.Need-get2-requires
-get2-requires c κs = omega (arith, at-inside (after (c .before .before .before .before .before .before .before .before .before .before .before) (c .before .before .before .before .before .before .before .before .before .before .before .before .before .before .before .pre .0 .3)) (c .before .before .before .before .before .before .before .get0 .result) (c .before .before .before .before .before .before .before .get0 .ensures))
+get2-requires c κs = at-in (at-before-t c)
 
 get3-requires : tie.Need-get3-requires
-get3-requires c κs = omega (arith, at-inside (after (c .before .before .before .before .before .before .before .before .before .before .before .before .before) (c .before .before .before .before .before .before .before .before .before .before .before .before .before .before .before .before .before .pre .0 .3)) (c .before .before .before .before .before .before .before .before .before .get0 .result) (c .before .before .before .before .before .before .before .before .before .get0 .ensures))
+get3-requires c κs = at-in (at-before-under c)
 
 add-skip : tie.Need-add-skip
 add-skip c = search needs
@@ -89,80 +216,80 @@ cast-skip c = search needs
 
 skip-requires : tie.Need-skip-requires
 skip-requires c κs =
-    let s = c .before .before .before .before .before .before .before .before .before .before .before .before .before .before .before .before .before .before .before in
-    let b = s .pre .0 .0 in
-    let H = after (c .before .before .before .before .before .before .before .before .before .before .before .before .before .before .before) (s .pre .0 .3) in
-    omega (arith, end-P H (c .before .before .before .before .before .before .before .before .before .before .before .get0 .result) (c .before .before .before .before .before .before .before .before .before .before .before .get0 .ensures) (c .before .before .before .before .before .before .before .get02 .result) (c .before .before .before .before .before .before .before .get02 .ensures), within H (remove (s .args .i) (b .P)) (b .Q ++ b .T) refl)
+    let m = removed (c .before) in
+    let b = start m .pre .0 .0 in
+    omega (arith, place-inside (after m (opened m)) (remove (i m) (b .P)) (b .Q ++ b .T) refl (end-P-is (c .before) (opened m)), m .remove-p .kept)
 
 cast-skip-2 : tie.Need-cast-skip-2
 cast-skip-2 c = search needs
 
 skip-requires-2 : tie.Need-skip-requires-2
 skip-requires-2 c κs =
-    let s = c .before .before .before .before .before .before .before .before .before .before .before .before .before .before .before .before .before .before .before .before in
-    let b = s .pre .0 .0 in
-    let H = after (c .before .before .before .before .before .before .before .before .before .before .before .before .before .before .before .before) (s .pre .0 .3) in
-    let q = c .before .before .before .before .before .before .get12 .result in
-    let n : q ≡ length (b .Q) = count-is c (s .pre .0 .3) in
-    let all-Q : take q (b .Q) ≡ b .Q = take-all q (b .Q) (omega arith) in
-    omega (arith, skip-Q H (c .skip .result) q (from-is c (s .pre .0 .3)) (omega arith), ap (λ (l : List (List ℕ)). place (at-of (s .pre .0 .1)) (remove (s .args .i) (b .P) ++ l)) all-Q, within H (before-T s b) (b .T) (parts s b))
+    let m = removed (from-skip c) in
+    let b = start m .pre .0 .0 in
+    omega (arith, place-inside (after m (opened m)) (before-T m b) (b .T) (adds m (opened m) .less) (there c (opened m)), m .remove-p .kept)
 
 insert-requires : tie.Need-insert-requires
 insert-requires c κs =
-    let s = c .before .before .before .before .before .before .before .before .before .before .before .before .before .before .before .before .before .before .before .before .before .before in
-    let b = s .pre .0 .0 in
-    let H = after (c .before .before .before .before .before .before .before .before .before .before .before .before .before .before .before .before .before .before) (s .pre .0 .3) in
-    let e = ends H (c .before .before .before .before .before .before .before .before .before .before .before .before .before .before .get0 .result) (c .before .before .before .before .before .before .before .before .before .before .before .before .get1 .result) (c .before .before .before .before .before .before .before .before .before .before .before .before .before .before .get0 .ensures) (c .before .before .before .before .before .before .before .before .before .before .before .before .get1 .ensures) in
-    (s .pre .1 .1, (omega (arith, e, there (c .before) (s .pre .0 .3), within H (before-T s b) (b .T) (parts s b)), omega (arith, end-small (c .before .before .before .before .before .before .before .before .before .before .before .before) (s .pre .0 .3))))
+    let r = from-gap (c .before) in
+    let m = removed r in
+    let g = gap-inside (after m (opened m)) (read r) (gap (c .before) (opened m)) in
+    (start m .pre .1 .1, (g .0, omega (arith, g .1, m .remove-p .kept)))
 
 add-put-rec : tie.Need-add-put-rec
 add-put-rec c =
-    let H = c .before .before .before .before .before .before .before .before .before .before .before .before .before .before .before .before .before .before .before .before .before .before .before .before .before .before .pre .0 .3 in
-    omega (arith, c .before .before .before .before .before .before .before .before .before .before .get2 .ensures, ap (λ (u : Rec). u .w2) (own-record (c .before .before .before .before .before .before .before .before) H), counts-small (after (c .before .before .before .before .before .before .before .before .before .before .before .before .before .before .before .before .before .before .before .before .before .before) H))
+    let r = from-insert (own-from-insert c) in
+    let H = opened (removed r) in
+    let H₁ = after (removed r) H in
+    fits-word H₁ (read r) (omega (arith, w2-is (own-before r H) (t-read r .get2 .ensures), counts-small H₁))
 
 put-rec-requires : tie.Need-put-rec-requires
-put-rec-requires c κs = omega (arith, at-inside (after (c .before .before .before .before .before .before .before .before .before .before .before .before .before .before .before .before .before .before .before .before .before .before) (c .before .before .before .before .before .before .before .before .before .before .before .before .before .before .before .before .before .before .before .before .before .before .before .before .before .before .pre .0 .3)) (c .before .before .before .before .before .before .before .before .before .before .before .before .before .before .before .before .before .before .get0 .result) (c .before .before .before .before .before .before .before .before .before .before .before .before .before .before .before .before .before .before .get0 .ensures))
+put-rec-requires c κs = own-inside (own-from-insert c)
 
 get2-requires-2 : tie.Need-get2-requires-2
-get2-requires-2 c κs = omega (arith, at-inside (after (c .before .before .before .before .before .before .before .before .before .before .before .before .before .before .before .before .before .before .before .before .before .before .before .before .before .before) (c .before .before .before .before .before .before .before .before .before .before .before .before .before .before .before .before .before .before .before .before .before .before .before .before .before .before .before .before .before .before .pre .0 .3)) (c .before .before .before .before .before .before .before .before .before .before .before .before .before .before .before .before .before .before .before .before .before .before .get0 .result) (c .before .before .before .before .before .before .before .before .before .before .before .before .before .before .before .before .before .before .before .before .before .before .get0 .ensures))
+get2-requires-2 c κs = control-inside (top-from-own c)
 
 get3-requires-2 : tie.Need-get3-requires-2
-get3-requires-2 c κs = omega (arith, at-inside (after (c .before .before .before .before .before .before .before .before .before .before .before .before .before .before .before .before .before .before .before .before .before .before .before .before .before .before .before .before) (c .before .before .before .before .before .before .before .before .before .before .before .before .before .before .before .before .before .before .before .before .before .before .before .before .before .before .before .before .before .before .before .before .pre .0 .3)) (c .before .before .before .before .before .before .before .before .before .before .before .before .before .before .before .before .before .before .before .before .before .before .before .before .get0 .result) (c .before .before .before .before .before .before .before .before .before .before .before .before .before .before .before .before .before .before .before .before .before .before .before .before .get0 .ensures), c .before .before .before .before .before .before .before .before .before .before .before .before .before .before .before .before .before .before .before .before .before .before .before .before .before .before .before .w .given)
+get3-requires-2 c κs = control-inside (systems-from-own c)
 
 cast-put-rec : tie.Need-cast-put-rec
-cast-put-rec c = search needs
+cast-put-rec c = let r = from-insert (insert-of (control-from-own c)) in at-fits (after (removed r) (opened (removed r))) (read r)
 
 add-put-rec-2 : tie.Need-add-put-rec-2
-add-put-rec-2 c = omega (arith, c .before .before .before .before .before .before .before .before .before .before .before .before .before .before .before .before .before .before .before .before .before .before .before .before .before .before .before .before .before .before .before .before .before .before .pre .1 .1 .few)
+add-put-rec-2 c = omega (arith, end-fits (insert-of (control-from-own c)))
 
 add-put-rec-3 : tie.Need-add-put-rec-3
-add-put-rec-3 c = omega (arith, end-small (c .before .before .before .before .before .before .before .before .before .before .before .before .before .before .before .before .before .before .before .before .before .before .before .before) (c .before .before .before .before .before .before .before .before .before .before .before .before .before .before .before .before .before .before .before .before .before .before .before .before .before .before .before .before .before .before .before .before .before .before .pre .0 .3))
+add-put-rec-3 c = omega (arith, end-fits (insert-of (control-from-own c)))
 
 cast-put-rec-2 : tie.Need-cast-put-rec-2
-cast-put-rec-2 c = omega (arith, end-small (c .before .before .before .before .before .before .before .before .before .before .before .before .before .before .before .before .before .before .before .before .before .before .before .before) (c .before .before .before .before .before .before .before .before .before .before .before .before .before .before .before .before .before .before .before .before .before .before .before .before .before .before .before .before .before .before .before .before .before .before .pre .0 .3))
+cast-put-rec-2 c = end-fits (insert-of (control-from-own c))
 
 put-rec-requires-2 : tie.Need-put-rec-requires-2
-put-rec-requires-2 c κs = omega (arith, at-inside (after (c .before .before .before .before .before .before .before .before .before .before .before .before .before .before .before .before .before .before .before .before .before .before .before .before .before .before .before .before .before .before) (c .before .before .before .before .before .before .before .before .before .before .before .before .before .before .before .before .before .before .before .before .before .before .before .before .before .before .before .before .before .before .before .before .before .before .pre .0 .3)) (c .before .before .before .before .before .before .before .before .before .before .before .before .before .before .before .before .before .before .before .before .before .before .before .before .before .before .get0 .result) (c .before .before .before .before .before .before .before .before .before .before .before .before .before .before .before .before .before .before .before .before .before .before .before .before .before .before .get0 .ensures), c .before .before .before .before .before .before .before .before .before .before .before .before .before .before .before .before .before .before .before .before .before .before .before .before .before .before .before .before .before .w .given)
+put-rec-requires-2 c κs = control-inside (control-from-own c)
 
 same-length : tie.Need-same-length
-same-length c = omega (arith, c .before .before .before .before .before .before .before .before .before .before .before .before .before .before .before .before .before .before .before .before .before .before .before .before .before .before .before .before .before .before .before .before .w .given)
+same-length c =
+    let o = control-from-own (c .before .before .before) in
+    let n = insert-of o in
+    c .before .before .put-rec2 .kept .0 ∙ o .put-rec .kept .0 ∙ n .insert .kept .0 ∙ removed (from-insert n) .remove-p .kept .0
 
 returns : tie.Need-returns
 returns c b bs ss H =
-    let s = c .before .before .before .before .before .before .before .before .before .before .before .before .before .before .before .before .before .before .before .before .before .before .before .before .before .before .before .before .before .before .before .before .before .before .before .before .before in
-    let i = s .args .i in
-    let f = s .args .f .now in
-    let h = s .pre .1 .0 b bs ss H in
-    let H₁ = after (c .before .before .before .before .before .before .before .before .before .before .before .before .before .before .before .before .before .before .before .before .before .before .before .before .before .before .before .before .before .before .before .before .before) H in
-    let a = c .before .before .before .before .before .before .before .before .before .before .before .before .before .before .before .before .before .before .before .before .before .before .before .before .before .before .before .before .before .get0 in
-    let e = c .before .before .before .before .before .before .before .before .before .before .before .before .before .before .before .before .before .before .before .before .before .before .before .before .before .before .before .get1 in
-    let own = own-record (c .before .before .before .before .before .before .before .before .before .before .before .before .before .before .before .before .before .before .before) H in
-    let count : c .before .before .before .before .before .before .before .before .before .before .before .before .before .before .before .before .before .before .before .before .before .get2 .result + 1 ≡ length (closed i b .T) = omega (arith, c .before .before .before .before .before .before .before .before .before .before .before .before .before .before .before .before .before .before .before .before .before .get2 .ensures, ap (λ (u : Rec). u .w2) own) in
-    taken-in H₁ (a .result) (e .result) (a .ensures) (e .ensures) (before-T s b) (b .T) (parts s b) f (fits (c .before .before .before .before .before .before .before .before .before .before .before .before .before .before .before .before .before .before .before .before .before .before .before .before .before .before .before .before .before .before .before .before .before) H) (c .before .before .before .before .before .before .before .before .before .before .before .before .before .before .before .before .skip2 .result) (there (c .before .before .before .before .before .before .before .before .before .before .before .before .before .before .before .before) H) (view (c .before .before .before .before .before .before .before .before .before .before .before .before .before .before .insert .last .0)) (c .before .before .before .before .before .before .before .before .before .before .before .before .before .before .insert .ensures)
-    (closed i b) (parted-closed b i f (h .1)) (H₁ .storable .0 .0, H₁ .storable .0 .1, (storable-member (b .P) i (h .0) (H .storable .0 .0), H₁ .storable .0 .2))
-    (mk (c .before .before .before .before .before .before .before .before .before .before .before .before .before .before .before .before .before .before .before .before .before .before .before .before .before .get02 .result) (c .before .before .before .before .before .before .before .before .before .before .before .before .before .before .before .before .before .before .before .before .before .before .before .get12 .result) (c .before .before .before .before .before .before .before .before .before .before .before .before .before .before .before .before .before .before .before .before .before .get2 .result + 1) (c .before .before .before .before .before .before .before .before .before .before .before .before .before .before .before .before .before .before .before .get3 .result))
-    (mk-equal (c .before .before .before .before .before .before .before .before .before .before .before .before .before .before .before .before .before .before .before .before .before .before .before .before .before .get02 .ensures ∙ ap (λ (u : Rec). u .w0) own) (c .before .before .before .before .before .before .before .before .before .before .before .before .before .before .before .before .before .before .before .before .before .before .before .get12 .ensures ∙ ap (λ (u : Rec). u .w1) own) count (c .before .before .before .before .before .before .before .before .before .before .before .before .before .before .before .before .before .before .before .get3 .ensures ∙ ap (λ (u : Rec). u .w3) own))
-    (view (c .before .before .before .before .before .before .before .before .before .before .put-rec .last .0)) (c .before .before .before .before .before .before .before .before .before .before .put-rec .ensures) (c .before .before .before .before .before .before .get22 .result) (c .before .before .before .before .get32 .result) (c .before .before .before .before .before .before .get22 .ensures) (c .before .before .before .before .get32 .ensures) (view (c .before .before .put-rec2 .last .0)) (c .before .before .put-rec2 .ensures)
+    let k = c .before .before .before in
+    let o = control-from-own k in
+    let n = insert-of o in
+    let r = from-insert n in
+    let m = removed r in
+    held-in (after m H) (read r) (gap (n .before .before) H) (n .insert .ensures) (storable-T b (i m) (is-member m H .0) (storable-open H)) (own-is r H)
+    (record {
+      v₂ = view (o .put-rec .last .0);
+      own-put = o .put-rec .ensures;
+      top = k .before .before .before .get22 .result;
+      top-word = k .before .before .before .get22 .ensures;
+      systems = k .before .get32 .result;
+      systems-word = k .before .get32 .ensures;
+      control-put = c .before .before .put-rec2 .ensures;
+    })
 
 pub close-spec : {M : Type 1} → statement M
 close-spec =

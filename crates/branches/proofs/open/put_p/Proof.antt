@@ -267,7 +267,9 @@ put-rec-requires-2 : tie.Need-put-rec-requires-2
 put-rec-requires-2 c κs = control-inside (own-from-control c)
 
 same-length-4 : tie.Need-same-length-4
-same-length-4 c = search needs
+same-length-4 c =
+    let o = own-from-control (c .before .before .before) in
+    c .before .before .put-rec2 .kept .0 ∙ o .put-rec .kept .0 ∙ insert-of o .insert .kept .0
 
 returns-4 : tie.Need-returns-4
 returns-4 c b bs ss H =

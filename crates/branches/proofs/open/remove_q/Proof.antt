@@ -257,7 +257,9 @@ put-rec-requires-2 : tie.Need-put-rec-requires-2
 put-rec-requires-2 c κs = control-inside (control-from-own c)
 
 same-length : tie.Need-same-length
-same-length c = search needs
+same-length c =
+    let o = control-from-own (c .before .before .before) in
+    c .before .before .put-rec2 .kept .0 ∙ o .put-rec .kept .0 ∙ remove-of o .remove .kept .0
 
 returns : tie.Need-returns
 returns c b bs ss H =

@@ -2,7 +2,6 @@
 -- and writing the counts anew leaves; `PutLaws` when a put keeps, changes or finds no room for the branch.
 -- `TurnLaws` has the words of the control record and of the open branch's own, and what dropping and listing leave; `LengthLaws` what words of one length hold.
 pub mod AreaLaws
-pub mod ChangeLaws
 pub mod LengthLaws
 pub mod OpenLaws
 pub mod PutLaws

@@ -13,8 +13,7 @@ use Rattle.stored.specs.laws.Stored.{equal-of-same, length-le-polys-records}
 use Rattle.branches.specs.Words.{put-P, put-Q, put-Q-before, is-zero, is-one, unless, remove}
 use Rattle.branches.specs.Area.{Stored, Area, Held, Leaves, size, with-open, All-storable, put-into-P, put-into-Q, without-P, closed}
 use Rattle.branches.proofs.AreaLaws.{lies, first-is, place, place-add, place-one, all, at-of, end-of, end-is, room-is, storable-take, storable-member, parted-Q, in-Q, skip-Q}
-use Rattle.branches.proofs.OpenLaws.{Storable-branch, storable-remove}
-use Rattle.branches.proofs.ChangeLaws.{More, more-ends, more-P}
+use Rattle.branches.proofs.OpenLaws.{Storable-branch, storable-remove, More, more-ends}
 
 -- ── the answers ──
 pub leaves-held : {v : List Rec} {most : ℕ} {a : Area} → Held v most a → Leaves most a true v

@@ -22,6 +22,12 @@ finish b bs = 1 + length (stack (b ∷ bs) .0)
 abbrev pub own : Stored → List Stored → Rec
 own b bs = mk (length (b .P)) (length (b .Q)) (length (b .T)) (stack bs .1)
 
+-- The words of the control record that say where the open branch starts and ends, and where the systems start.
+pub record Bounds (v : List Rec) (at end top : ℕ) : Type 0 where
+  pub at-word : at ≡ getD v 0 nul .w0
+  pub end-word : end ≡ getD v 0 nul .w1
+  pub top-word : top ≡ getD v 0 nul .w2
+
 -- A system takes a record or more.
 pub length-le-systems-records : (ss : List Stored) → length ss ≤ length (systems-records ss)
 unfolding systems-records
@@ -78,13 +84,12 @@ module _ {v : List Rec} {most : ℕ} {b : Stored} {bs ss : List Stored} (H : Hel
         storable = (H .storable .0 .3, H .storable .1);
       }
 
-  -- The branch's records moved up to the end of the free ones, and its own record made a system's.
-  pub listed : (v₁ v₂ v₃ : List Rec) (at n to p q t x k : ℕ) → at ≡ start bs → at + n ≡ finish b bs → to + n ≡ finish b bs + length (H .free)
+  moved-up : (v₁ v₂ v₃ : List Rec) (at n to p q t x k : ℕ) → at ≡ start bs → at + n ≡ finish b bs → to + n ≡ finish b bs + length (H .free)
       → p ≡ length (b .P) → q ≡ length (b .Q) → t ≡ length (b .T) → x ≡ stack bs .1 → k ≡ length ss + 1
       → v₁ ≡ moved v at n to → v₂ ≡ set v₁ to (mk p q t 0) → v₃ ≡ set v₂ 0 (mk x at to k)
       → Held v₃ most (record { branches = bs; systems = b ∷ ss })
   unfolding behind systems-records
-  listed v₁ v₂ v₃ at n to p q t x k eat en eto ep eq et ex ek e₁ e₂ e₃ =
+  moved-up v₁ v₂ v₃ at n to p q t x k eat en eto ep eq et ex ek e₁ e₂ e₃ =
       let B : List Rec = branch-records (stack bs .1) b in
       let rest : List Rec = polys-records (b .P) ++ (polys-records (b .Q) ++ polys-records (b .T)) in
       let ctl : Rec = mk (start bs) (finish b bs) (finish b bs + length (H .free)) (length ss) in
@@ -117,6 +122,29 @@ module _ {v : List Rec} {most : ℕ} {b : Stored} {bs ss : List Stored} (H : Hel
         few = H .few;
         storable = (H .storable .0 .3, (H .storable .0 .0, H .storable .0 .1, H .storable .0 .2, H .storable .1));
       }
+
+  -- What the control record says, where it was read.
+  module _ {at end top : ℕ} (B : Bounds v at end top) where
+    pub at-is : at ≡ start bs
+    at-is = B .at-word ∙ ap (λ (r : Rec). r .w0) control
+
+    pub end-is : end ≡ finish b bs
+    end-is = B .end-word ∙ ap (λ (r : Rec). r .w1) control
+
+    pub top-is : top ≡ finish b bs + length (H .free)
+    top-is = B .top-word ∙ ap (λ (r : Rec). r .w2) control
+
+    pub bounds-inside : (at < end) × (end ≤ top) × (top ≤ most)
+    bounds-inside = (omega (arith, at-is, end-is, within), omega (arith, end-is, top-is), omega (arith, top-is, H .fits))
+
+    -- The branch's records moved up to the end of the free ones, and its own record made a system's.
+    pub listed : {v₁ v₂ v₃ : List Rec} {p q t x k : ℕ} → mk p q t x ≡ own b bs → k ≡ length ss
+        → v₁ ≡ moved v at (end - at) (top - (end - at)) → v₂ ≡ set v₁ (top - (end - at)) (mk p q t 0)
+        → v₃ ≡ set v₂ 0 (mk x at (top - (end - at)) (k + 1)) → Held v₃ most (record { branches = bs; systems = b ∷ ss })
+    listed {p = p} {q = q} {t = t} {x = x} {k = k} o e e₁ e₂ e₃ =
+        let h = bounds-inside in
+        moved-up _ _ _ at (end - at) (top - (end - at)) p q t x (k + 1) at-is (omega (arith, end-is)) (omega (arith, top-is)) (ap (λ (r : Rec). r .w0) o)
+        (ap (λ (r : Rec). r .w1) o) (ap (λ (r : Rec). r .w2) o) (ap (λ (r : Rec). r .w3) o) (ap (λ (n : ℕ). n + 1) e) e₁ e₂ e₃
 
 -- An empty first branch.
 pub begun : (v v₁ v₂ : List Rec) (most : ℕ) → 2 ≤ most → most ≤ length v → most ≤ 65536 → v₁ ≡ set v 0 (mk 1 2 most 0) → v₂ ≡ set v₁ 1 (mk 0 0 0 0)

@@ -11,8 +11,8 @@ use Rattle.stored.specs.Stored.{skip-to}
 use Rattle.branches.specs.Words.{remove}
 use Rattle.branches.specs.Area.{Stored, Held, with-open, capacity, without-P, closed}
 use Rattle.branches.proofs.AreaLaws.{place, at-of, own-of, own-read, storable-open, place-inside, at-inside, end-P, end-Q}
-use Rattle.branches.proofs.ChangeLaws.{More, more-P, freed-room, Read, Gap, fits-word, at-fits, gap-inside, end-in-fits, held-in}
-use Rattle.branches.proofs.ChangeLaws.{mk-equal, w0-is, w1-is, w2-is, w3-is}
+use Rattle.branches.proofs.OpenLaws.{More, more-P, freed-room, Read, Gap, fits-word, at-fits, gap-inside, end-in-fits, held-in}
+use Rattle.branches.proofs.OpenLaws.{mk-equal, w0-is, w1-is, w2-is, w3-is}
 use Rattle.branches.proofs.LengthLaws.{inside-room}
 use Rattle.branches.proofs.PutLaws.{counts-small, adds-T, count-T, storable-T}
 use borrow.Author.Needs.{needs}

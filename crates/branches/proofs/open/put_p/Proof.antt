@@ -11,8 +11,8 @@ use Rattle.stored.specs.Stored.{member, skip-to}
 use Rattle.branches.specs.Words.{put-P}
 use Rattle.branches.specs.Area.{Stored, Held, with-open, capacity, put-into-P}
 use Rattle.branches.proofs.AreaLaws.{place, at-of, own-of, storable-open, place-inside, at-inside, end-P, p-is, all-P}
-use Rattle.branches.proofs.ChangeLaws.{Read, Gap, free-is, fits-word, at-fits, top-fits, gap-inside, end-in-fits, own-in, top-kept, held-in}
-use Rattle.branches.proofs.ChangeLaws.{mk-equal, w1-is, w2-is, w3-is}
+use Rattle.branches.proofs.OpenLaws.{Read, Gap, free-is, fits-word, at-fits, top-fits, gap-inside, end-in-fits, own-in, top-kept, held-in}
+use Rattle.branches.proofs.OpenLaws.{mk-equal, w1-is, w2-is, w3-is}
 use Rattle.branches.proofs.LengthLaws.{inside-room}
 use Rattle.branches.proofs.PutLaws.{counts-small, leaves-held, leaves-same, no-room}
 use Rattle.branches.proofs.PutLaws.{put-P-zero, put-P-found, put-P-new, kept-P, adds-P, count-P, storable-P}

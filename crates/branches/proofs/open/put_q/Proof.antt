@@ -13,8 +13,8 @@ use Rattle.stored.specs.Stored.{member, skip-to}
 use Rattle.branches.specs.Words.{put-Q, is-one}
 use Rattle.branches.specs.Area.{Stored, Held, with-open, capacity, put-into-Q}
 use Rattle.branches.proofs.AreaLaws.{place, at-of, own-of, storable-open, place-inside, at-inside, end-P, p-is, q-is, parted-Q}
-use Rattle.branches.proofs.ChangeLaws.{Read, Gap, free-is, fits-word, at-fits, top-fits, gap-inside, end-in-fits, own-in, top-kept, held-in}
-use Rattle.branches.proofs.ChangeLaws.{mk-equal, w2-is, w3-is}
+use Rattle.branches.proofs.OpenLaws.{Read, Gap, free-is, fits-word, at-fits, top-fits, gap-inside, end-in-fits, own-in, top-kept, held-in}
+use Rattle.branches.proofs.OpenLaws.{mk-equal, w2-is, w3-is}
 use Rattle.branches.proofs.LengthLaws.{inside-room}
 use Rattle.branches.proofs.PutLaws.{counts-small, leaves-held, leaves-same, no-room, one, not-one-by-length, not-one-by-coefficient, not-one-by-monomial}
 use Rattle.branches.proofs.PutLaws.{put-Q-one, put-Q-found, put-Q-new, seen, seen-Q, behind-seen, kept-Q, adds-Q, count-Q, storable-Q}

@@ -8,8 +8,8 @@ use Rattle.records.specs.Records.{Rec, mk, nul, view, room}
 use Rattle.stored.specs.Stored.{skip-to}
 use Rattle.branches.specs.Area.{Stored, Held, with-open, capacity, without-P}
 use Rattle.branches.proofs.AreaLaws.{place, at-of, own-of, storable-open, place-inside, at-inside, skip-P, parted-P}
-use Rattle.branches.proofs.ChangeLaws.{More, more-P, Read, Spot, spot, at-fits, member-inside, spot-inside, end-out-fits, own-out, held-out}
-use Rattle.branches.proofs.ChangeLaws.{mk-equal, w0-is, w1-is, w2-is, w3-is}
+use Rattle.branches.proofs.OpenLaws.{More, more-P, Read, Spot, spot, at-fits, member-inside, spot-inside, end-out-fits, own-out, held-out}
+use Rattle.branches.proofs.OpenLaws.{mk-equal, w0-is, w1-is, w2-is, w3-is}
 use Rattle.branches.proofs.LengthLaws.{inside-room}
 use Rattle.branches.proofs.OpenLaws.{count-remove, storable-remove}
 use borrow.Author.Needs.{needs}

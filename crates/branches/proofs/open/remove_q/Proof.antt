@@ -8,8 +8,8 @@ use Rattle.records.specs.Records.{Rec, mk, nul, view, room}
 use Rattle.stored.specs.Stored.{skip-to}
 use Rattle.branches.specs.Area.{Stored, Held, with-open, capacity, without-Q}
 use Rattle.branches.proofs.AreaLaws.{place, at-of, own-of, storable-open, place-inside, at-inside, skip-Q, end-P, p-is, parted-Q}
-use Rattle.branches.proofs.ChangeLaws.{More, more-Q, Read, Spot, spot, at-fits, member-inside, spot-inside, end-out-fits, own-out, held-out}
-use Rattle.branches.proofs.ChangeLaws.{mk-equal, w1-is, w2-is, w3-is}
+use Rattle.branches.proofs.OpenLaws.{More, more-Q, Read, Spot, spot, at-fits, member-inside, spot-inside, end-out-fits, own-out, held-out}
+use Rattle.branches.proofs.OpenLaws.{mk-equal, w1-is, w2-is, w3-is}
 use Rattle.branches.proofs.LengthLaws.{inside-room}
 use Rattle.branches.proofs.OpenLaws.{count-remove, storable-remove}
 use borrow.Author.Needs.{needs}

@@ -1,25 +1,111 @@
--- `turn::list`: `listed` with the words read.
-use mathlib.Core.Path.{_≡_, ap, _∙_}
+-- `turn::list` meets its contract: the branch's records are moved up to the systems, and both records are written anew.
+use mathlib.Core.Path.{_≡_, refl, ap, _∙_}
+use mathlib.Core.List.{List}
 use Prim.Native.Nat.{ℕ, _+_, _-_, _≤_, _<_}
 use native.Mathlib.Omega.{arith}
-use lib.ListN.{length, getD}
-use Rattle.records.specs.Records.{Rec, nul, room, view}
-use Rattle.records.proofs.Rows.{length-view}
-use Rattle.branches.proofs.TurnLaws.{start, finish, control, own-record, within, listed}
+use lib.ListN.{length}
+use Rattle.records.specs.Records.{Rec, mk, room, view}
+use Rattle.branches.specs.Area.{Stored, Held, with-open, capacity}
+use Rattle.branches.proofs.LengthLaws.{inside-room}
+use Rattle.branches.proofs.OpenLaws.{mk-equal, w0-is, w1-is, w2-is, w3-is}
+use Rattle.branches.proofs.TurnLaws.{own, control, own-record, within, Bounds, at-is, bounds-inside, listed}
 use borrow.Author.Needs.{needs}
 use Rattle.branches.proofs.turn.list.Statement.{statement}
 use Rattle.branches.proofs.turn.list.Tie as tie
 
--- The open branch, the free records and the systems lie in the words.
-inside : (s : tie.Start) → let r = getD (view (s .args .w .now)) 0 nul in (r .w0 < r .w1) × (r .w1 ≤ r .w2) × (r .w2 ≤ room (s .args .w .now)) × (r .w3 < 65536)
-inside s =
-    let H = s .pre .3 in
-    let x0 = ap (λ (r : Rec). r .w0) (control H) in
-    let x1 = ap (λ (r : Rec). r .w1) (control H) in
-    let x2 = ap (λ (r : Rec). r .w2) (control H) in
-    let x3 = ap (λ (r : Rec). r .w3) (control H) in
-    (omega (arith, within H), omega arith, omega (arith, within H, length-view (s .args .w .now)), omega (arith, within H))
+-- ── the places, and the ways back from one to another ──
+-- The control record is read.
+abbrev Reading : Type 0
+Reading = tie.After-get3
 
+abbrev top-read : Reading → tie.After-get2
+top-read r = r .before .before
+
+abbrev end-read : Reading → tie.After-get1
+end-read r = top-read r .before .before
+
+abbrev at-read : Reading → tie.After-get0
+at-read r = end-read r .before .before
+
+abbrev start : Reading → tie.Start
+start r = at-read r .before .before .before
+
+-- The words of the branch's own record are read.
+abbrev from-q : tie.After-get1-arg2 → Reading
+from-q c = c .before .before .before
+
+abbrev from-t : tie.After-get2-arg2 → Reading
+from-t c = from-q (c .before .before)
+
+abbrev from-under : tie.After-get3-arg2 → Reading
+from-under c = from-t (c .before .before)
+
+abbrev from-own : tie.After-get32 → Reading
+from-own c = from-under (c .before)
+
+abbrev t-read : tie.After-get32 → tie.After-get22
+t-read c = c .before .before
+
+abbrev q-read : tie.After-get32 → tie.After-get12
+q-read c = t-read c .before .before
+
+abbrev p-read : tie.After-get32 → tie.After-get02
+p-read c = q-read c .before .before
+
+-- The records are moved up; the branch's own is written; the control record is.
+abbrev from-move : tie.After-move-up → Reading
+from-move c = from-own (c .before .before)
+
+abbrev move-from-put : tie.After-put-rec-arg → tie.After-move-up
+move-from-put c = c .before .before .before
+
+abbrev put-from-control : tie.After-put-rec-arg2 → tie.After-put-rec
+put-from-control c = c .before .before .before
+
+abbrev move-of : tie.After-put-rec → tie.After-move-up
+move-of c = move-from-put (c .before)
+
+-- ── what is read ──
+abbrev w : Reading → List ℕ
+w r = start r .args .w .now
+
+abbrev at : Reading → ℕ
+at r = at-read r .get0 .result
+
+abbrev end : Reading → ℕ
+end r = end-read r .get1 .result
+
+abbrev top : Reading → ℕ
+top r = top-read r .get2 .result
+
+bounds : (r : Reading) → Bounds (view (w r)) (at r) (end r) (top r)
+bounds r = record { at-word = at-read r .get0 .ensures; end-word = end-read r .get1 .ensures; top-word = top-read r .get2 .ensures }
+
+-- ── what is known ──
+abbrev Entry : Reading → Stored → List Stored → List Stored → Type 0
+Entry r b bs ss = Held (view (w r)) (capacity (w r)) (with-open b bs ss)
+
+module _ {b : Stored} {bs ss : List Stored} where
+  own-is : (c : tie.After-get32) → Entry (from-own c) b bs ss
+      → mk (p-read c .get02 .result) (q-read c .get12 .result) (t-read c .get22 .result) (c .get32 .result) ≡ own b bs
+  own-is c H =
+      let o = own-record H _ (at-is H (bounds (from-own c))) in
+      mk-equal (w0-is o (p-read c .get02 .ensures)) (w1-is o (q-read c .get12 .ensures)) (w2-is o (t-read c .get22 .ensures)) (w3-is o (c .get32 .ensures))
+
+  systems-is : (r : Reading) → Entry r b bs ss → r .get3 .result ≡ length ss
+  systems-is r H = w3-is (control H) (r .get3 .ensures)
+
+-- The branch of which the contract speaks, and that it and the free records lie inside.
+opened : (r : Reading) → Entry r (start r .pre .0) (start r .pre .1) (start r .pre .2)
+opened r = start r .pre .3
+
+inside : (r : Reading) → (at r < end r) × (end r ≤ top r) × (top r ≤ room (w r))
+inside r = let h = bounds-inside (opened r) (bounds r) in (h .0, h .1, inside-room (w r) (h .2))
+
+own-inside : (r : Reading) → at r < room (w r)
+own-inside r = let h = inside r in omega (arith, h .0, h .1, h .2)
+
+-- ── the needs ──
 get0-requires : tie.Need-get0-requires
 get0-requires c κs = search needs
 
@@ -42,31 +128,31 @@ get3-requires : tie.Need-get3-requires
 get3-requires c κs = search needs
 
 get0-requires-2 : tie.Need-get0-requires-2
-get0-requires-2 c κs = omega (arith, inside (c .before .before .before .before .before .before .before .before .before .before), c .before .before .before .before .before .before .before .get0 .ensures, c .before .before .before .before .before .get1 .ensures, c .before .before .before .get2 .ensures, c .before .get3 .ensures)
+get0-requires-2 c κs = own-inside (c .before)
 
 get1-requires-2 : tie.Need-get1-requires-2
-get1-requires-2 c κs = omega (arith, inside (c .before .before .before .before .before .before .before .before .before .before .before .before), c .before .before .before .before .before .before .before .before .before .get0 .ensures, c .before .before .before .before .before .before .before .get1 .ensures, c .before .before .before .before .before .get2 .ensures, c .before .before .before .get3 .ensures)
+get1-requires-2 c κs = own-inside (from-q c)
 
 get2-requires-2 : tie.Need-get2-requires-2
-get2-requires-2 c κs = omega (arith, inside (c .before .before .before .before .before .before .before .before .before .before .before .before .before .before), c .before .before .before .before .before .before .before .before .before .before .before .get0 .ensures, c .before .before .before .before .before .before .before .before .before .get1 .ensures, c .before .before .before .before .before .before .before .get2 .ensures, c .before .before .before .before .before .get3 .ensures)
+get2-requires-2 c κs = own-inside (from-t c)
 
 get3-requires-2 : tie.Need-get3-requires-2
-get3-requires-2 c κs = omega (arith, inside (c .before .before .before .before .before .before .before .before .before .before .before .before .before .before .before .before), c .before .before .before .before .before .before .before .before .before .before .before .before .before .get0 .ensures, c .before .before .before .before .before .before .before .before .before .before .before .get1 .ensures, c .before .before .before .before .before .before .before .before .before .get2 .ensures, c .before .before .before .before .before .before .before .get3 .ensures)
+get3-requires-2 c κs = own-inside (from-under c)
 
 sub-to : tie.Need-sub-to
-sub-to c = omega (arith, inside (c .before .before .before .before .before .before .before .before .before .before .before .before .before .before .before .before .before), c .before .before .before .before .before .before .before .before .before .before .before .before .before .before .get0 .ensures, c .before .before .before .before .before .before .before .before .before .before .before .before .get1 .ensures, c .before .before .before .before .before .before .before .before .before .before .get2 .ensures, c .before .before .before .before .before .before .before .before .get3 .ensures)
+sub-to c = omega (arith, inside (from-own c))
 
 sub-to-2 : tie.Need-sub-to-2
-sub-to-2 c = omega (arith, inside (c .before .before .before .before .before .before .before .before .before .before .before .before .before .before .before .before .before), c .before .before .before .before .before .before .before .before .before .before .before .before .before .before .get0 .ensures, c .before .before .before .before .before .before .before .before .before .before .before .before .get1 .ensures, c .before .before .before .before .before .before .before .before .before .before .get2 .ensures, c .before .before .before .before .before .before .before .before .get3 .ensures)
+sub-to-2 c = omega (arith, inside (from-own c))
 
 sub-move-up : tie.Need-sub-move-up
-sub-move-up c = omega (arith, inside (c .before .before .before .before .before .before .before .before .before .before .before .before .before .before .before .before .before .before), c .before .before .before .before .before .before .before .before .before .before .before .before .before .before .before .get0 .ensures, c .before .before .before .before .before .before .before .before .before .before .before .before .before .get1 .ensures, c .before .before .before .before .before .before .before .before .before .before .before .get2 .ensures, c .before .before .before .before .before .before .before .before .before .get3 .ensures)
+sub-move-up c = omega (arith, inside (from-own (c .before)))
 
 move-up-requires : tie.Need-move-up-requires
-move-up-requires c κs = (omega (arith, inside (c .before .before .before .before .before .before .before .before .before .before .before .before .before .before .before .before .before .before), c .before .before .before .before .before .before .before .before .before .before .before .before .before .before .before .get0 .ensures, c .before .before .before .before .before .before .before .before .before .before .before .before .before .get1 .ensures, c .before .before .before .before .before .before .before .before .before .before .before .get2 .ensures, c .before .before .before .before .before .before .before .before .before .get3 .ensures), omega (arith, inside (c .before .before .before .before .before .before .before .before .before .before .before .before .before .before .before .before .before .before), c .before .before .before .before .before .before .before .before .before .before .before .before .before .before .before .get0 .ensures, c .before .before .before .before .before .before .before .before .before .before .before .before .before .get1 .ensures, c .before .before .before .before .before .before .before .before .before .before .before .get2 .ensures, c .before .before .before .before .before .before .before .before .before .get3 .ensures))
+move-up-requires c κs = let h = inside (from-own (c .before)) in (omega (arith, h), omega (arith, h))
 
 put-rec-requires : tie.Need-put-rec-requires
-put-rec-requires c κs = omega (arith, inside (c .before .before .before .before .before .before .before .before .before .before .before .before .before .before .before .before .before .before .before .before .before .before), c .before .before .before .before .before .before .before .before .before .before .before .before .before .before .before .before .before .before .before .get0 .ensures, c .before .before .before .before .before .before .before .before .before .before .before .before .before .before .before .before .before .get1 .ensures, c .before .before .before .before .before .before .before .before .before .before .before .before .before .before .before .get2 .ensures, c .before .before .before .before .before .before .before .before .before .before .before .before .before .get3 .ensures)
+put-rec-requires c κs = let m = move-from-put c in omega (arith, inside (from-move m), m .move-up .kept)
 
 cast-put-rec : tie.Need-cast-put-rec
 cast-put-rec c = search needs
@@ -75,7 +161,7 @@ cast-put-rec-2 : tie.Need-cast-put-rec-2
 cast-put-rec-2 c = search needs
 
 add-put-rec : tie.Need-add-put-rec
-add-put-rec c = omega (arith, inside (c .before .before .before .before .before .before .before .before .before .before .before .before .before .before .before .before .before .before .before .before .before .before .before .before .before .before), c .before .before .before .before .before .before .before .before .before .before .before .before .before .before .before .before .before .before .before .before .before .before .before .get0 .ensures, c .before .before .before .before .before .before .before .before .before .before .before .before .before .before .before .before .before .before .before .before .before .get1 .ensures, c .before .before .before .before .before .before .before .before .before .before .before .before .before .before .before .before .before .before .before .get2 .ensures, c .before .before .before .before .before .before .before .before .before .before .before .before .before .before .before .before .before .get3 .ensures)
+add-put-rec c = let r = from-move (move-of (put-from-control c)) in omega (arith, systems-is r (opened r), within (opened r))
 
 put-rec-requires-2 : tie.Need-put-rec-requires-2
 put-rec-requires-2 c κs = search needs
@@ -85,19 +171,10 @@ same-length c = search needs
 
 returns : tie.Need-returns
 returns c b bs ss H =
-    let at = c .before .before .before .before .before .before .before .before .before .before .before .before .before .before .before .before .before .before .before .before .before .before .before .before .before .before .get0 .result in
-    let end = c .before .before .before .before .before .before .before .before .before .before .before .before .before .before .before .before .before .before .before .before .before .before .before .before .get1 .result in
-    let top = c .before .before .before .before .before .before .before .before .before .before .before .before .before .before .before .before .before .before .before .before .before .before .get2 .result in
-    let eat : at ≡ start bs = c .before .before .before .before .before .before .before .before .before .before .before .before .before .before .before .before .before .before .before .before .before .before .before .before .before .before .get0 .ensures ∙ ap (λ (r : Rec). r .w0) (control H) in
-    let eend : end ≡ finish b bs = c .before .before .before .before .before .before .before .before .before .before .before .before .before .before .before .before .before .before .before .before .before .before .before .before .get1 .ensures ∙ ap (λ (r : Rec). r .w1) (control H) in
-    let etop : top ≡ finish b bs + length (H .free) = c .before .before .before .before .before .before .before .before .before .before .before .before .before .before .before .before .before .before .before .before .before .before .get2 .ensures ∙ ap (λ (r : Rec). r .w2) (control H) in
-    let more : c .before .before .before .before .before .before .before .before .before .before .before .before .before .before .before .before .before .before .before .before .get3 .result + 1 ≡ length ss + 1 = ap (λ (k : ℕ). k + 1) (c .before .before .before .before .before .before .before .before .before .before .before .before .before .before .before .before .before .before .before .before .get3 .ensures ∙ ap (λ (r : Rec). r .w3) (control H)) in
-    let record-is = own-record H at eat in
-    listed H (view (c .before .before .before .before .before .before .before .before .before .before .move-up .last .0)) (view (c .before .before .before .before .before .before .put-rec .last .0)) (view (c .before .before .put-rec2 .last .0)) at (end - at) (top - (end - at))
-    (c .before .before .before .before .before .before .before .before .before .before .before .before .before .before .before .before .before .before .get02 .result) (c .before .before .before .before .before .before .before .before .before .before .before .before .before .before .before .before .get12 .result) (c .before .before .before .before .before .before .before .before .before .before .before .before .before .before .get22 .result) (c .before .before .before .before .before .before .before .before .before .before .before .before .get32 .result) (c .before .before .before .before .before .before .before .before .before .before .before .before .before .before .before .before .before .before .before .before .get3 .result + 1) eat (omega (arith, within H))
-    (omega (arith, within H)) (c .before .before .before .before .before .before .before .before .before .before .before .before .before .before .before .before .before .before .get02 .ensures ∙ ap (λ (r : Rec). r .w0) record-is) (c .before .before .before .before .before .before .before .before .before .before .before .before .before .before .before .before .get12 .ensures ∙ ap (λ (r : Rec). r .w1) record-is)
-    (c .before .before .before .before .before .before .before .before .before .before .before .before .before .before .get22 .ensures ∙ ap (λ (r : Rec). r .w2) record-is) (c .before .before .before .before .before .before .before .before .before .before .before .before .get32 .ensures ∙ ap (λ (r : Rec). r .w3) record-is) more
-    (c .before .before .before .before .before .before .before .before .before .before .move-up .ensures) (c .before .before .before .before .before .before .put-rec .ensures) (c .before .before .put-rec2 .ensures)
+    let o = put-from-control (c .before .before .before) in
+    let m = move-of o in
+    let r = from-move m in
+    listed H (bounds r) (own-is (m .before .before) H) (systems-is r H) (m .move-up .ensures) (o .put-rec .ensures) (c .before .before .put-rec2 .ensures)
 
 pub list-spec : {M : Type 1} → statement M
 list-spec =

@@ -64,45 +64,38 @@ chain X after r R1 F R2 RQ I RT A₁ Z₁ A₂ Z₂ A₃ Z₃ A₄ Z₄ v₁ v�
     let s₆ : v₆ ≡ X ++ (m₆ ++ drop (1 + x₁ + xf + x₂ + x₃ + xi) after) = appended X m₅ after I I v₅ v₆ a₄ (1 + x₁ + xf + x₂ + x₃) xi s₅ (omega arith) (all-of I xi lI) (e₆ .1) in
     (copied X m₆ after A₄ RT Z₄ v₆ v₇ p₄ a₅ (1 + x₁ + xf + x₂ + x₃ + xi) x₄ s₆ (omega arith) (b₄ .0) (b₄ .1) (b₄ .2) (e₇ .1), omega arith)
 
--- The pieces fit between `end` and `top`, one behind the other: a record, x₁, xf, x₂, x₃, xi and x₄ records.
-pub record Fits (end top x₁ x₂ x₃ x₄ xf xi : ℕ) : Type 0 where
-  pub all : end + 1 + x₁ + xf + x₂ + x₃ + xi + x₄ ≤ top
+-- ── the pieces fit ──
+-- The words w, as many as w₀ were, have the pieces up to record a, which is behind `end`; the next takes x records and the others `left`, below `top`.
+pub record Reached (w₀ : List ℕ) (end top x left : ℕ) (w : List ℕ) (a : ℕ) : Type 0 where
+  pub behind : end ≤ a
+  pub fits : a + x + left ≤ top
+  pub inside : top ≤ room w₀
+  pub same : length w ≡ length w₀
 
-pub fitting : (at end top front back x₃ x₄ xf xi : ℕ) → at + 1 ≤ front → front ≤ back → end ≤ top → 1 + (back - (at + 1)) + xf + x₃ + xi + x₄ ≤ top - end
-    → Fits end top (front - (at + 1)) (back - front) x₃ x₄ xf xi
-fitting at end top front back x₃ x₄ xf xi h k l fits =
-    let e : (front - (at + 1)) + (back - front) ≡ back - (at + 1) = omega arith in record { all = omega arith }
+module _ {w₀ : List ℕ} {end top x left : ℕ} {w : List ℕ} {a : ℕ} (R : Reached w₀ end top x left w a) where
+  -- There is room for the next piece.
+  pub next-fits : a + x ≤ room w
+  next-fits = omega (arith, R)
 
-module _ {end top x₁ x₂ x₃ x₄ xf xi : ℕ} (F : Fits end top x₁ x₂ x₃ x₄ xf xi) where
-  pub fits-one : end + 1 + x₁ ≤ top
-  fits-one = omega (arith, F .all)
+  pub next-small : top ≤ 65536 → a + x ≤ 65536
+  next-small h = omega (arith, R)
 
-  module _ (a₁ : ℕ) (e₁ : a₁ ≡ end + 1 + x₁) where
-    pub fits-two : a₁ + xf ≤ top
-    fits-two = omega (arith, F .all)
+  -- A piece that lies before `end` lies before the place that it is copied to.
+  pub copied-up : {from : ℕ} → from ≤ end → from ≤ a
+  copied-up h = omega (arith, R)
 
-    module _ (a₂ : ℕ) (e₂ : a₂ ≡ a₁ + xf) where
-      pub fits-three : (end ≤ a₂) × (a₂ + x₂ ≤ top)
-      fits-three = (omega arith, omega (arith, F .all))
+-- It is there.
+pub reach : {w₀ : List ℕ} {end top x x₁ left : ℕ} {w w₁ : List ℕ} {a a₁ : ℕ} → Reached w₀ end top x (x₁ + left) w a → a₁ ≡ a + x → length w₁ ≡ length w
+    → Reached w₀ end top x₁ left w₁ a₁
+reach R e k = record { behind = omega (arith, R); fits = omega (arith, R); inside = R .inside; same = k ∙ R .same }
 
-      module _ (a₃ : ℕ) (e₃ : a₃ ≡ a₂ + x₂) where
-        pub fits-four : (end ≤ a₃) × (a₃ + x₃ ≤ top)
-        fits-four = (omega arith, omega (arith, F .all))
+pub reach-last : {w₀ : List ℕ} {end top x x₁ : ℕ} {w w₁ : List ℕ} {a a₁ : ℕ} → Reached w₀ end top x x₁ w a → a₁ ≡ a + x → length w₁ ≡ length w
+    → Reached w₀ end top x₁ 0 w₁ a₁
+reach-last R e k = record { behind = omega (arith, R); fits = omega (arith, R); inside = R .inside; same = k ∙ R .same }
 
-        module _ (a₄ : ℕ) (e₄ : a₄ ≡ a₃ + x₃) where
-          pub fits-five : a₄ + xi ≤ top
-          fits-five = omega (arith, F .all)
-
-          module _ (a₅ : ℕ) (e₅ : a₅ ≡ a₄ + xi) where
-            pub fits-six : (end ≤ a₅) × (a₅ + x₄ ≤ top)
-            fits-six = (omega arith, omega (arith, F .all))
-
--- What lies below `top` lies in the words, whatever was written to them.
-pub through : (x top : ℕ) (xs ys : List ℕ) → x ≤ top → top ≤ room xs → length ys ≡ length xs → x ≤ room ys
-through x top xs ys h k e = omega arith
-
-pub up-to : (x end y : ℕ) → x ≤ end → end ≤ y → x ≤ y
-up-to x end y h k = omega arith
-
-pub below-most : {a b top most : ℕ} → a ≡ b → b ≤ top → top ≤ most → a ≤ most
-below-most e h k = omega arith
+-- The first piece goes behind one record.
+pub first-fits : (w₀ w : List ℕ) (at end top front back xf x₃ xi x₄ : ℕ) → at + 1 ≤ front → front ≤ back → end ≤ top → top ≤ room w₀ → length w ≡ length w₀
+    → 1 + (back - (at + 1)) + xf + x₃ + xi + x₄ ≤ top - end → Reached w₀ end top (front - (at + 1)) (xf + ((back - front) + (x₃ + (xi + x₄)))) w (end + 1)
+first-fits w₀ w at end top front back xf x₃ xi x₄ h k l i s fits =
+    let e : (front - (at + 1)) + (back - front) ≡ back - (at + 1) = omega arith in
+    record { behind = omega arith; fits = omega arith; inside = i; same = s }

@@ -54,20 +54,57 @@ length-kept i n under f initial c =
     ∙ omega (arith, length-append ((r ∷ []) ++ R1 ++ poly-records f ++ R2 ++ RQ ++ poly-records initial) RT, length-append ((r ∷ []) ++ R1 ++ poly-records f ++ R2 ++ RQ) (poly-records initial), length-append ((r ∷ []) ++ R1 ++ poly-records f ++ R2) RQ, length-append ((r ∷ []) ++ R1 ++ poly-records f) R2, length-append ((r ∷ []) ++ R1) (poly-records f), length-append (r ∷ []) R1, length-poly-records f, length-poly-records initial)
 
 -- ── where the parts lie ──
+-- Where the first i members of P end, then those up to the n-th, then all of P, then Q.
+abbrev pub end-front : ℕ → Stored → List Stored → ℕ
+end-front i c bs = start bs + 1 + length (front-P i c)
+
+abbrev pub end-back : ℕ → ℕ → Stored → List Stored → ℕ
+end-back i n c bs = end-front i c bs + length (back-P i n c)
+
+abbrev pub end-P : ℕ → ℕ → Stored → List Stored → ℕ
+end-P i n c bs = end-back i n c bs + length (new-P i n c)
+
+abbrev pub end-Q : ℕ → ℕ → Stored → List Stored → ℕ
+end-Q i n c bs = end-P i n c bs + length (polys-records (c .Q))
+
 -- The numbers that the code reads, with so many free records.
-pub record Placed (c : Stored) (bs : List Stored) (i n free at end top p q t front back in-q in-t : ℕ) : Type 0 where
+pub record Placed (c : Stored) (bs : List Stored) (i n free at end top q t front back in-q in-t : ℕ) : Type 0 where
   pub at-is : at ≡ start bs
   pub end-is : end ≡ finish c bs
   pub top-is : top ≡ finish c bs + free
-  pub p-is : p ≡ length (c .P)
   pub q-is : q ≡ length (c .Q)
   pub t-is : t ≡ length (c .T)
-  pub front-is : front ≡ start bs + 1 + length (front-P i c)
-  pub back-is : back ≡ front + length (back-P i n c)
-  pub in-q-is : in-q ≡ back + length (new-P i n c)
-  pub in-t-is : in-t ≡ in-q + length (polys-records (c .Q))
-  pub ends : end ≡ in-t + length (polys-records (c .T))
-  pub few : (n ≤ length (front-P i c) + length (back-P i n c)) × (q ≤ length (polys-records (c .Q)))
+  pub front-is : front ≡ end-front i c bs
+  pub back-is : back ≡ end-back i n c bs
+  pub in-q-is : in-q ≡ end-P i n c bs
+  pub in-t-is : in-t ≡ end-Q i n c bs
+
+-- What the code writes: the new branch's own record behind the open one, then its six pieces one behind the other, each up to a record that the code knows,
+-- and last the control record. The words of each piece are copied from where they lie, or stored.
+pub record Copied (v : List Rec) (n at end top q t front back in-q in-t : ℕ) (f initial : List ℕ) (v₈ : List Rec) : Type 0 where
+  pub v₁ : List Rec
+  pub own-put : v₁ ≡ set v end (mk (n + 1) (q + 1) t at)
+  pub a₁ : ℕ
+  pub v₂ : List Rec
+  pub front-copied : (a₁ ≡ end + 1 + (front - (at + 1))) × (v₂ ≡ moved v₁ (at + 1) (front - (at + 1)) (end + 1))
+  pub a₂ : ℕ
+  pub v₃ : List Rec
+  pub f-put : (a₂ ≡ a₁ + (length f / 2 + 1)) × (v₃ ≡ paste v₂ a₁ (poly-records f) (length f / 2 + 1))
+  pub a₃ : ℕ
+  pub v₄ : List Rec
+  pub back-copied : (a₃ ≡ a₂ + (back - front)) × (v₄ ≡ moved v₃ front (back - front) a₂)
+  pub a₄ : ℕ
+  pub v₅ : List Rec
+  pub Q-copied : (a₄ ≡ a₃ + (in-t - in-q)) × (v₅ ≡ moved v₄ in-q (in-t - in-q) a₃)
+  pub a₅ : ℕ
+  pub v₆ : List Rec
+  pub initial-put : (a₅ ≡ a₄ + (length initial / 2 + 1)) × (v₆ ≡ paste v₅ a₄ (poly-records initial) (length initial / 2 + 1))
+  pub a₆ : ℕ
+  pub v₇ : List Rec
+  pub T-copied : (a₆ ≡ a₅ + (end - in-t)) × (v₇ ≡ moved v₆ in-t (end - in-t) a₅)
+  pub systems : ℕ
+  pub systems-word : systems ≡ getD v₇ 0 nul .w3
+  pub control-put : v₈ ≡ set v₇ 0 (mk end a₆ top systems)
 
 -- They lie in this order, in a work area with so many records, and there are few members.
 pub record Ordered (n at end top q front back in-q in-t room : ℕ) : Type 0 where
@@ -81,9 +118,6 @@ pub record Ordered (n at end top q front back in-q in-t room : ℕ) : Type 0 whe
   pub most-of : top ≤ 65536
   pub few-P : n + (at + 1) ≤ back
   pub few-Q : q + in-q ≤ in-t
-
-pub front-end : {n at end top q front back in-q in-t room : ℕ} → Ordered n at end top q front back in-q in-t room → (at ≤ end) × (front ≤ end) × (in-q ≤ end)
-front-end o = (omega (arith, o), omega (arith, o), omega (arith, o))
 
 module _ {v : List Rec} {most : ℕ} {c : Stored} {bs ss : List Stored} (H : Held v most (with-open c bs ss)) (i n : ℕ) (h : (i ≤ n) × (n ≤ length (c .P))) where
   abbrev used : List Rec
@@ -117,22 +151,27 @@ module _ {v : List Rec} {most : ℕ} {c : Stored} {bs ss : List Stored} (H : Hel
       ap (skip-to v x) (sym lk)
       ∙ skip-to-polys-records v A x fs (post ++ rest) l (whole ∙ ap (λ (u : List Rec). u ++ rest) e ∙ simp append-assoc)
 
-  pub to-front : (x : ℕ) → x ≡ start bs → skip-to v (x + 1) i ≡ x + 1 + length (front-P i c)
-  to-front x e =
-      skipped to-P (back-P i n c ++ (new-P i n c ++ (polys-records (c .Q) ++ polys-records (c .T)))) (take i (c .P)) (x + 1) i in-order (omega (arith, length-to-P)) length-front
+  pub to-front : {x : ℕ} → x ≡ start bs → skip-to v (x + 1) i ≡ end-front i c bs
+  to-front {x} e =
+      skipped to-P (back-P i n c ++ (new-P i n c ++ (polys-records (c .Q) ++ polys-records (c .T)))) (take i (c .P)) (x + 1) i in-order
+      (omega (arith, length-to-P)) length-front
+      ∙ ap (λ (y : ℕ). y + 1 + length (front-P i c)) e
 
-  pub to-back : (x : ℕ) → x ≡ start bs + 1 + length (front-P i c) → skip-to v x (n - i) ≡ x + length (back-P i n c)
-  to-back x e =
+  pub to-back : {x : ℕ} → x ≡ end-front i c bs → skip-to v x (n - i) ≡ end-back i n c bs
+  to-back {x} e =
       skipped (to-P ++ front-P i c) (new-P i n c ++ (polys-records (c .Q) ++ polys-records (c .T))) (take (n - i) (drop i (c .P))) x (n - i)
       (in-order ∙ sym (append-assoc to-P (front-P i c) (back-P i n c ++ (new-P i n c ++ (polys-records (c .Q) ++ polys-records (c .T))))))
       (omega (arith, length-to-P, length-append to-P (front-P i c))) length-back
+      ∙ ap (λ (y : ℕ). y + length (back-P i n c)) e
 
-  pub to-Q : (x p : ℕ) → p ≡ length (c .P) → x ≡ start bs + 1 + length (front-P i c) + length (back-P i n c) → skip-to v x (p - n) ≡ x + length (new-P i n c)
-  to-Q x p ep e =
+  pub to-Q : {x p : ℕ} → p ≡ length (c .P) → x ≡ end-back i n c bs → skip-to v x (p - n) ≡ end-P i n c bs
+  to-Q {x} {p} ep e =
+      let rest : List Rec = new-P i n c ++ (polys-records (c .Q) ++ polys-records (c .T)) in
       skipped (to-P ++ front-P i c ++ back-P i n c) (polys-records (c .Q) ++ polys-records (c .T)) (drop (n - i) (drop i (c .P))) x (p - n)
-      (in-order ∙ sym (append-assoc (to-P ++ front-P i c) (back-P i n c) (new-P i n c ++ (polys-records (c .Q) ++ polys-records (c .T))) ∙ append-assoc to-P (front-P i c) (back-P i n c ++ (new-P i n c ++ (polys-records (c .Q) ++ polys-records (c .T))))))
+      (in-order ∙ sym (append-assoc (to-P ++ front-P i c) (back-P i n c) rest ∙ append-assoc to-P (front-P i c) (back-P i n c ++ rest)))
       (omega (arith, length-to-P, length-append to-P (front-P i c), length-append (to-P ++ front-P i c) (back-P i n c)))
       (omega (arith, length-drop i (c .P), length-drop (n - i) (drop i (c .P))))
+      ∙ ap (λ (y : ℕ). y + length (new-P i n c)) e
 
   abbrev to-new : List Rec
   to-new = to-P ++ front-P i c ++ back-P i n c ++ new-P i n c
@@ -147,16 +186,20 @@ module _ {v : List Rec} {most : ℕ} {c : Stored} {bs ss : List Stored} (H : Hel
       regroup : (a b d e f : List Rec) → a ++ (b ++ (d ++ (e ++ f))) ≡ a ++ b ++ d ++ e ++ f
       regroup a b d e f = simp append-assoc
 
-  pub to-T : (x q : ℕ) → q ≡ length (c .Q) → x ≡ start bs + 1 + length (front-P i c) + length (back-P i n c) + length (new-P i n c)
-      → skip-to v x q ≡ x + length (polys-records (c .Q))
-  to-T x q eq e = skipped to-new (polys-records (c .T)) (c .Q) x q Q-in-order (omega (arith, length-to-new)) (sym eq)
+  pub to-T : {x q : ℕ} → q ≡ length (c .Q) → x ≡ end-P i n c bs → skip-to v x q ≡ end-Q i n c bs
+  to-T {x} {q} eq e =
+      skipped to-new (polys-records (c .T)) (c .Q) x q Q-in-order (omega (arith, length-to-new)) (sym eq)
+      ∙ ap (λ (y : ℕ). y + length (polys-records (c .Q))) e
 
-  pub length-parts : finish c bs
-      ≡ start bs + 1 + length (front-P i c) + length (back-P i n c) + length (new-P i n c) + length (polys-records (c .Q)) + length (polys-records (c .T))
+  length-parts : finish c bs ≡ end-Q i n c bs + length (polys-records (c .T))
   length-parts =
       omega (arith, ap length Q-in-order, length-to-new, length-append to-new (polys-records (c .Q) ++ polys-records (c .T)), length-append (polys-records (c .Q)) (polys-records (c .T)))
 
-  pub few-members : (n ≤ length (front-P i c) + length (back-P i n c)) × (length (c .Q) ≤ length (polys-records (c .Q)))
+  -- All of it lies inside.
+  pub parts-inside : {x : ℕ} → x ≤ end-Q i n c bs → x ≤ most
+  parts-inside h = omega (arith, length-parts, H .fits)
+
+  few-members : (n ≤ length (front-P i c) + length (back-P i n c)) × (length (c .Q) ≤ length (polys-records (c .Q)))
   few-members =
       (omega (arith, length-front, length-back, length-le-polys-records (take i (c .P)), length-le-polys-records (take (n - i) (drop i (c .P)))), length-le-polys-records (c .Q))
 
@@ -164,27 +207,28 @@ module _ {v : List Rec} {most : ℕ} {c : Stored} {bs ss : List Stored} (H : Hel
   members-P f = omega (arith, length-append (take i (c .P)) (f ∷ take (n - i) (drop i (c .P))), length-front, length-back)
 
   -- ── what is held then ──
-  module _ (f initial : List ℕ) {at end top p q t front back in-q in-t : ℕ} (G : Placed c bs i n (length (H .free)) at end top p q t front back in-q in-t) where
+  module _ (f initial : List ℕ) {at end top q t front back in-q in-t : ℕ}
+      (G : Placed c bs i n (length (H .free)) at end top q t front back in-q in-t) where
     pub ordered : (room : ℕ) → length v ≡ room → Ordered n at end top q front back in-q in-t room
     ordered room e =
         record {
           front-of = omega (arith, G .at-is, G .front-is);
-          back-of = omega (arith, G .back-is);
-          Q-of = omega (arith, G .in-q-is);
-          T-of = omega (arith, G .in-t-is);
-          end-of = omega (arith, G .ends);
+          back-of = omega (arith, G .front-is, G .back-is);
+          Q-of = omega (arith, G .back-is, G .in-q-is);
+          T-of = omega (arith, G .in-q-is, G .in-t-is);
+          end-of = omega (arith, G .end-is, G .in-t-is, length-parts);
           top-of = omega (arith, G .end-is, G .top-is);
           room-of = omega (arith, within H, G .top-is);
           most-of = omega (arith, H .fits, H .few, G .top-is);
-          few-P = omega (arith, G .few, G .at-is, G .front-is, G .back-is);
-          few-Q = omega (arith, G .few, G .in-t-is);
+          few-P = omega (arith, few-members, G .at-is, G .back-is);
+          few-Q = omega (arith, few-members, G .q-is, G .in-q-is, G .in-t-is);
         }
 
     abbrev needed : ℕ
     needed = 1 + (back - (at + 1)) + (length f / 2 + 1) + (in-t - in-q) + (length initial / 2 + 1) + (end - in-t)
 
     length-needed : length (branch-records (start bs) (kept-open i n f initial c)) ≡ needed
-    length-needed = omega (arith, length-kept i n (start bs) f initial c, G)
+    length-needed = omega (arith, length-kept i n (start bs) f initial c, G, length-parts)
 
     size-kept : size (with-open (kept-open i n f initial c) (c ∷ bs) ss) ≡ finish c bs + needed + length (systems-records ss)
     unfolding size
@@ -217,17 +261,17 @@ module _ {v : List Rec} {most : ℕ} {c : Stored} {bs ss : List Stored} (H : Hel
     second-block = (
       in-order ∙ sym (append-assoc to-P (front-P i c) (back-P i n c ++ (new-P i n c ++ (polys-records (c .Q) ++ polys-records (c .T))))),
       omega (arith, length-to-P, length-append to-P (front-P i c), G .front-is),
-      omega (arith, G .back-is),
+      omega (arith, G .front-is, G .back-is),
     )
 
     Q-block : (used ≡ to-new ++ (polys-records (c .Q) ++ polys-records (c .T))) × (length to-new ≡ in-q) × (length (polys-records (c .Q)) ≡ in-t - in-q)
-    Q-block = (Q-in-order, omega (arith, length-to-new, G .front-is, G .back-is, G .in-q-is), omega (arith, G .in-t-is))
+    Q-block = (Q-in-order, omega (arith, length-to-new, G .in-q-is), omega (arith, G .in-q-is, G .in-t-is))
 
     T-block : (used ≡ to-new ++ polys-records (c .Q) ++ (polys-records (c .T) ++ [])) × (length (to-new ++ polys-records (c .Q)) ≡ in-t) × (length (polys-records (c .T)) ≡ end - in-t)
     T-block = (
       Q-in-order ∙ last-part to-new (polys-records (c .Q)) (polys-records (c .T)),
-      omega (arith, length-append to-new (polys-records (c .Q)), Q-block .1, G .in-t-is),
-      omega (arith, G .ends),
+      omega (arith, length-append to-new (polys-records (c .Q)), length-to-new, G .in-t-is),
+      omega (arith, G .end-is, G .in-t-is, length-parts),
     )
 
     abbrev pieces : ℕ
@@ -249,7 +293,7 @@ module _ {v : List Rec} {most : ℕ} {c : Stored} {bs ss : List Stored} (H : Hel
     end-inside : needed ≤ top - end → end < length v
     end-inside room = let fits = fits-in room in omega (arith, within H, G .end-is)
 
-    pub kept : needed ≤ top - end → Storable f → Storable initial → (v₁ v₂ v₃ v₄ v₅ v₆ v₇ v₈ : List Rec) (a₁ a₂ a₃ a₄ a₅ a₆ k : ℕ)
+    held-copied : needed ≤ top - end → Storable f → Storable initial → (v₁ v₂ v₃ v₄ v₅ v₆ v₇ v₈ : List Rec) (a₁ a₂ a₃ a₄ a₅ a₆ k : ℕ)
         → v₁ ≡ set v end (mk (n + 1) (q + 1) t at)
         → (a₁ ≡ end + 1 + (front - (at + 1))) × (v₂ ≡ moved v₁ (at + 1) (front - (at + 1)) (end + 1))
         → (a₂ ≡ a₁ + (length f / 2 + 1)) × (v₃ ≡ paste v₂ a₁ (poly-records f) (length f / 2 + 1))
@@ -259,7 +303,7 @@ module _ {v : List Rec} {most : ℕ} {c : Stored} {bs ss : List Stored} (H : Hel
         → (a₆ ≡ a₅ + (end - in-t)) × (v₇ ≡ moved v₆ in-t (end - in-t) a₅)
         → k ≡ getD v₇ 0 nul .w3 → v₈ ≡ set v₇ 0 (mk end a₆ top k)
         → Leaves most (with-open (kept-open i n f initial c) (c ∷ bs) ss) true v₈
-    kept room sf si v₁ v₂ v₃ v₄ v₅ v₆ v₇ v₈ a₁ a₂ a₃ a₄ a₅ a₆ k e₁ e₂ e₃ e₄ e₅ e₆ e₇ ek e₈ =
+    held-copied room sf si v₁ v₂ v₃ v₄ v₅ v₆ v₇ v₈ a₁ a₂ a₃ a₄ a₅ a₆ k e₁ e₂ e₃ e₄ e₅ e₆ e₇ ek e₈ =
         let behind : List Rec = systems-records ss ++ H .beyond in
         let after : List Rec = H .free ++ behind in
         let R1 = front-P i c in
@@ -303,3 +347,8 @@ module _ {v : List Rec} {most : ℕ} {c : Stored} {bs ss : List Stored} (H : Hel
                 );
               };
         }
+
+    pub kept : needed ≤ top - end → Storable f → Storable initial → {v₈ : List Rec} → Copied v n at end top q t front back in-q in-t f initial v₈
+        → Leaves most (with-open (kept-open i n f initial c) (c ∷ bs) ss) true v₈
+    kept room sf si K = held-copied room sf si (K .v₁) (K .v₂) (K .v₃) (K .v₄) (K .v₅) (K .v₆) (K .v₇) _ (K .a₁) (K .a₂) (K .a₃) (K .a₄) (K .a₅) (K .a₆) (K .systems)
+        (K .own-put) (K .front-copied) (K .f-put) (K .back-copied) (K .Q-copied) (K .initial-put) (K .T-copied) (K .systems-word) (K .control-put)

@@ -28,7 +28,7 @@ pub fn run(p: u32, f: &[u64], g: &[u64]) {
 fn are_operands(p: u32, f: &[u64], g: &[u64]) -> bool
     ensures { λ r. ⌜ (r ≡ true → Prime p × (p < 2147483648) × Holds p (now (f .entry)) × Holds p (now (g .entry))) ⌝ }
 {
-    if residues::is_prime(p) {
+    if primes::is_prime(p) {
         if parts::is_polynomial(p as u64, f) {
             return parts::is_polynomial(p as u64, g);
         }

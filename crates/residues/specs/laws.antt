@@ -1,7 +1,7 @@
 pub mod Booleans
 pub mod Prime
-pub mod Wheel
 pub mod Inverse
 pub mod Power
 pub mod Ring
 pub mod Residues
+pub mod Width

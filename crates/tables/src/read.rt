@@ -26,7 +26,7 @@ pub fn check_header(table: &[u32]) -> Checked
     if 262144 < table.len() {
         return Checked::Refused(Reason::Shape, 0);
     }
-    if !residues::is_prime(table[0]) {
+    if !primes::is_prime(table[0]) {
         return Checked::Refused(Reason::Prime, 0);
     }
     if table[1] < 1 {

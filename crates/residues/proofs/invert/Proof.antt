@@ -7,7 +7,7 @@ use native.Mathlib.Omega.{arith}
 use borrow.Author.Needs.{needs}
 use Rattle.residues.specs.Residue.{inverse}
 use Rattle.residues.specs.laws.Inverse.{inverse-ok, inverse-lt, inverse-unique, kept}
-use Rattle.residues.proofs.Laws.{product-fits}
+use Rattle.residues.specs.laws.Width.{product-fits}
 use Rattle.residues.proofs.invert.Statement.{statement}
 use Rattle.residues.proofs.invert.Tie as tie
 

@@ -2,7 +2,7 @@
 use mathlib.Core.Path.{refl}
 use borrow.Author.Needs.{needs}
 use Rattle.residues.specs.Residue.{product}
-use Rattle.residues.proofs.Laws.{product-fits}
+use Rattle.residues.specs.laws.Width.{product-fits}
 use Rattle.residues.proofs.multiply.Statement.{statement}
 use Rattle.residues.proofs.multiply.Tie as tie
 

@@ -1,8 +1,8 @@
--- The wheel of 30, by which the prime test goes: what a turn of it tells.
+-- What the parts of the prime test tell of divisors.
 use mathlib.Core.Path.{_≡_}
 use mathlib.Core.Logic.{_≢_}
 use mathlib.Core.Bool.{Bool, true, false}
-use Prim.Native.Nat.{ℕ, _+_, _%_, _≤_, _<_}
+use Prim.Native.Nat.{ℕ, _+_, _%_, _≤_, _<_, _∣_}
 
 -- Neither 2 nor 3 nor 5 divides e.
 pub record Coprime30 (e : ℕ) : Type 0 where
@@ -13,3 +13,7 @@ pub record Coprime30 (e : ℕ) : Type 0 where
 -- What a turn of the wheel from d tells of p: a number from d to d + 24 divides p, or none coprime to 30 from d up to d + 30 does.
 abbrev pub Turn : ℕ → ℕ → Bool → Type 0
 Turn p d r = elim r [ true ↦ (e : ℕ) × (d ≤ e) × (e ≤ d + 24) × (p % e ≡ 0) | false ↦ (e : ℕ) → d ≤ e → e < d + 30 → Coprime30 e → p % e ≢ 0 ]
+
+-- What is told of numbers that divide both a and b: there is none but 1, or there is one.
+abbrev pub Common : ℕ → ℕ → Bool → Type 0
+Common a b r = elim r [ true ↦ (e : ℕ) → e ∣ a → e ∣ b → e ≡ 1 | false ↦ (e : ℕ) × (2 ≤ e) × (e ∣ a) × (e ∣ b) ]

@@ -10,16 +10,17 @@ use native.Mathlib.Decide.{ℕ-discrete, decLt}
 use native.Mathlib.Omega.{arith}
 use lib.Dec.{T, eqb, ltb, eqb→eq, ltb→lt}
 use borrow.Author.Tests.{eq-eqb, ne-eqb}
 use Rattle.residues.specs.Prime.{Prime, is-prime, no-divisor-from}
-use Rattle.residues.specs.Wheel.{Coprime30, Turn}
 use Rattle.residues.specs.laws.Booleans.{and-l, and-r, or-cases, true-of}
-use Rattle.residues.specs.laws.Prime.{is-prime-sound, is-prime-complete, test-no, test-small}
+use Rattle.residues.specs.laws.Prime.{is-prime-sound, is-prime-complete}
+use Rattle.primes.specs.Divisors.{Coprime30, Turn}
+use Rattle.primes.specs.laws.Root.{test-no, test-small}
 
 -- ── divisors of a number coprime to 30 ──
 divides-on : (p e q : ℕ) → p % e ≡ 0 → e % q ≡ 0 → p % q ≡ 0
 divides-on p e q h k = mod-eq-zero-of-dvd q (dvd-trans q (dvd-of-mod-eq-zero q k) (dvd-of-mod-eq-zero e h))
 
-coprime-divisor : (p e : ℕ) → Coprime30 p → p % e ≡ 0 → Coprime30 e
+pub coprime-divisor : (p e : ℕ) → Coprime30 p → p % e ≡ 0 → Coprime30 e
 coprime-divisor p e C h = record {
   two = λ k. C .two (divides-on p e 2 h k);
   three = λ k. C .three (divides-on p e 3 h k);
@@ -67,9 +68,13 @@ unfolding member Each
 at-member P [] a k t = absurd t
 at-member P (x ∷ xs) a k t = elim (or-cases (eqb k x) _ t) [ inl u ↦ rw (eqb→eq k x u) (a .0) | inr u ↦ at-member P xs (a .1) k u ]
 
-candidate : (k : ℕ) → k < 30 → T (divided (7 + k) || member k offsets)
-unfolding all-below divided member offsets
-candidate = below 30 (λ k. divided (7 + k) || member k offsets) tt
+-- What holds of each of the candidates that are listed by their distance from b holds of each number coprime to 30 within a turn from b.
+of-candidates : (b : ℕ) (xs : List ℕ) (P : ℕ → Type 0) → T (all-below 30 (λ k. divided (b + k) || member k xs)) → Each P xs →
+    (k e : ℕ) → k < 30 → (b + k) % 30 ≡ e % 30 → Coprime30 e → P k
+of-candidates b xs P t a k e l h C = elim (or-cases (divided (b + k)) _ (below 30 (λ k. divided (b + k) || member k xs) t k l)) [
+  | inl u ↦ absurd (divided-not-coprime (b + k) e h u C)
+  | inr u ↦ at-member P xs a k u
+]
 
 below-seven : (e : ℕ) → e < 7 → T (ltb e 2 || divided e)
 unfolding all-below divided
@@ -80,10 +85,16 @@ pub turn-divided : (p d e : ℕ) → p % e ≡ 0 → d ≤ e → e ≤ d + 24 �
 turn-divided p d e z h l = (e, h, l, z)
 
 pub turn-passed : (p d : ℕ) → d % 30 ≡ 7 → Each (λ s. p % (d + s) ≢ 0) offsets → Turn p d false
-turn-passed p d h a e l u C z = elim (or-cases (divided (7 + (e - d))) _ (candidate (e - d) (omega arith))) [
-  | inl t ↦ divided-not-coprime (7 + (e - d)) e (omega arith) t C
-  | inr t ↦ at-member (λ s. p % (d + s) ≢ 0) offsets a (e - d) t (ap (λ x. p % x) (add-sub-of-le l) ∙ z)
-]
+unfolding all-below divided member offsets
+turn-passed p d h a e l u C z = of-candidates 7 offsets (λ s. p % (d + s) ≢ 0) tt a (e - d) e (omega arith) (omega arith) C (ap (λ x. p % x) (add-sub-of-le l) ∙ z)
+
+-- What holds of the eight remainders holds of that which a number coprime to 30 leaves.
+unfoldable pub remainders : List ℕ
+remainders = 1 ∷ 29 ∷ 7 ∷ 23 ∷ 11 ∷ 19 ∷ 13 ∷ 17 ∷ []
+
+pub of-remainders : (P : ℕ → Type 0) → Each P remainders → (e : ℕ) → Coprime30 e → P (e % 30)
+unfolding all-below divided member remainders
+of-remainders P a e C = of-candidates 0 remainders P tt a (e % 30) e (omega arith) (omega arith) C
 
 -- ── the loop over the turns ──
 -- no number from 2 to 6 divides what is coprime to 30

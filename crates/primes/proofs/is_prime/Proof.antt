@@ -1,9 +1,9 @@
--- `residues::is_prime` meets its contract: 2^31 and more, numbers below 2, those that 2, 3 or 5 divides, and the wheel for the others.
+-- `primes::is_prime` meets its contract: 2^31 and more, numbers below 2, those that 2, 3 or 5 divides, and the wheel for the others.
 use borrow.Author.Needs.{needs}
-use Rattle.residues.specs.laws.Prime.{test-small, modulus-below, modulus-above}
-use Rattle.residues.specs.laws.Wheel.{divided-by-prime, two-prime, three-prime, five-prime}
-use Rattle.residues.proofs.is_prime.Statement.{statement}
-use Rattle.residues.proofs.is_prime.Tie as tie
+use Rattle.primes.specs.laws.Root.{test-small, modulus-below, modulus-above}
+use Rattle.primes.specs.laws.Wheel.{divided-by-prime, two-prime, three-prime, five-prime}
+use Rattle.primes.proofs.is_prime.Statement.{statement}
+use Rattle.primes.proofs.is_prime.Tie as tie
 
 returns : tie.Need-returns
 returns c = modulus-above (c .before .args .p) (search needs)
@@ -24,9 +24,15 @@ is-prime-by-wheel-requires : tie.Need-is-prime-by-wheel-requires
 is-prime-by-wheel-requires c κs = search needs
 
 returns-6 : tie.Need-returns-6
-returns-6 c = modulus-below (c .before .before .before .before .before .before .args .p) _ (search needs) (c .is-prime-by-wheel .ensures)
+returns-6 c = modulus-below (c .before .before .before .before .before .before .before .args .p) _ (search needs) (c .is-prime-by-wheel .ensures)
+
+is-prime-by-products-requires : tie.Need-is-prime-by-products-requires
+is-prime-by-products-requires c κs = search needs
+
+returns-7 : tie.Need-returns-7
+returns-7 c = modulus-below (c .before .before .before .before .before .before .before .args .p) _ (search needs) (c .is-prime-by-products .ensures)
 
 pub is-prime-spec : {M : Type 1} → statement M
 is-prime-spec =
     tie.close
-    (tie.spec returns returns-2 returns-3 returns-4 returns-5 is-prime-by-wheel-requires returns-6)
+    (tie.spec returns returns-2 returns-3 returns-4 returns-5 is-prime-by-wheel-requires returns-6 is-prime-by-products-requires returns-7)

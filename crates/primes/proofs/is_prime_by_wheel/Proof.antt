@@ -1,4 +1,4 @@
--- `residues::is_prime_by_wheel` meets its contract. The loop's invariant: a turn begins at d, and no number from 2 up to d divides p.
+-- `primes::is_prime_by_wheel` meets its contract. The loop's invariant: a turn begins at d, and no number from 2 up to d divides p.
 -- The measure is what is left up to 2^16, where the square of d would no longer fit.
 use mathlib.Core.Path.{_≡_}
 use mathlib.Core.Logic.{_≢_}
@@ -6,10 +6,10 @@ use Prim.Native.Nat.{ℕ, _≤_, _<_, _%_, _-_}
 use native.Mathlib.Nat.{mul-le-mul}
 use native.Mathlib.Omega.{arith}
 use borrow.Author.Needs.{needs}
-use Rattle.residues.specs.laws.Prime.{root-below, test-yes}
-use Rattle.residues.specs.laws.Wheel.{none-below-seven, turn-over, turn-refutes}
-use Rattle.residues.proofs.is_prime_by_wheel.Statement.{statement}
-use Rattle.residues.proofs.is_prime_by_wheel.Tie as tie
+use Rattle.primes.specs.laws.Root.{root-below, test-yes}
+use Rattle.primes.specs.laws.Wheel.{none-below-seven, turn-over, turn-refutes}
+use Rattle.primes.proofs.is_prime_by_wheel.Statement.{statement}
+use Rattle.primes.proofs.is_prime_by_wheel.Tie as tie
 
 abbrev Inv-loop : tie.InvT-loop
 Inv-loop p d₀ d = (d % 30 ≡ 7) × (d < 65536) × ((e : ℕ) → 2 ≤ e → e < d → p % e ≢ 0)

@@ -1,0 +1,4 @@
+pub mod Root
+pub mod Wheel
+pub mod Montgomery
+pub mod Products

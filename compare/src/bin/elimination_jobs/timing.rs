@@ -35,22 +35,25 @@ struct Timed {
     proved: u64,
 }
 
-/// Microseconds of so many calls.
-fn batch(job: &Job, calls: u32) -> u64 {
+/// Calls in the same areas: the microseconds of so many.
+fn batches(job: &Job) -> impl FnMut(u32) -> u64 + '_ {
     let (mut work, mut output) = (vec![0; job.work], vec![0; job.output]);
-    let before = now();
-    for _ in 0..calls {
-        eliminate(&job.table, &mut work, &mut output, job.limit);
+    move |calls| {
+        let before = now();
+        for _ in 0..calls {
+            eliminate(&job.table, &mut work, &mut output, job.limit);
+        }
+        now() - before
     }
-    now() - before
 }
 
-/// How many calls take some 10 ms: at least one in each batch, unless these take long.
+/// How many calls take some 10 ms; at least five.
 fn calls(job: &Job) -> u32 {
-    let (mut calls, mut time) = (1, batch(job, 1));
+    let mut batch = batches(job);
+    let (mut calls, mut time) = (1, batch(1));
     while time < 1000 && calls < 1 << 16 {
         calls *= 2;
-        time = batch(job, calls);
+        time = batch(calls);
     }
     let wanted = 10_000 * calls as u64 / time.max(1);
     (wanted as u32).clamp(5, 1 << 17)
@@ -63,10 +66,11 @@ impl Timed {
     }
 
     fn time_here(&mut self) {
-        let batches = self.calls.min(BATCHES);
-        let each = self.calls / batches;
-        for _ in 0..batches {
-            self.here = self.here.min(1000 * batch(&self.job, each) / each as u64);
+        let count = self.calls.min(BATCHES);
+        let each = self.calls / count;
+        let mut batch = batches(&self.job);
+        for _ in 0..count {
+            self.here = self.here.min(1000 * batch(each) / each as u64);
         }
     }
 

@@ -4,8 +4,10 @@
 // counts microseconds. The run ends with the input, or at a job that is cut short or too long for the buffers.
 mod timing;
 
+ghost use mathlib.Core.Path.{_≡_};
 ghost use Prim.Native.Nat.{_≤_};
 ghost use lib.ListN.{length};
+ghost use Rattle.elimination.specs.Numbers.{outcome-numbers};
 ghost use Rattle.lines.specs.Text.{Ends};
 use elimination::Answer;
 use elimination::Outcome;
@@ -17,11 +19,16 @@ use lines::input::Words;
 use lines::text;
 use timing::Timing;
 
-fn size(x: u32) -> usize {
+fn size(x: u32) -> usize
+    ensures { λ r. ⌜ r ≡ x ⌝ }
+{
     x as usize
 }
 
-fn outcome_number(answer: Answer) -> u32 {
+// 0 or the refusal's number.
+fn outcome_number(answer: Answer) -> u32
+    ensures { λ r. ⌜ r ≡ outcome-numbers (answer .outcome) .outcome ⌝ }
+{
     let outcome = answer.outcome;
     match outcome {
         Outcome::Systems(_) => 0,

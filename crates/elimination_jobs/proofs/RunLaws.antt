@@ -1,5 +1,5 @@
--- A job's first line and its output, from what the elimination of the filled buffers answers.
-use mathlib.Core.Path.{_≡_, refl, sym, _∙_, ap, ap₂}
+-- A job's first line and its buffers, from what the elimination of the filled buffers answers.
+use mathlib.Core.Path.{_≡_, refl, _∙_, ap, ap₂}
 use mathlib.Core.List.{List}
 use Prim.Native.Nat.{ℕ, zero, suc}
 use lib.ListN.{length, replicate, length-replicate}
@@ -28,3 +28,6 @@ module _ (w work output work₁ output₁ : List ℕ) (limit filling : ℕ) (ew 
   pub listed-after : {after : List ℕ} → after ≡ output-after (eliminated w (length work₁) (length output₁) limit) output₁ → after ≡ output-after (eliminated w (length work) (length output) limit) (replicate (length output) filling)
   listed-after e =
       e ∙ lengths (λ m n. output-after (eliminated w m n limit) output₁) ∙ ap (output-after (eliminated w (length work) (length output) limit)) eo
+
+  pub cleared-after : {after : List ℕ} → after ≡ replicate (length work₁) 0 → after ≡ replicate (length work) 0
+  cleared-after e = e ∙ lengths (λ m n. replicate m 0)

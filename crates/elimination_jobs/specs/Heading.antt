@@ -1,8 +1,7 @@
 -- The first line of a job.
-use mathlib.Core.Path.{_≡_, refl}
 use mathlib.Core.Bool.{true, false}
 use mathlib.Core.List.{List, [], _∷_}
-use Prim.Native.Nat.{ℕ, zero, suc, _≤_}
+use Prim.Native.Nat.{ℕ, suc, _≤_}
 use lib.Dec.{eqb}
 use lib.ListN.{length}
 use Rattle.tables.specs.Reason.{number}

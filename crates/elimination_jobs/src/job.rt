@@ -1,9 +1,11 @@
 // One elimination: its shape, read from the input; its run; its first line.
 ghost use mathlib.Core.Path.{_≡_};
-ghost use Prim.Native.Nat.{_≤_, min};
+ghost use mathlib.Core.List.{[], _∷_};
+ghost use Prim.Native.Nat.{_+_, _≤_, min};
 ghost use lib.ListN.{length, replicate};
 ghost use Rattle.rules.specs.Eliminate.{eliminated, output-after};
 ghost use Rattle.elimination.specs.Answer.{answer-of};
+ghost use Rattle.lines.specs.Text.{LineAdded};
 ghost use Rattle.elimination_jobs.specs.Heading.{heading-of, nonzero, Shaped};
 use elimination::Answer;
 use elimination::Outcome;
@@ -39,7 +41,9 @@ pub struct Heading {
     pub nonzero: u32,
 }
 
-fn size(x: u32) -> usize {
+fn size(x: u32) -> usize
+    ensures { λ r. ⌜ r ≡ x ⌝ }
+{
     x as usize
 }
 
@@ -71,6 +75,7 @@ pub fn read(bytes: &mut [u8], from: Input, table: &mut [u32]) -> Job
     )
 }
 
+// Puts x into every word.
 fn fill(words: &mut [u32], x: u32)
     ensures { λ _. ⌜ now (words .exit) ≡ replicate (length (now (words .entry))) x ⌝ }
 {
@@ -96,6 +101,7 @@ fn count_nonzero(words: &[u32]) -> usize
     count
 }
 
+// The first line, by an answer and the count of words of the work area that are not zero.
 fn head_of(answer: Answer, count: u32) -> Heading
     ensures { λ r. ⌜ r ≡ heading-of answer count ⌝ }
 {
@@ -121,6 +127,7 @@ pub fn run(table: &[u32], work: &mut [u32], output: &mut [u32], limit: u32, fill
     requires { ⌜ length (now work) ≤ 262400 ⌝ }
     ensures { λ r. ⌜ r ≡ heading-of (answer-of (eliminated (now (table .entry)) (length (now (work .entry))) (length (now (output .entry))) limit)) 0 ⌝ }
     ensures { λ _. ⌜ now (output .exit) ≡ output-after (eliminated (now (table .entry)) (length (now (work .entry))) (length (now (output .entry))) limit) (replicate (length (now (output .entry))) filling) ⌝ }
+    ensures { λ _. ⌜ now (work .exit) ≡ replicate (length (now (work .entry))) 0 ⌝ }
 {
     fill(work, filling);
     fill(output, filling);
@@ -132,6 +139,7 @@ pub fn run(table: &[u32], work: &mut [u32], output: &mut [u32], limit: u32, fill
 pub fn print(text: &mut [u8], end: usize, heading: Heading) -> usize
     requires { ⌜ (end ≤ length (now text)) × (128 ≤ length (now text)) ⌝ }
     ensures { λ r. ⌜ r ≤ length (now (text .exit)) ⌝ }
+    ensures { λ r. ⌜ (end + 212 ≤ length (now (text .entry)) → LineAdded (heading .outcome ∷ heading .steps ∷ heading .value ∷ heading .nonzero ∷ []) end (now (text .entry)) r (now (text .exit))) ⌝ }
 {
     let numbers = [
         heading.outcome,
@@ -142,6 +150,7 @@ pub fn print(text: &mut [u8], end: usize, heading: Heading) -> usize
     text::print_line(text, end, &numbers)
 }
 
+// The lesser of two lengths.
 pub fn shorter(a: usize, b: usize) -> usize
     ensures { λ r. ⌜ r ≡ min a b ⌝ }
     ensures { λ r. ⌜ r ≤ b ⌝ }

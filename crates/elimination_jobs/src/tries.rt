@@ -1,8 +1,9 @@
 // Points against a table and its list.
 ghost use mathlib.Core.Path.{_≡_};
-ghost use Prim.Native.Nat.{_≤_};
+ghost use mathlib.Core.List.{[], _∷_};
+ghost use Prim.Native.Nat.{_+_, _≤_};
 ghost use lib.ListN.{length};
-ghost use Rattle.lines.specs.Text.{Ends};
+ghost use Rattle.lines.specs.Text.{LineAdded, Ends};
 ghost use Rattle.elimination_jobs.specs.Tried.{tried};
 use lines::Line;
 use lines::Turn;
@@ -17,6 +18,7 @@ pub struct Tried {
     pub place: Line,
 }
 
+// Tries a point against both.
 fn try_both(table: &[u32], systems: &[u32], numbers: &[u32]) -> Tried
     ensures { λ r. ⌜ r ≡ tried (now (table .entry)) (now (systems .entry)) (now (numbers .entry)) ⌝ }
 {
@@ -34,6 +36,7 @@ fn try_both(table: &[u32], systems: &[u32], numbers: &[u32]) -> Tried
 fn print(text: &mut [u8], end: usize, tried: Tried) -> usize
     requires { ⌜ (end ≤ length (now text)) × (128 ≤ length (now text)) ⌝ }
     ensures { λ r. ⌜ r ≤ length (now (text .exit)) ⌝ }
+    ensures { λ r. ⌜ (end + 212 ≤ length (now (text .entry)) → LineAdded (tried .trial .outcome ∷ tried .trial .value ∷ tried .place .outcome ∷ tried .place .value ∷ []) end (now (text .entry)) r (now (text .exit))) ⌝ }
 {
     let a = tried.trial;
     let b = tried.place;

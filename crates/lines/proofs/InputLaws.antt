@@ -1,7 +1,7 @@
 -- Laws about words of bytes.
-use mathlib.Core.Path.{_≡_, refl, sym, _∙_, ap}
+use mathlib.Core.Path.{_≡_, sym, _∙_, ap}
 use mathlib.Core.List.{List, [], _∷_, _++_, append-assoc, append-nil}
-use Prim.Native.Nat.{ℕ, zero, suc, _+_, _*_, _-_, _/_, _≤_, _<_}
+use Prim.Native.Nat.{ℕ, zero, suc, _+_, _*_, _-_, _≤_, _<_}
 use native.Mathlib.Omega.{arith}
 use native.Mathlib.Numerals.{add-one}
 use lib.ListN.{length, take, set}
@@ -10,7 +10,7 @@ use Rattle.lines.specs.declared.input.Input.{Input}
 use Rattle.lines.specs.declared.input.Word.the-variants.{Read}
 use Rattle.lines.specs.declared.input.Words.{Words}
 use Rattle.lines.specs.declared.input.Words.the-variants.{First}
-use Rattle.lines.specs.Input.{word-at, words-from, words-of, Before, Within}
+use Rattle.lines.specs.Input.{word-at, words-from, Before, Within}
 
 -- The first i of n words of the bytes are put; with those that are left they are all.
 abbrev pub Decoded : List ℕ → ℕ → ℕ → List ℕ → Type 0

@@ -8,7 +8,6 @@ use native.Mathlib.Nat.{pow-suc, pow-le-pow-right}
 use native.Mathlib.Decide.{decLe}
 use native.Mathlib.Numerals.{add-one, sub-one}
 use borrow.Author.Tests.{eq-eqb, ne-eqb}
-use lib.Dec.{eqb}
 use lib.ListN.{length, take, drop, set, getD, length-append}
 use lib.Seq.{take-at, take-length, take-suc-set, drop-cons, drop-length, length-take-le}
 use Rattle.io.specs.Digits.{glyph, digits, Fewest}
@@ -76,8 +75,8 @@ stored text end b h = rw (add-one end) (take-suc-set text end b (omega arith))
 abbrev pub Lined : List ℕ → ℕ → List ℕ → List ℕ → Type 0
 Lined numbers i whole x = x ++ rest-text (drop i numbers) ≡ whole
 
--- So far with i numbers: the text from where the first number stands, at `first`, to its end.
-pub record Reached (numbers : List ℕ) (end : ℕ) (first : List ℕ) (text : List ℕ) (last i : ℕ) : Type 0 where
+-- A line of which i numbers stand there, the first of them at the end of `first`: how far the text reaches, and that with what is left it is the whole.
+pub record LineBegun (numbers : List ℕ) (end : ℕ) (first : List ℕ) (text : List ℕ) (last i : ℕ) : Type 0 where
   pub near : last + 1 ≤ end + 21 * i
   pub lined : Lined numbers i (first ++ rest-text (drop 1 numbers)) (take last text)
 

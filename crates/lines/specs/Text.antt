@@ -33,7 +33,7 @@ unfolding line-text rest-text decimal digits-of
 zero-and-ten = refl
 
 -- A line was added to a text: its new end, and its bytes up to there.
-pub record Line-added (numbers : List ℕ) (end : ℕ) (text : List ℕ) (end′ : ℕ) (text′ : List ℕ) : Type 0 where
+pub record LineAdded (numbers : List ℕ) (end : ℕ) (text : List ℕ) (end′ : ℕ) (text′ : List ℕ) : Type 0 where
   pub near : end′ ≤ end + 21 * length numbers + 1
   pub is : take end′ text′ ≡ take end text ++ line-text numbers
 

@@ -1,7 +1,8 @@
-// Words from bytes, and from standard input by way of a buffer.
+// Words from bytes, and from standard input by way of a buffer. What standard input holds is free: of a word that is read the contracts say where it
+// stands in the buffer, and of a count that it lies within the slice.
 ghost use mathlib.Core.Path.{_≡_};
 ghost use Prim.Native.Nat.{_+_, _*_, _-_, _/_, _≤_};
-ghost use lib.ListN.{length, take};
+ghost use lib.ListN.{length, take, drop};
 ghost use Rattle.lines.specs.Input.{word-at, words-of, Reached, Left, Within};
 use libc::STDIN_FILENO;
 
@@ -46,6 +47,7 @@ fn word_at(bytes: &[u8], i: usize) -> u32
 pub fn decode(bytes: &[u8], words: &mut [u32])
     requires { ⌜ length (now bytes) / 4 ≤ length (now words) ⌝ }
     ensures { λ _. ⌜ take (length (now (bytes .entry)) / 4) (now (words .exit)) ≡ words-of (now (bytes .entry)) ⌝ }
+    ensures { λ _. ⌜ drop (length (now (bytes .entry)) / 4) (now (words .exit)) ≡ drop (length (now (bytes .entry)) / 4) (now (words .entry)) ⌝ }
 {
     let n = bytes.len() / 4;
     let mut i = 0;
@@ -56,7 +58,9 @@ pub fn decode(bytes: &[u8], words: &mut [u32])
 }
 
 // Nothing is read yet.
-pub fn begin() -> Input {
+pub fn begin() -> Input
+    ensures { λ r. ⌜ r ≡ record { at = 0; end = 0 } ⌝ }
+{
     Input { at: 0, end: 0 }
 }
 

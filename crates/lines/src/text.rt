@@ -1,11 +1,12 @@
-// Lines of numbers, gathered in a buffer: its first `end` bytes are the text so far.
+// Lines of numbers, gathered in a buffer: its first `end` bytes are the text so far, and what stands behind them is free.
 ghost use mathlib.Core.Path.{_≡_};
 ghost use mathlib.Core.List.{[], _∷_, _++_};
-ghost use Prim.Native.Nat.{_+_, _*_, _≤_};
+ghost use Prim.Native.Nat.{_+_, _*_, _≤_, _<_};
 ghost use lib.ListN.{length, take};
-ghost use Rattle.lines.specs.Text.{decimal, Line-added};
+ghost use Rattle.lines.specs.Text.{decimal, LineAdded};
 use libc::STDOUT_FILENO;
 
+// Adds a byte.
 pub fn put_byte(text: &mut [u8], end: usize, byte: u8) -> usize
     requires { ⌜ end + 1 ≤ length (now text) ⌝ }
     ensures { λ r. ⌜ (r ≡ end + 1) × (take r (now (text .exit)) ≡ take end (now (text .entry)) ++ (byte ∷ [])) ⌝ }
@@ -35,7 +36,7 @@ pub fn write(text: &[u8], end: usize)
 // Makes room for 128 bytes more: writes the text so far if there is less. Answers how long the text is then.
 pub fn room(text: &[u8], end: usize) -> usize
     requires { ⌜ (end ≤ length (now text)) × (128 ≤ length (now text)) ⌝ }
-    ensures { λ r. ⌜ (r + 128 ≤ length (now (text .entry))) × (end + 128 ≤ length (now (text .entry)) → r ≡ end) ⌝ }
+    ensures { λ r. ⌜ (r + 128 ≤ length (now (text .entry))) × (end + 128 ≤ length (now (text .entry)) → r ≡ end) × (length (now (text .entry)) < end + 128 → r ≡ 0) ⌝ }
 {
     if 128 <= text.len() - end {
         return end;
@@ -48,7 +49,7 @@ pub fn room(text: &[u8], end: usize) -> usize
 pub fn print_line(text: &mut [u8], end: usize, numbers: &[u32]) -> usize
     requires { ⌜ (end ≤ length (now text)) × (128 ≤ length (now text)) ⌝ }
     ensures { λ r. ⌜ r ≤ length (now (text .exit)) ⌝ }
-    ensures { λ r. ⌜ (end + 21 * length (now (numbers .entry)) + 128 ≤ length (now (text .entry)) → Line-added (now (numbers .entry)) end (now (text .entry)) r (now (text .exit))) ⌝ }
+    ensures { λ r. ⌜ (end + 21 * length (now (numbers .entry)) + 128 ≤ length (now (text .entry)) → LineAdded (now (numbers .entry)) end (now (text .entry)) r (now (text .exit))) ⌝ }
 {
     let mut last = room(text, end);
     if numbers.len() == 0 {

@@ -3,9 +3,10 @@
 // kind (0 reads a table, 1 tries a point against a table, any other against a list), how many words the table has, the words, how many
 // the point has, the words. The run ends with the input, or at a job that is cut short or too long for the buffers.
 ghost use mathlib.Core.Path.{_≡_};
-ghost use Prim.Native.Nat.{_≤_};
+ghost use mathlib.Core.List.{[], _∷_};
+ghost use Prim.Native.Nat.{_+_, _≤_};
 ghost use lib.ListN.{length};
-ghost use Rattle.lines.specs.Text.{Ends};
+ghost use Rattle.lines.specs.Text.{LineAdded, Ends};
 ghost use Rattle.table_jobs.specs.Line.{line};
 use lines::Line;
 use lines::Turn;
@@ -39,6 +40,7 @@ fn answer(kind: u32, table: &[u32], numbers: &[u32]) -> Line
 fn print(text: &mut [u8], end: usize, line: Line) -> usize
     requires { ⌜ (end ≤ length (now text)) × (128 ≤ length (now text)) ⌝ }
     ensures { λ r. ⌜ r ≤ length (now (text .exit)) ⌝ }
+    ensures { λ r. ⌜ (end + 170 ≤ length (now (text .entry)) → LineAdded (line .outcome ∷ line .value ∷ []) end (now (text .entry)) r (now (text .exit))) ⌝ }
 {
     let numbers = [line.outcome, line.value];
     text::print_line(text, end, &numbers)

@@ -2,17 +2,17 @@
 use mathlib.Core.Path.{_≡_, refl, sym, _∙_, ap, ap₂}
 use mathlib.Core.Bool.{Bool, true, false, not, _||_}
 use mathlib.Core.List.{List, [], _∷_, _++_}
-use Prim.Native.Nat.{ℕ, zero, suc, _+_, _*_, _/_, _%_, _≤_, _<_}
+use Prim.Native.Nat.{ℕ, zero, suc, _+_, _*_, _%_, _≤_, _<_}
 use native.Mathlib.Omega.{arith}
 use borrow.Author.Tests.{lt-ltb, le-ltb, eq-eqb, ne-eqb}
 use lib.Dec.{eqb, ltb}
 use lib.ListN.{length, take, drop, length-drop}
 use lib.Seq.{take-append-le, drop-append-le}
 use Rattle.tables.specs.Read.{System, Listing}
-use Rattle.rules.specs.Written.{list-words, list-records}
+use Rattle.rules.specs.Written.{list-records}
 use Rattle.rules.specs.Eliminate.{Eliminated, listed, turned-back, eliminated, output-after}
 use Rattle.rules.specs.laws.Lengths.{length-list}
-use Rattle.rules.specs.laws.WrittenAgain.{Delivered, listed-delivered}
+use Rattle.rules.specs.laws.WrittenAgain.{listed-delivered}
 use Rattle.elimination.specs.declared.Answer.{Answer}
 use Rattle.elimination.specs.Answer.{answer-of}
 use Rattle.extent.specs.Extent.{extent}

@@ -1,5 +1,4 @@
 -- What the program prints for the bytes on standard input.
-use mathlib.Core.Path.{_≡_, refl}
 use mathlib.Core.Bool.{true, false, not, _||_}
 use mathlib.Core.List.{List, [], _∷_, _++_}
 use Prim.Native.Nat.{ℕ, _%_}
@@ -17,8 +16,8 @@ unfoldable pub answer-text : Eliminated → List ℕ
 answer-text (listed n ss words) = line-text (0 ∷ n ∷ length ss ∷ []) ++ records-text words 0 (list-records ss)
 answer-text (turned-back n why at) = line-text (number why ∷ n ∷ at ∷ [])
 
--- "The floor program reads standard input as little-endian words, at most 4,096 records, with work area and output of 4,096 records each and a
--- limit of 100,000 steps. Longer input, or a broken last word, is refusal 1."
+-- It "reads standard input as little-endian words, at most 4,096 records, with work area and output of 4,096 records each and a limit of 100,000
+-- steps. Longer input, or a broken last word, is refusal 1."
 unfoldable pub response : List ℕ → List ℕ
 response bytes =
     elim (ltb 65536 (length bytes) || not (eqb (length bytes % 4) 0)) [

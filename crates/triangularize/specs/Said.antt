@@ -1,4 +1,4 @@
--- What is printed.
+-- What is printed of an answer and the output that goes with it. `Response.antt` says the same of the elimination.
 use mathlib.Core.List.{List, [], _∷_, _++_}
 use Prim.Native.Nat.{ℕ, zero, suc, _*_}
 use lib.ListN.{take, drop}
@@ -14,7 +14,7 @@ unfoldable pub records-text : List ℕ → ℕ → ℕ → List ℕ
 records-text w i zero = []
 records-text w i (suc n) = line-text (take 4 (drop (4 * i) w)) ++ records-text w (suc i) n
 
--- "It prints outcome (0 or the refusal), steps, then systems or the record; after an outcome of 0, each written record on a line."
+-- After an outcome of 0 the written records are those that the list in the output takes.
 unfoldable pub said-of : ℕ → Outcome → List ℕ → List ℕ
 said-of steps (Systems count) out = line-text (0 ∷ steps ∷ count ∷ []) ++ records-text out 0 (extent out)
 said-of steps (Refused why at) out = line-text (number why ∷ steps ∷ at ∷ [])

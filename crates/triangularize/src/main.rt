@@ -1,4 +1,4 @@
-// Document 01's floor program: eliminates the table on standard input, little-endian words of at most 4,096 records, with a work area and an
+// The program of document 01: eliminates the table on standard input, little-endian words of at most 4,096 records, with a work area and an
 // output of 4,096 records each and a limit of 100,000 steps. It prints the outcome (0 or the refusal), the steps, then the count of systems
 // or the refusal's record; after an outcome of 0, each written record on a line.
 ghost use mathlib.Core.Path.{_≡_};
@@ -48,7 +48,8 @@ fn put_answer(text: &mut [u8], answer: Answer, output: &[u32]) -> usize
     }
 }
 
-// The text for the bytes read. More bytes than 4,096 records have, or a broken last word, are refusal 1.
+// The text for the bytes read. More bytes than 4,096 records have, or a broken last word, are refusal 1. What the other buffers hold afterwards is
+// free: nothing reads them again.
 fn respond(
     bytes: &[u8],
     words: &mut [u32],

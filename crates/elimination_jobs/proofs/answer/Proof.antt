@@ -1,6 +1,5 @@
 -- The list is read from the first words of the output.
 use mathlib.Core.Path.{sym}
-use native.Mathlib.Omega.{arith}
 use borrow.Author.Needs.{needs}
 use lib.Seq.{length-take-le}
 use Rattle.elimination_jobs.proofs.answer.Statement.{statement}

@@ -1,18 +1,17 @@
 -- Of a written list, whatever follows it, the extent is the records that the list needs.
-use mathlib.Core.Path.{_≡_, refl, sym, _∙_, ap}
+use mathlib.Core.Path.{_≡_, refl, _∙_, ap}
 use mathlib.Core.Bool.{true, false}
 use mathlib.Core.List.{List, [], _∷_, _++_}
-use Prim.Native.Nat.{ℕ, zero, suc, _+_, _*_, _≤_, _<_}
+use Prim.Native.Nat.{ℕ, zero, suc, _+_, _≤_, _<_}
 use native.Mathlib.Omega.{arith}
 use borrow.Author.Tests.{eq-eqb, ne-eqb, le-ltb}
-use lib.Dec.{eqb, ltb}
-use lib.ListN.{length, length-append}
+use lib.ListN.{length}
 use Rattle.polynomials.specs.Poly.{Poly}
 use Rattle.tables.specs.Words.{word, records, follow, Followed, end, to, astray}
 use Rattle.tables.specs.Read.{System, Listing}
 use Rattle.rules.specs.Room.{polynomials-size, systems-size}
 use Rattle.rules.specs.Written.{index-of, terms-words, heads-words, systems-words, list-words, list-records}
-use Rattle.rules.specs.laws.Lengths.{length-terms, length-heads, length-systems, length-list, length-size, length-systems-size}
+use Rattle.rules.specs.laws.Lengths.{length-terms, length-heads, length-systems, length-size, length-systems-size}
 use Rattle.tables.specs.laws.Chains.{follow-to}
 use Rattle.rules.specs.laws.Stands.{Stands, Holds, stands-whole, first-record, stands-left, stands-right}
 use Rattle.rules.specs.laws.ReadAgain.{next-head, next-system}
@@ -25,10 +24,12 @@ module _ (w : List ℕ) where
   chain-ends zero at = refl
   chain-ends (suc fuel) at = refl
 
-  chain-goes : (fuel at i : ℕ) → at < i → i < records w → chain w (suc fuel) at i ≡ chain w fuel i (word w i 3)
+  pub chain-follows : (fuel at i : ℕ) {f : Followed} → follow w at i ≡ f → chain w (suc fuel) at i ≡ elim f [ end ↦ at | to j ↦ chain w fuel j (word w j 3) | astray ↦ at ]
   unfolding chain
-  chain-goes fuel at i h k =
-      ap (λ (o : Followed). elim o as (λ o. ℕ) [ end ↦ at | to j ↦ chain w fuel j (word w j 3) | astray ↦ at ]) (follow-to w at i h k)
+  chain-follows fuel at i e = ap (λ (f : Followed). elim f as (λ f. ℕ) [ end ↦ at | to j ↦ chain w fuel j (word w j 3) | astray ↦ at ]) e
+
+  chain-goes : (fuel at i : ℕ) → at < i → i < records w → chain w (suc fuel) at i ≡ chain w fuel i (word w i 3)
+  chain-goes fuel at i h k = chain-follows fuel at i (follow-to w at i h k)
 
   -- The terms behind record `at`.
   terms-end : (f : Poly) (fuel at : ℕ) → length f ≤ fuel → Stands w (suc at) (terms-words (suc at) f) → chain w fuel at (index-of f (suc at)) ≡ at + length f
@@ -85,20 +86,26 @@ module _ (w : List ℕ) where
       let b = stands-left w (suc h) (terms-words (suc h) f) [] (r .behind) in
       ap (chain w (records w) h) (r .word-0) ∙ terms-end f (records w) h (omega (arith, b .within, length-terms (suc h) f)) b
 
-  behind-head : (s none : ℕ) {j k stop : ℕ} → s < j → LastHead j k stop → suc (behind w s k none) ≡ stop
+  -- A chain with a head, and one without.
+  pub behind-some : (s h none : ℕ) → (h ≡ s → ⊥) → behind w s h none ≡ chain-last w h 0
   unfolding behind
+  behind-some s h none n = ap (λ b. elim b as (λ b. ℕ) [ true ↦ none | false ↦ chain-last w h 0 ]) (ne-eqb h s n)
+
+  pub behind-none : (s h none : ℕ) → h ≡ s → behind w s h none ≡ none
+  unfolding behind
+  behind-none s h none e = ap (λ b. elim b as (λ b. ℕ) [ true ↦ none | false ↦ chain-last w h 0 ]) (eq-eqb h s e)
+
+  behind-head : (s none : ℕ) {j k stop : ℕ} → s < j → LastHead j k stop → suc (behind w s k none) ≡ stop
   behind-head s none {k = k} h r =
-      ap (λ b. suc (elim b as (λ b. ℕ) [ true ↦ none | false ↦ chain-last w k 0 ])) (ne-eqb k s (λ q. omega (arith, r .is, r .from)))
+      ap suc (behind-some s k none (λ q. omega (arith, r .is, r .from)))
       ∙ ap (λ (i : ℕ). suc (chain-last w i 0)) (r .is)
       ∙ ap suc (head-end (r .head) (r .poly) (r .stands))
       ∙ r .size
 
   -- What stands last in a chain of heads from record j on, which record s starts.
   behind-end : (s j : ℕ) (fs : List Poly) (none : ℕ) → s < j → Stands w j (heads-words j fs) → suc none ≡ j → suc (behind w s (chain w (records w) s (index-of fs j)) none) ≡ j + polynomials-size fs
-  unfolding behind polynomials-size
-  behind-end s j [] none h z e =
-      ap (λ b. suc (elim b as (λ b. ℕ) [ true ↦ none | false ↦ chain-last w (chain w (records w) s 0) 0 ])) (eq-eqb (chain w (records w) s 0) s (chain-ends (records w) s))
-      ∙ omega arith
+  unfolding polynomials-size
+  behind-end s j [] none h z e = ap suc (behind-none s (chain w (records w) s 0) none (chain-ends (records w) s)) ∙ omega arith
   behind-end s j (f ∷ fs) none h z e =
       behind-head s none h (heads-end f fs (records w) s j (omega (arith, z .within, length-heads j (f ∷ fs), length-size (f ∷ fs))) h z)
 
@@ -149,9 +156,12 @@ module _ (w : List ℕ) where
       ∙ behind-end i j (x .U) (behind w i (chain-last w i 0) i) (omega arith) us (ap (λ (k : ℕ). suc (behind w i (chain w (records w) i k) i)) (r .word-0) ∙ t)
       ∙ omega arith
 
+  pub list-last-some : (s : ℕ) → (s ≡ 0 → ⊥) → list-last w s ≡ system-last w s
+  list-last-some s n = ap (λ b. elim b as (λ b. ℕ) [ true ↦ 0 | false ↦ system-last w s ]) (ne-eqb s 0 n)
+
   list-system : {k stop : ℕ} → LastSystem 1 k stop → suc (list-last w k) ≡ stop
   list-system {k} r =
-      ap (λ b. suc (elim b as (λ b. ℕ) [ true ↦ 0 | false ↦ system-last w k ])) (ne-eqb k 0 (λ q. omega (arith, r .is, r .from)))
+      ap suc (list-last-some k (λ q. omega (arith, r .is, r .from)))
       ∙ ap (λ (i : ℕ). suc (system-last w i)) (r .is)
       ∙ system-end (r .at) (r .system) (r .stands)
       ∙ r .size
@@ -163,12 +173,16 @@ module _ (w : List ℕ) where
       ap (λ (k : ℕ). suc (list-last w k)) (ap (chain w (records w) 0) e)
       ∙ list-system (systems-end x xs (records w) 0 1 (omega (arith, s .within, length-systems 1 (x ∷ xs), length-systems-size (x ∷ xs))) (omega arith) s)
 
--- ── the list ──
+  -- ── the list ──
+  pub extent-some : 4 ≤ length w → extent w ≡ suc (list-last w (chain-last w 0 2))
+  unfolding extent
+  extent-some h = ap (λ b. elim b as (λ b. ℕ) [ true ↦ 0 | false ↦ suc (list-last w (chain-last w 0 2)) ]) (le-ltb (length w) 4 h)
+
 pub extent-of-list : (l : Listing) (rest : List ℕ) → extent (list-words l ++ rest) ≡ list-records (l .systems)
-unfolding extent list-words list-records
+unfolding list-words list-records
 extent-of-list l rest =
     let w = list-words l ++ rest in
     let h : Holds w 0 (l .modulus) (l .variables) (index-of (l .systems) 1) (length (l .systems)) (systems-words 1 (l .systems)) =
     first-record w 0 _ _ _ _ _ (stands-left w 0 (list-words l) rest (stands-whole w)) in
-    ap (λ b. elim b as (λ b. ℕ) [ true ↦ 0 | false ↦ suc (list-last w (chain-last w 0 2)) ]) (le-ltb (length w) 4 (omega (arith, h .inside)))
+    extent-some w (omega (arith, h .inside))
     ∙ list-end w (l .systems) (h .word-2) (h .behind)

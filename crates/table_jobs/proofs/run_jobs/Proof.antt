@@ -1,7 +1,6 @@
 -- The invariant: the buffers keep their lengths, and the text ends within its own.
-use mathlib.Core.Path.{_≡_, _∙_}
+use mathlib.Core.Path.{_≡_}
 use Prim.Native.Nat.{_≤_}
-use native.Mathlib.Omega.{arith}
 use borrow.Author.Needs.{needs}
 use lib.ListN.{length}
 use Rattle.lines.proofs.TextLaws.{ends-next, ends-end}

@@ -1,5 +1,5 @@
 -- Each way out is a case of `response`.
-use mathlib.Core.Path.{_≡_, sym}
+use mathlib.Core.Path.{sym}
 use Prim.Native.Nat.{_/_}
 use native.Mathlib.Omega.{arith}
 use borrow.Author.Needs.{needs}
@@ -75,7 +75,7 @@ returns-3 c =
     let l = c .before .before .before .before .before .before .before .before .before .before .before .before .before .before .before .before .before .before .before .before .before .before .before .before .pre in
     let p = c .before .before .put-answer .ensures in (
       p .0,
-      answered b (take (length b / 4) (c .before .before .before .before .before .before .before .before .before .before .before .before .before .before .before .decode .last .1 .0)) (a .output .now) (length (a .work .now)) (length (a .output .now)) (c .before .before .before .before .before .before .before .before .before .before .before .before .before .before .before .before .before .before .if1 .left) (c .before .before .before .before .before .before .before .before .before .before .before .before .before .before .before .before .before .if2 .left) (c .before .before .before .before .before .before .before .before .before .before .before .before .before .before .before .decode .ensures)
+      answered b (take (length b / 4) (c .before .before .before .before .before .before .before .before .before .before .before .before .before .before .before .decode .last .1 .0)) (a .output .now) (length (a .work .now)) (length (a .output .now)) (c .before .before .before .before .before .before .before .before .before .before .before .before .before .before .before .before .before .before .if1 .left) (c .before .before .before .before .before .before .before .before .before .before .before .before .before .before .before .before .before .if2 .left) (c .before .before .before .before .before .before .before .before .before .before .before .before .before .before .before .decode .ensures .0)
           (sym (l .1)) (sym (l .2)) (e .0) (e .1 .0) (p .1),
     )
 

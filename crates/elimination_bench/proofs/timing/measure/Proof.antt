@@ -1,7 +1,6 @@
 -- The invariant: each batch adds less than 2^45 microseconds.
 use mathlib.Core.Path.{_≡_}
 use Prim.Native.Nat.{_+_, _*_, _≤_}
-use native.Mathlib.Omega.{arith}
 use borrow.Author.Needs.{needs}
 use lib.ListN.{length}
 use Rattle.elimination_bench.proofs.timing.measure.Statement.{statement}

@@ -1,6 +1,6 @@
 -- The filled buffers keep their lengths, and the work area is left cleared.
 use borrow.Author.Needs.{needs}
-use Rattle.elimination_jobs.proofs.RunLaws.{headed, listed-after}
+use Rattle.elimination_jobs.proofs.RunLaws.{headed, listed-after, cleared-after}
 use Rattle.elimination_jobs.proofs.job.run.Statement.{statement}
 use Rattle.elimination_jobs.proofs.job.run.Tie as tie
 
@@ -32,11 +32,14 @@ returns : tie.Need-returns
 returns c =
     let a = c .before .before .before .before .before .before .before .before .before .before .before .before .before .before .before .before .before .before .before .before .before .args in
     let e = c .before .before .before .before .before .before .before .eliminate in
-    let f = c .before .before .before .before .before .before .before .before .before .before .before .before .before .before .before .before .fill .last .0 in
-    let g = c .before .before .before .before .before .before .before .before .before .before .before .before .fill2 .last .0 in
-    let n = c .before .count-nonzero in (
-      headed (a .table .now) (a .work .now) (a .output .now) f g (a .limit) (a .filling) (c .before .before .before .before .before .before .before .before .before .before .before .before .before .before .before .before .fill .ensures) (c .before .before .before .before .before .before .before .before .before .before .before .before .fill2 .ensures) (n .result) (e .last .1 .0) (c .head-of .ensures) (e .ensures .0) (n .ensures .0) (e .ensures .1 .1),
-      listed-after (a .table .now) (a .work .now) (a .output .now) f g (a .limit) (a .filling) (c .before .before .before .before .before .before .before .before .before .before .before .before .before .before .before .before .fill .ensures) (c .before .before .before .before .before .before .before .before .before .before .before .before .fill2 .ensures) (e .ensures .1 .0),
+    let f = c .before .before .before .before .before .before .before .before .before .before .before .before .before .before .before .before .fill in
+    let g = c .before .before .before .before .before .before .before .before .before .before .before .before .fill2 in
+    let n = c .before .count-nonzero in
+    let w = a .table .now in
+    let k = a .work .now in
+    let o = a .output .now in (
+      headed w k o (f .last .0) (g .last .0) (a .limit) (a .filling) (f .ensures) (g .ensures) (n .result) (e .last .1 .0) (c .head-of .ensures) (e .ensures .0) (n .ensures .0) (e .ensures .1 .1),
+      (listed-after w k o (f .last .0) (g .last .0) (a .limit) (a .filling) (f .ensures) (g .ensures) (e .ensures .1 .0), cleared-after w k o (f .last .0) (g .last .0) (a .limit) (a .filling) (f .ensures) (g .ensures) (e .ensures .1 .1)),
     )
 
 pub run-spec : {M : Type 1} → statement M

@@ -1,5 +1,4 @@
 -- The counted numbers lie within the buffer, so its first can be lent.
-use mathlib.Core.Path.{_∙_}
 use borrow.Author.Needs.{needs}
 use Rattle.lines.proofs.InputLaws.{within, within-take}
 use Rattle.elimination_jobs.proofs.tries.run_one.Statement.{statement}

@@ -1,5 +1,4 @@
 -- Both answers are lines of what `tables` answers.
-use mathlib.Core.Path.{_∙_, ap}
 use borrow.Author.Needs.{needs}
 use Rattle.elimination_jobs.proofs.TriedLaws.{tried-both}
 use Rattle.elimination_jobs.proofs.tries.try_both.Statement.{statement}

@@ -1,17 +1,17 @@
--- The invariant: the words put so far and those that are left are all.
-use mathlib.Core.Path.{_≡_, refl, sym, _∙_, ap}
-use mathlib.Core.List.{_++_}
-use Prim.Native.Nat.{_+_, _*_, _-_, _/_, _≤_}
+-- The invariant: the words put so far and those that are left are all, and the words behind them stay.
+use mathlib.Core.Path.{_≡_, refl, _∙_}
+use Prim.Native.Nat.{_-_, _/_, _≤_}
 use native.Mathlib.Omega.{arith}
 use borrow.Author.Needs.{needs}
-use lib.ListN.{length, length-set, take}
-use Rattle.lines.specs.Input.{words-from, words-of}
+use lib.ListN.{length, drop, length-set}
+use lib.Seq.{drop-set-lt}
+use Rattle.lines.specs.Input.{words-of}
 use Rattle.lines.proofs.InputLaws.{Decoded, decoded-first, decoded-on, decoded-end}
 use Rattle.lines.proofs.input.decode.Statement.{statement}
 use Rattle.lines.proofs.input.decode.Tie as tie
 
 abbrev Inv-loop : tie.InvT-loop
-Inv-loop bytes words₀ n i₀ words i = (i ≤ n) × (length words ≡ length words₀) × Decoded bytes n i words
+Inv-loop bytes words₀ n i₀ words i = (i ≤ n) × (length words ≡ length words₀) × Decoded bytes n i words × (drop n words ≡ drop n words₀)
 
 abbrev μ-loop : tie.MeasureT-loop
 μ-loop bytes words₀ n i₀ words i = n - i
@@ -19,7 +19,7 @@ abbrev μ-loop : tie.MeasureT-loop
 loop-holds : tie.Need-loop-holds Inv-loop μ-loop
 loop-holds c =
     let a = c .before .before .args in
-    (omega arith, search needs, decoded-first (a .bytes .now) (length (a .bytes .now) / 4) (a .words .now))
+    (omega arith, search needs, decoded-first (a .bytes .now) (length (a .bytes .now) / 4) (a .words .now), refl)
 
 mul-word-at : tie.Need-mul-word-at Inv-loop μ-loop
 mul-word-at c = search needs
@@ -43,7 +43,14 @@ loop-again : tie.Need-loop-again Inv-loop μ-loop
 loop-again c =
     let l = c .before .before .loop in
     let b = c .before .before .before .before .before .args .bytes .now in
-    (omega arith, simp length-set (search needs), decoded-on b (length b / 4) (l .i) (l .words) (c .word-at .result) (c .before .loop-test .taken) (omega arith) (c .word-at .ensures) (l .inv .2))
+    let n = length b / 4 in
+    let x = c .word-at .result in
+    let h = c .before .loop-test .taken in (
+      omega arith,
+      simp length-set (search needs),
+      decoded-on b n (l .i) (l .words) x h (omega arith) (c .word-at .ensures) (l .inv .2),
+      drop-set-lt n (l .words) (l .i) x h ∙ l .inv .3,
+    )
 
 same-length : tie.Need-same-length Inv-loop μ-loop
 same-length c = search needs
@@ -52,7 +59,8 @@ returns : tie.Need-returns Inv-loop μ-loop
 unfolding words-of
 returns c =
     let b = c .before .before .before .before .args .bytes .now in
-    decoded-end b (length b / 4) (c .before .loop .i) (c .before .loop .words) (omega arith) (c .before .loop .inv .2)
+    let l = c .before .loop in
+    (decoded-end b (length b / 4) (l .i) (l .words) (omega arith) (l .inv .2), l .inv .3)
 
 pub decode-spec : {M : Type 1} → statement M
 decode-spec =

@@ -4,14 +4,14 @@ use Prim.Native.Nat.{_+_, _*_, _-_, _≤_}
 use native.Mathlib.Omega.{arith}
 use borrow.Author.Needs.{needs}
 use lib.ListN.{length, take}
-use Rattle.lines.proofs.TextLaws.{Reached, line-none, lined-on, lined-end, lined-whole}
+use Rattle.lines.proofs.TextLaws.{LineBegun, line-none, lined-on, lined-end, lined-whole}
 use Rattle.lines.proofs.text.print_line.Statement.{statement}
 use Rattle.lines.proofs.text.print_line.Tie as tie
 
 abbrev Inv-loop : tie.InvT-loop
 Inv-loop text₀ end numbers last₀ i₀ text last i =
     (1 ≤ i) × (i ≤ length numbers) × (length text ≡ length text₀) × (last ≤ length text)
-    × (end + 21 * length numbers + 128 ≤ length text₀ → Reached numbers end (take last₀ text₀) text last i)
+    × (end + 21 * length numbers + 128 ≤ length text₀ → LineBegun numbers end (take last₀ text₀) text last i)
 
 abbrev μ-loop : tie.MeasureT-loop
 μ-loop text₀ end numbers last₀ i₀ text last i = length numbers - i
@@ -45,7 +45,15 @@ put-number-requires : tie.Need-put-number-requires Inv-loop μ-loop
 put-number-requires c κs = search needs
 
 loop-holds : tie.Need-loop-holds Inv-loop μ-loop
-loop-holds c = (omega arith, omega arith, refl, omega (arith, c .before .before .put-number .ensures .0, c .before .before .before .before .before .before .room .ensures .0, c .before .before .put-number .kept .0), λ f. record { near = omega (arith, c .before .before .put-number .ensures .0, c .before .before .before .before .before .before .room .ensures .1 (omega (arith, c .before .before .put-number .kept .0))); lined = refl })
+loop-holds c =
+    let n = c .before .before .put-number in
+    let r = c .before .before .before .before .before .before .room .ensures in (
+      omega arith,
+      omega arith,
+      refl,
+      omega (arith, n .ensures .0, r .0, n .kept .0),
+      λ f. record { near = omega (arith, n .ensures .0, r .1 (omega (arith, n .kept .0))); lined = refl },
+    )
 
 room-requires-2 : tie.Need-room-requires-2 Inv-loop μ-loop
 room-requires-2 c κs = search needs

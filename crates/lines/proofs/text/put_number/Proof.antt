@@ -1,11 +1,11 @@
 -- The digits are copied to the text's end.
 use borrow.Author.Needs.{needs}
-use mathlib.Core.Path.{_≡_, sym, _∙_, ap}
+use mathlib.Core.Path.{_∙_, ap}
 use mathlib.Core.List.{List, _++_}
-use Prim.Native.Nat.{ℕ, _+_, _-_}
+use Prim.Native.Nat.{ℕ, _-_}
 use native.Mathlib.Omega.{arith}
 use lib.ListN.{length, take, drop, length-take, length-drop}
-use lib.Seq.{length-take-le, take-length}
+use lib.Seq.{length-take-le}
 use Rattle.lines.proofs.TextLaws.{few-digits, decimal-digits, copied}
 use Rattle.lines.proofs.text.put_number.Statement.{statement}
 use Rattle.lines.proofs.text.put_number.Tie as tie

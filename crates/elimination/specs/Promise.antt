@@ -11,6 +11,7 @@ use lib.ListN.{length, take, replicate}
 use Rattle.tables.specs.Read.{good, Input, System, read-table}
 use Rattle.tables.specs.Solve.{solves, first-solved, try-input, try-systems, trial, placing}
 use Rattle.tables.specs.Reason.{number}
+use Rattle.tables.specs.Numbers.{Numbers, trial-numbers, place-numbers}
 use Rattle.tables.specs.declared.Reason.{Reason}
 use Rattle.tables.specs.declared.Reason.the-variants.{Shape, Prime, Variables, Index, Head, Coefficient, Exponent, Order, Terms, Degree, Room, Steps, Output, Point, Broken}
 use Rattle.tables.specs.declared.Trial.{Trial}
@@ -24,7 +25,7 @@ use Rattle.rules.specs.Promise.{ListPromise, PointPromise, promise}
 use Rattle.elimination.specs.declared.Answer.{Answer}
 use Rattle.elimination.specs.declared.Outcome.the-variants.{Systems}
 use Rattle.elimination.specs.Answer.{answer-of}
-use Rattle.elimination.specs.Numbers.{Numbers, outcome-numbers, trial-numbers, place-numbers}
+use Rattle.elimination.specs.Numbers.{outcome-numbers}
 
 -- ── the calls, by their contracts ──
 pub record Eliminates (table work output : List ℕ) (limit : ℕ) (a : Answer) (work-after output-left : List ℕ) : Type 0 where

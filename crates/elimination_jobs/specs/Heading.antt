@@ -4,10 +4,9 @@ use mathlib.Core.List.{List, [], _∷_}
 use Prim.Native.Nat.{ℕ, suc, _≤_}
 use lib.Dec.{eqb}
 use lib.ListN.{length}
-use Rattle.tables.specs.Reason.{number}
 use Rattle.elimination.specs.declared.Answer.{Answer}
 use Rattle.elimination.specs.declared.Outcome.{Outcome}
-use Rattle.elimination.specs.declared.Outcome.the-variants.{Systems, Refused}
+use Rattle.elimination.specs.Numbers.{outcome-numbers}
 use Rattle.elimination_jobs.specs.declared.job.Heading.{Heading}
 use Rattle.elimination_jobs.specs.declared.job.Job.{Job}
 use Rattle.elimination_jobs.specs.declared.job.Job.the-variants.{Next, End}
@@ -19,8 +18,7 @@ nonzero (x ∷ xs) = elim (eqb x 0) [ true ↦ nonzero xs | false ↦ suc (nonze
 
 -- 0 or the refusal's number, the steps, the count of systems or the refusal's record; and how many words of the work area are not zero.
 abbrev pub heading : ℕ → Outcome → ℕ → Heading
-heading steps (Systems count) k = record { outcome = 0; steps = steps; value = count; nonzero = k }
-heading steps (Refused why at) k = record { outcome = number why; steps = steps; value = at; nonzero = k }
+heading steps o k = record { outcome = outcome-numbers o .outcome; steps = steps; value = outcome-numbers o .value; nonzero = k }
 
 abbrev pub heading-of : Answer → ℕ → Heading
 heading-of a k = heading (a .steps) (a .outcome) k

@@ -1,4 +1,5 @@
 pub mod Reason
+pub mod Numbers
 pub mod Words
 pub mod Read
 pub mod Solve

@@ -1,4 +1,4 @@
--- Document 01's number for each refusal.
+-- The number of a reason: those that document 01 gives in "Operations and their refusals". They stand here alone.
 use Prim.Native.Nat.{ℕ}
 use Rattle.tables.specs.declared.Reason.{Reason}
 use Rattle.tables.specs.declared.Reason.the-variants.{Shape, Prime, Variables, Index, Head, Coefficient, Exponent, Order, Terms, Degree, Room, Steps, Output, Point, Broken}

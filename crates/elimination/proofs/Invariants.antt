@@ -8,11 +8,9 @@ use native.Mathlib.Nat.{sub-zero}
 use lib.ListN.{length, take}
 use Rattle.polynomials.specs.Poly.{Poly}
 use Rattle.polynomials.specs.Packed.{terms}
-use Rattle.polynomials.specs.Working.{Holds, Forms}
-use Rattle.polynomials.specs.declared.Formed.{Formed}
-use Rattle.polynomials.specs.declared.Formed.the-variants.{OverDegree, OverTerms}
+use Rattle.polynomials.specs.Working.{Holds}
 use Rattle.polynomials.specs.Division.{degree}
-use Rattle.polynomials.specs.Bounds.{standard, Bounded, within, degree-passed, terms-passed, and-then, bounded-round, bounded-remainder}
+use Rattle.polynomials.specs.Bounds.{standard, Bounded, within, and-then, bounded-round, bounded-remainder}
 use Rattle.polynomials.specs.laws.Answers.{Answered}
 use Rattle.polynomials.specs.laws.Bounded.{round-formed}
 use Rattle.polynomials.specs.laws.Degree.{round-lowers}
@@ -120,17 +118,6 @@ module _ {p k d : ℕ} {t i : List ℕ} (prime : Prime p) (P : Pivoted p k d t i
   }
 
 -- ── where the division ends ──
--- The bound that a call answers is passed.
-pub formed-degree : (B : Bounded) (r : Formed) (s : List ℕ) → r ≡ OverDegree → Forms B r s → B ≡ degree-passed
-formed-degree (within f) r s q F = absurd (let z : _≡_ {A = ℕ} 0 1 = cc in omega arith)
-formed-degree degree-passed r s q F = refl
-formed-degree terms-passed r s q F = absurd (let z : _≡_ {A = ℕ} 0 1 = cc in omega arith)
-
-pub formed-terms : (B : Bounded) (r : Formed) (s : List ℕ) → r ≡ OverTerms → Forms B r s → B ≡ terms-passed
-formed-terms (within f) r s q F = absurd (let z : _≡_ {A = ℕ} 0 1 = cc in omega arith)
-formed-terms degree-passed r s q F = absurd (let z : _≡_ {A = ℕ} 0 1 = cc in omega arith)
-formed-terms terms-passed r s q F = refl
-
 module _ {p k d : ℕ} {t i : List ℕ} (P : Pivoted p k d t i) {r₀ : List ℕ} {n₀ : ℕ} {r : List ℕ} {n : ℕ}
     (D : AtDivision p k d (terms t) r₀ n₀ r n) (most : ℕ) where
   -- The remainder is what the rounds left form.

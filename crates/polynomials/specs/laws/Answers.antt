@@ -31,6 +31,17 @@ formed-words (within f) n r s q F = let e : 2 * length f ≡ n = cc in (f, refl,
 formed-words degree-passed n r s q F = absurd (let z : _≡_ {A = ℕ} 0 1 = cc in omega arith)
 formed-words terms-passed n r s q F = absurd (let z : _≡_ {A = ℕ} 0 1 = cc in omega arith)
 
+-- The bound that a call answers is passed.
+pub formed-degree : (B : Bounded) (r : Formed) (s : List ℕ) → r ≡ OverDegree → Forms B r s → B ≡ degree-passed
+formed-degree (within f) r s q F = absurd (let z : _≡_ {A = ℕ} 0 1 = cc in omega arith)
+formed-degree degree-passed r s q F = refl
+formed-degree terms-passed r s q F = absurd (let z : _≡_ {A = ℕ} 0 1 = cc in omega arith)
+
+pub formed-terms : (B : Bounded) (r : Formed) (s : List ℕ) → r ≡ OverTerms → Forms B r s → B ≡ terms-passed
+formed-terms (within f) r s q F = absurd (let z : _≡_ {A = ℕ} 0 1 = cc in omega arith)
+formed-terms degree-passed r s q F = absurd (let z : _≡_ {A = ℕ} 0 1 = cc in omega arith)
+formed-terms terms-passed r s q F = refl
+
 -- The first n words of s are the polynomial that was to be formed.
 pub record Answered (p : ℕ) (B : Bounded) (n : ℕ) (s : List ℕ) : Type 0 where
   pub is : B ≡ within (terms (take n s))
@@ -60,17 +71,7 @@ module _ (B : Bounded) (k : Poly → Bounded) (s : List ℕ) where
   then-formed p n y r A F = subst (λ B. Forms (and-then B k) r s) (sym (A .is)) F
 
   pub then-degree : (r : Formed) (y : List ℕ) → r ≡ OverDegree → Forms B r y → Forms (and-then B k) OverDegree s
-  then-degree r y q F = go B F
-    where
-      go : (B : Bounded) → Forms B r y → Forms (and-then B k) OverDegree s
-      go (within f) F = absurd (let z : _≡_ {A = ℕ} 0 1 = cc in omega arith)
-      go degree-passed F = refl
-      go terms-passed F = absurd (let z : _≡_ {A = ℕ} 0 1 = cc in omega arith)
+  then-degree r y q F = subst (λ B. Forms (and-then B k) OverDegree s) (sym (formed-degree B r y q F)) refl
 
   pub then-terms : (r : Formed) (y : List ℕ) → r ≡ OverTerms → Forms B r y → Forms (and-then B k) OverTerms s
-  then-terms r y q F = go B F
-    where
-      go : (B : Bounded) → Forms B r y → Forms (and-then B k) OverTerms s
-      go (within f) F = absurd (let z : _≡_ {A = ℕ} 0 1 = cc in omega arith)
-      go degree-passed F = absurd (let z : _≡_ {A = ℕ} 0 1 = cc in omega arith)
-      go terms-passed F = refl
+  then-terms r y q F = subst (λ B. Forms (and-then B k) OverTerms s) (sym (formed-terms B r y q F)) refl

@@ -8,9 +8,10 @@ use borrow.Author.Needs.{needs}
 use borrow.Author.Tests.{not-true, not-false}
 use lib.Seq.{length-take-le}
 use Rattle.polynomials.specs.Bounds.{degree-passed, terms-passed}
+use Rattle.polynomials.specs.laws.Answers.{formed-degree, formed-terms}
 use Rattle.tables.specs.declared.Reason.the-variants.{Degree, Terms, Room}
 use Rattle.elimination.proofs.Slices.{kept-all, kept-then}
-use Rattle.elimination.proofs.Invariants.{AtRun, run-begins, formed-degree, formed-terms}
+use Rattle.elimination.proofs.Invariants.{AtRun, run-begins}
 use Rattle.elimination.proofs.MembersLaws.{members-open, members-left, member-open, member-behind, member-degree, member-terms}
 use Rattle.elimination.proofs.RunLaws.{run-holds-some, run-has-control, run-finished, run-no-steps, run-goes-on}
 use Rattle.elimination.proofs.run.run.Statement.{statement}

@@ -56,7 +56,10 @@ module _ (m : tie.After-start) where
       → Started (start (limits-in (most entry)) t) (t .modulus) (most entry) (m .start .result) (view area)
   begun t e = m .start .ensures t e
 
--- ── it found room ──
+-- ── it found no room; or it found room ──
+abbrev no-room-in : tie.Then1 → tie.After-start
+no-room-in m = m .before .before .before .before
+
 abbrev to-start : tie.Else1 → tie.After-start
 to-start m = m .before .before .before .before
 
@@ -97,7 +100,7 @@ same-length c = search needs
 
 returns : tie.Need-returns
 returns c t e =
-    let f = c .before .before .before .before in
+    let f = no-room-in c in
     let s = entry f in
     in-words (s .args .work .now) (room s) (s .args .limit) t
     (no-room t (most s) (s .args .limit) (view (area f)) (begun f t e) (room s) (s .args .output .now) (not-true (f .start .result) (c .if1 .taken)))

@@ -316,7 +316,7 @@ module _ (m : StepDone) where
   abbrev Goes : List ℕ → Type 0
   Goes = Goes-to (capacity (at-turn done-run .w)) (p done-run) (at-turn done-run .w)
 
-  -- With members divided or without.
+  -- With members divided or without: each way tells what happened on it, and then what each slice is where the ways meet.
   came : Goes (at-done m .w) × Kept (at-prepared (done-in m)) (at-done m)
   came =
       let P = preparation (done-in m) in

@@ -217,6 +217,7 @@ abbrev pub done-in : StepDone → StepPrepared
 done-in m = m .before
 
 -- ── the slices there ──
+-- What a call left (`last`), and that it kept lengths (`kept`), have a part for each of its parameters, in their order.
 abbrev pub at-entry : Entry → Slices
 at-entry m =
     let a = m .args in

@@ -2,17 +2,17 @@
 use mathlib.Core.Path.{_≡_, refl, sym, ap, ap₂, _∙_, subst}
 use mathlib.Core.Bool.{Bool, true, false, _&&_, _||_}
 use mathlib.Core.List.{List, [], _∷_, _++_, append-assoc}
-use Prim.Native.Nat.{ℕ, zero, suc, _+_, _-_, _/_, _≤_, _<_}
+use Prim.Native.Nat.{ℕ, zero, suc, _+_, _-_, _/_, _<_}
 use native.Mathlib.Omega.{arith}
 use borrow.Author.Tests.{le-leb, lt-leb}
 use lib.Dec.{eqb}
 use lib.ListN.{length, take, drop, getD, length-append, take-append-drop}
-use Rattle.records.specs.Records.{Rec, nul}
+use Rattle.records.specs.Records.{Rec}
 use Rattle.stored.specs.Stored.{member, same, skip-to, polys-at, Storable}
 use Rattle.stored.specs.laws.Stored.{equal-of-same, length-le-polys-records}
 use Rattle.branches.specs.Words.{put-P, put-Q, put-Q-before, is-zero, is-one, unless, remove}
 use Rattle.branches.specs.Area.{Stored, Area, Held, Leaves, size, with-open, All-storable, put-into-P, put-into-Q, without-P, closed}
-use Rattle.branches.proofs.AreaLaws.{lies, first-is, place, place-add, place-one, all, at-of, end-of, end-is, room-is, storable-take, storable-member, parted-Q, in-Q, skip-Q}
+use Rattle.branches.proofs.AreaLaws.{place, place-add, at-of, end-is, room-is, storable-take, storable-member, parted-Q, in-Q, skip-Q}
 use Rattle.branches.proofs.OpenLaws.{Storable-branch, storable-remove, More, more-ends}
 
 -- ── the answers ──

@@ -88,8 +88,9 @@ size-more b b' bs ss = omega (arith, length-append (stack (b ∷ bs) .0) (branch
 
 -- ── answers ──
 -- Where a smaller state finds no room.
-pub failed : (a a' : Area) (most most' : ℕ) (r : Bool) (v v' : List Rec) → r ≡ false → most ≡ most' → Leaves most a r v → size a ≤ size a' → Leaves most' a' false v'
-failed a a' most most' r v v' e m L h =
+pub failed : {a a' : Area} {most most' : ℕ} {r : Bool} {v v' : List Rec} → r ≡ false → most ≡ most' → Leaves most a r v → size a ≤ size a'
+    → Leaves most' a' false v'
+failed {a} {a'} {most} {most'} e m L h =
     let less : most < size a = leb-false (size a) most (sym (L .answer) ∙ e) in
     record {
       answer = sym (lt-leb (size a') most' (omega arith));

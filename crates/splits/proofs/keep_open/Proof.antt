@@ -1,5 +1,5 @@
 -- `keep_open` meets its contract: the numbers that the code reads lie as `Placed` says, the pieces fit, and what is held then is `kept`.
-use mathlib.Core.Path.{_≡_, refl, ap, _∙_}
+use mathlib.Core.Path.{_≡_, refl, _∙_}
 use mathlib.Core.List.{List}
 use Prim.Native.Nat.{ℕ, _+_, _-_, _/_, _≤_, _<_}
 use native.Mathlib.Omega.{arith}
@@ -10,8 +10,8 @@ use Rattle.stored.specs.Stored.{skip-to}
 use Rattle.branches.specs.Area.{Stored, Held, capacity, with-open}
 use Rattle.branches.proofs.LengthLaws.{inside-room}
 use Rattle.branches.proofs.OpenLaws.{w0-is, w1-is, w2-is}
-use Rattle.branches.proofs.TurnLaws.{own, own-record, Bounds, bounds-inside, at-is, end-is, top-is}
-use Rattle.splits.proofs.SplitLaws.{end-front, end-back, end-P, end-Q, Placed, Copied, Ordered, ordered, to-front, to-back, to-Q, to-T, parts-inside, no-room, kept}
+use Rattle.branches.proofs.TurnLaws.{own-record, Bounds, bounds-inside, at-is, end-is, top-is}
+use Rattle.splits.proofs.SplitLaws.{end-front, end-back, end-P, end-Q, Placed, Ordered, ordered, to-front, to-back, to-Q, to-T, parts-inside, no-room, kept}
 use Rattle.splits.proofs.PieceLaws.{Reached, reach, reach-last, first-fits, next-fits, next-small, copied-up}
 use borrow.Author.Needs.{needs}
 use Rattle.splits.proofs.keep_open.Statement.{statement}

@@ -1,56 +1,118 @@
--- `split::split`: what is held after each call, from the calls' contracts; `failed` where there is no room, `kept-aside` at the end.
+-- `split` meets its contract: what is held after each call, from the calls' contracts; `failed` where there is no room, `kept-aside` at the end.
 use mathlib.Core.Path.{_≡_, sym, ap, _∙_}
 use mathlib.Core.List.{List, _∷_}
-use Prim.Native.Nat.{_-_}
+use Prim.Native.Nat.{ℕ, _+_, _-_}
 use native.Mathlib.Omega.{arith}
 use borrow.Author.Tests.{not-true, not-false}
 use lib.ListN.{length}
-use Rattle.records.specs.Records.{Rec, view}
-use Rattle.records.proofs.Rows.{length-view}
-use Rattle.branches.specs.Area.{Stored, Held, Leaves, capacity, with-open, put-into-P, put-into-Q, without-P, aside, kept-open, split-area}
-use Rattle.branches.proofs.TurnLaws.{start, control, own-record, within}
+use Rattle.records.specs.Records.{view}
+use Rattle.branches.specs.Area.{Stored, Held, Leaves, capacity, with-open, put-into-P, put-into-Q, without-P, aside}
+use Rattle.branches.proofs.AreaLaws.{at-inside, p-is}
+use Rattle.branches.proofs.LengthLaws.{same-capacity, inside-room, held-by, left-by}
 use Rattle.splits.proofs.AsideLaws.{length-aside, kept-aside, size-initial, size-more, failed, same-members}
-use Rattle.branches.proofs.LengthLaws.{same-capacity, held-by, left-by}
 use borrow.Author.Needs.{needs}
 use Rattle.splits.proofs.split.Statement.{statement}
 use Rattle.splits.proofs.split.Tie as tie
 
-abbrev Holds : tie.Start → Stored → List Stored → List Stored → Type 0
-Holds s b bs ss = Held (view (s .args .w .now)) (capacity (s .args .w .now)) (with-open b bs ss)
+-- ── the places, and the ways back from one to another ──
+-- The count of P is read.
+abbrev Reading : Type 0
+Reading = tie.After-get02
 
-at-is : (c : tie.After-get0) (b : Stored) (bs ss : List Stored) (H : Holds (c .before .before .before .before .before .before) b bs ss) → c .get0 .result ≡ start bs
-at-is c b bs ss H = c .get0 .ensures ∙ ap (λ (r : Rec). r .w0) (control H)
+abbrev at-read : Reading → tie.After-get0
+at-read r = r .before .before
 
-p-is : (c : tie.After-get02) (b : Stored) (bs ss : List Stored) (H : Holds (c .before .before .before .before .before .before .before .before) b bs ss) → c .get02 .result ≡ length (b .P)
-p-is c b bs ss H = c .get02 .ensures ∙ ap (λ (r : Rec). r .w0) (own-record H (c .before .before .get0 .result) (at-is (c .before .before) b bs ss H))
+abbrev start : Reading → tie.Start
+start r = at-read r .before .before .before .before .before .before
 
--- Without the pivot; with the initial; with the rest.
-removed : (c : tie.After-remove-p) (b : Stored) (bs ss : List Stored) (H : Holds (c .before .before .before .before .before .before .before .before .before .before) b bs ss)
-    → Held (view (c .remove-p .last .0)) (capacity (c .remove-p .last .0)) (with-open (without-P (c .before .before .before .before .before .before .before .before .before .before .args .i) b) bs ss)
-removed c b bs ss H =
-    held-by (view (c .remove-p .last .0)) (with-open (without-P (c .before .before .before .before .before .before .before .before .before .before .args .i) b) bs ss) (c .before .before .before .before .before .before .before .before .before .before .args .w .now) (c .remove-p .last .0) (sym (c .remove-p .kept .0))
-    (c .remove-p .ensures b bs ss H)
+-- The member is out of P; the initial is put in, if there was room; the rest is, if there was room; the branch that stays open is built.
+abbrev from-remove : tie.After-remove-p → Reading
+from-remove c = c .before .before
 
-initial-put : (c : tie.After-put-p) (b : Stored) (bs ss : List Stored) (H : Holds (c .before .before .before .before .before .before .before .before .before .before .before .before .before .before) b bs ss)
-    → Leaves (capacity (c .before .before .before .before .remove-p .last .0)) (with-open (put-into-P (c .before .before .before .before .before .before .before .before .before .before .before .before .before .before .args .initial .now) (without-P (c .before .before .before .before .before .before .before .before .before .before .before .before .before .before .args .i) b)) bs ss) (c .put-p .result) (view (c .put-p .last .0))
-initial-put c b bs ss H = c .put-p .ensures (without-P (c .before .before .before .before .before .before .before .before .before .before .before .before .before .before .args .i) b) bs ss (removed (c .before .before .before .before) b bs ss H)
+abbrev remove-of : tie.After-put-p → tie.After-remove-p
+remove-of c = c .before .before .before .before
 
-with-initial : (c : tie.Else1) (b : Stored) (bs ss : List Stored) (H : Holds (c .before .before .before .before .before .before .before .before .before .before .before .before .before .before .before .before .before) b bs ss)
-    → Held (view (c .before .before .before .put-p .last .0)) (capacity (c .before .before .before .put-p .last .0)) (with-open (put-into-P (c .before .before .before .before .before .before .before .before .before .before .before .before .before .before .before .before .before .args .initial .now) (without-P (c .before .before .before .before .before .before .before .before .before .before .before .before .before .before .before .before .before .args .i) b)) bs ss)
-with-initial c b bs ss H =
-    held-by (view (c .before .before .before .put-p .last .0)) (with-open (put-into-P (c .before .before .before .before .before .before .before .before .before .before .before .before .before .before .before .before .before .args .initial .now) (without-P (c .before .before .before .before .before .before .before .before .before .before .before .before .before .before .before .before .before .args .i) b)) bs ss) (c .before .before .before .before .before .before .before .remove-p .last .0) (c .before .before .before .put-p .last .0)
-    (sym (c .before .before .before .put-p .kept .0)) (initial-put (c .before .before .before) b bs ss H .held (not-false (c .before .before .before .put-p .result) (c .if1 .left)))
+abbrev from-initial : tie.After-put-p → Reading
+from-initial c = from-remove (remove-of c)
 
-rest-put : (c : tie.After-put-p2) (b : Stored) (bs ss : List Stored) (H : Holds (c .before .before .before .before .before .before .before .before .before .before .before .before .before .before .before .before .before .before .before) b bs ss)
-    → Leaves (capacity (c .before .before .before .before .before .put-p .last .0)) (with-open (aside (c .before .before .before .before .before .before .before .before .before .before .before .before .before .before .before .before .before .before .before .args .i) (c .before .before .before .before .before .before .before .before .before .before .before .before .before .before .before .before .before .before .before .args .initial .now) (c .before .before .before .before .before .before .before .before .before .before .before .before .before .before .before .before .before .before .before .args .rest .now) b) bs ss) (c .put-p2 .result) (view (c .put-p2 .last .0))
-rest-put c b bs ss H = c .put-p2 .ensures (put-into-P (c .before .before .before .before .before .before .before .before .before .before .before .before .before .before .before .before .before .before .before .args .initial .now) (without-P (c .before .before .before .before .before .before .before .before .before .before .before .before .before .before .before .before .before .before .before .args .i) b)) bs ss (with-initial (c .before .before) b bs ss H)
+abbrev initial-of : tie.After-put-p2 → tie.After-put-p
+initial-of c = c .before .before .before .before .before
 
-set-aside : (c : tie.Else2) (b : Stored) (bs ss : List Stored) (H : Holds (c .before .before .before .before .before .before .before .before .before .before .before .before .before .before .before .before .before .before .before .before .before .before) b bs ss)
-    → Held (view (c .before .before .before .put-p2 .last .0)) (capacity (c .before .before .before .put-p2 .last .0)) (with-open (aside (c .before .before .before .before .before .before .before .before .before .before .before .before .before .before .before .before .before .before .before .before .before .before .args .i) (c .before .before .before .before .before .before .before .before .before .before .before .before .before .before .before .before .before .before .before .before .before .before .args .initial .now) (c .before .before .before .before .before .before .before .before .before .before .before .before .before .before .before .before .before .before .before .before .before .before .args .rest .now) b) bs ss)
-set-aside c b bs ss H =
-    held-by (view (c .before .before .before .put-p2 .last .0)) (with-open (aside (c .before .before .before .before .before .before .before .before .before .before .before .before .before .before .before .before .before .before .before .before .before .before .args .i) (c .before .before .before .before .before .before .before .before .before .before .before .before .before .before .before .before .before .before .before .before .before .before .args .initial .now) (c .before .before .before .before .before .before .before .before .before .before .before .before .before .before .before .before .before .before .before .before .before .before .args .rest .now) b) bs ss) (c .before .before .before .before .before .before .before .before .put-p .last .0) (c .before .before .before .put-p2 .last .0)
-    (sym (c .before .before .before .put-p2 .kept .0)) (rest-put (c .before .before .before) b bs ss H .held (not-false (c .before .before .before .put-p2 .result) (c .if2 .left)))
+abbrev from-rest : tie.After-put-p2 → Reading
+from-rest c = from-initial (initial-of c)
 
+abbrev rest-of : tie.After-keep-open → tie.After-put-p2
+rest-of c = c .before .before .before .before .before
+
+-- ── what is read ──
+abbrev w : Reading → List ℕ
+w r = start r .args .w .now
+
+abbrev i : Reading → ℕ
+i r = start r .args .i
+
+abbrev f : Reading → List ℕ
+f r = start r .args .f .now
+
+abbrev initial : Reading → List ℕ
+initial r = start r .args .initial .now
+
+abbrev rest : Reading → List ℕ
+rest r = start r .args .rest .now
+
+-- ── the open branch after each call ──
+abbrev without : Reading → Stored → Stored
+without r b = without-P (i r) b
+
+abbrev with-initial : Reading → Stored → Stored
+with-initial r b = put-into-P (initial r) (without r b)
+
+abbrev with-rest : Reading → Stored → Stored
+with-rest r b = aside (i r) (initial r) (rest r) b
+
+abbrev Holds : List ℕ → Stored → List Stored → List Stored → Type 0
+Holds u b bs ss = Held (view u) (capacity u) (with-open b bs ss)
+
+module _ {b : Stored} {bs ss : List Stored} where
+  count-is : (r : Reading) → Holds (w r) b bs ss → r .get02 .result ≡ length (b .P)
+  count-is r H = p-is H _ (at-read r .get0 .ensures) _ (r .get02 .ensures)
+
+  removed : (c : tie.After-remove-p) → Holds (w (from-remove c)) b bs ss → Holds (c .remove-p .last .0) (without (from-remove c) b) bs ss
+  removed c H = held-by _ _ (w (from-remove c)) (c .remove-p .last .0) (sym (c .remove-p .kept .0)) (c .remove-p .ensures b bs ss H)
+
+  initial-leaves : (c : tie.After-put-p) → Holds (w (from-initial c)) b bs ss
+      → Leaves (capacity (remove-of c .remove-p .last .0)) (with-open (with-initial (from-initial c) b) bs ss) (c .put-p .result) (view (c .put-p .last .0))
+  initial-leaves c H = c .put-p .ensures _ bs ss (removed (remove-of c) H)
+
+  initial-put : (c : tie.Else1) → let m = c .before .before .before in Holds (w (from-initial m)) b bs ss → Holds (m .put-p .last .0) (with-initial (from-initial m) b) bs ss
+  initial-put c H =
+      let m = c .before .before .before in
+      held-by _ _ (remove-of m .remove-p .last .0) (m .put-p .last .0) (sym (m .put-p .kept .0)) (initial-leaves m H .held (not-false _ (c .if1 .left)))
+
+  rest-leaves : (c : tie.After-put-p2) → Holds (w (from-rest c)) b bs ss
+      → Leaves (capacity (initial-of c .put-p .last .0)) (with-open (with-rest (from-rest c) b) bs ss) (c .put-p2 .result) (view (c .put-p2 .last .0))
+  rest-leaves c H = c .put-p2 .ensures _ bs ss (initial-put (c .before .before) H)
+
+  rest-put : (c : tie.Else2) → let m = c .before .before .before in Holds (w (from-rest m)) b bs ss → Holds (m .put-p2 .last .0) (with-rest (from-rest m) b) bs ss
+  rest-put c H =
+      let m = c .before .before .before in
+      held-by _ _ (initial-of m .put-p .last .0) (m .put-p2 .last .0) (sym (m .put-p2 .kept .0)) (rest-leaves m H .held (not-false _ (c .if2 .left)))
+
+-- The words are as many as at the start.
+same-initial : (c : tie.After-put-p) → length (c .put-p .last .0) ≡ length (w (from-initial c))
+same-initial c = c .put-p .kept .0 ∙ remove-of c .remove-p .kept .0
+
+same-rest : (c : tie.After-put-p2) → length (c .put-p2 .last .0) ≡ length (w (from-rest c))
+same-rest c = c .put-p2 .kept .0 ∙ same-initial (initial-of c)
+
+-- ── the branch of which the contract speaks ──
+abbrev b₀ : Reading → Stored
+b₀ r = start r .pre .0 .0
+
+opened : (r : Reading) → Holds (w r) (b₀ r) (start r .pre .0 .1) (start r .pre .0 .2)
+opened r = start r .pre .0 .3
+
+-- ── the needs ──
 get0-requires : tie.Need-get0-requires
 get0-requires c κs = search needs
 
@@ -59,86 +121,78 @@ cast-at c = search needs
 
 get0-requires-2 : tie.Need-get0-requires-2
 get0-requires-2 c κs =
-    let s = c .before .before .before .before .before .before .before in
-    let S = s .pre .0 in
-    omega (arith, at-is (c .before) (S .0) (S .1) (S .2) (S .3), within (S .3), length-view (s .args .w .now))
+    let a = c .before in
+    let s = a .before .before .before .before .before .before in
+    inside-room (s .args .w .now) (at-inside (s .pre .0 .3) _ (a .get0 .ensures))
 
 cast-p : tie.Need-cast-p
 cast-p c = search needs
 
 remove-p-requires : tie.Need-remove-p-requires
-remove-p-requires c κs =
-    let s = c .before .before .before .before .before .before .before .before .before in
-    (s .pre .0, λ b bs ss H. s .pre .1 .0 b bs ss H .0)
+remove-p-requires c κs = let s = start (c .before) in (s .pre .0, λ b bs ss H. s .pre .1 .0 b bs ss H .0)
 
 put-p-requires : tie.Need-put-p-requires
 put-p-requires c κs =
-    let s = c .before .before .before .before .before .before .before .before .before .before .before .before .before in
-    let S = s .pre .0 in
-    ((without-P (s .args .i) (S .0), S .1, S .2, removed (c .before .before .before) (S .0) (S .1) (S .2) (S .3)), s .pre .1 .1 .1 .0)
+    let m = c .before .before .before in
+    let r = from-remove m in
+    ((_, _, _, removed m (opened r)), start r .pre .1 .1 .1 .0)
 
 same-length : tie.Need-same-length
-same-length c = search needs
+same-length c = same-initial (c .before .before .before)
 
 returns : tie.Need-returns
 returns c b bs ss H =
-    let s = c .before .before .before .before .before .before .before .before .before .before .before .before .before .before .before .before .before in
-    let a = s .args in
-    failed (with-open (put-into-P (a .initial .now) (without-P (a .i) b)) bs ss) (split-area (a .i) (a .initial .now) (a .rest .now) b bs ss) (capacity (c .before .before .before .before .before .before .before .remove-p .last .0))
-    (capacity (a .w .now)) (c .before .before .before .put-p .result) (view (c .before .before .before .put-p .last .0)) (view (c .before .before .before .put-p .last .0)) (not-true (c .before .before .before .put-p .result) (c .if1 .taken))
-    (same-capacity (c .before .before .before .before .before .before .before .remove-p .last .0) (a .w .now) (c .before .before .before .before .before .before .before .remove-p .kept .0)) (initial-put (c .before .before .before) b bs ss H) (size-initial (a .i) (a .initial .now) (a .rest .now) b bs ss)
+    let m = c .before .before .before in
+    let r = from-initial m in
+    failed (not-true _ (c .if1 .taken)) (same-capacity (remove-of m .remove-p .last .0) (w r) (remove-of m .remove-p .kept .0)) (initial-leaves m H)
+    (size-initial (i r) (initial r) (rest r) b bs ss)
 
 put-p-requires-2 : tie.Need-put-p-requires-2
 put-p-requires-2 c κs =
-    let s = c .before .before .before .before .before .before .before .before .before .before .before .before .before .before .before .before .before .before in
-    let S = s .pre .0 in
-    ((put-into-P (s .args .initial .now) (without-P (s .args .i) (S .0)), S .1, S .2, with-initial (c .before) (S .0) (S .1) (S .2) (S .3)), s .pre .1 .1 .1 .1)
+    let r = from-initial (c .before .before .before .before) in
+    ((_, _, _, initial-put (c .before) (opened r)), start r .pre .1 .1 .1 .1)
 
 same-length-2 : tie.Need-same-length-2
-same-length-2 c = search needs
+same-length-2 c = same-rest (c .before .before .before)
 
 returns-2 : tie.Need-returns-2
 returns-2 c b bs ss H =
-    let s = c .before .before .before .before .before .before .before .before .before .before .before .before .before .before .before .before .before .before .before .before .before .before in
-    let a = s .args in
-    failed (with-open (aside (a .i) (a .initial .now) (a .rest .now) b) bs ss) (split-area (a .i) (a .initial .now) (a .rest .now) b bs ss) (capacity (c .before .before .before .before .before .before .before .before .put-p .last .0))
-    (capacity (a .w .now)) (c .before .before .before .put-p2 .result) (view (c .before .before .before .put-p2 .last .0)) (view (c .before .before .before .put-p2 .last .0)) (not-true (c .before .before .before .put-p2 .result) (c .if2 .taken))
-    (same-capacity (c .before .before .before .before .before .before .before .before .put-p .last .0) (a .w .now) (c .before .before .before .before .before .before .before .before .put-p .kept .0 ∙ c .before .before .before .before .before .before .before .before .before .before .before .before .remove-p .kept .0)) (rest-put (c .before .before .before) b bs ss H)
-    (size-more (aside (a .i) (a .initial .now) (a .rest .now) b) (put-into-Q 0 (a .initial .now) b) bs ss)
+    let m = c .before .before .before in
+    let r = from-rest m in
+    failed (not-true _ (c .if2 .taken)) (same-capacity (initial-of m .put-p .last .0) (w r) (same-initial (initial-of m))) (rest-leaves m H)
+    (size-more (with-rest r b) (put-into-Q 0 (initial r) b) bs ss)
 
 sub-keep-open : tie.Need-sub-keep-open
 sub-keep-open c =
-    let s = c .before .before .before .before .before .before .before .before .before .before .before .before .before .before .before .before .before .before .before .before .before .before .before in
-    let S = s .pre .0 in
-    omega (arith, p-is (c .before .before .before .before .before .before .before .before .before .before .before .before .before .before .before) (S .0) (S .1) (S .2) (S .3), s .pre .1 .0 (S .0) (S .1) (S .2) (S .3) .0)
+    let r = from-rest (c .before .before .before .before) in
+    omega (arith, count-is r (opened r), start r .pre .1 .0 _ _ _ (opened r) .0)
 
 keep-open-requires : tie.Need-keep-open-requires
 keep-open-requires c κs =
-    let s = c .before .before .before .before .before .before .before .before .before .before .before .before .before .before .before .before .before .before .before .before .before .before .before in
-    let S = s .pre .0 in
-    let a = s .args in
-    let H = set-aside (c .before) (S .0) (S .1) (S .2) (S .3) in
-    let h = s .pre .1 .0 (S .0) (S .1) (S .2) (S .3) .0 in
-    let p = p-is (c .before .before .before .before .before .before .before .before .before .before .before .before .before .before .before) (S .0) (S .1) (S .2) (S .3) in (
-      (aside (a .i) (a .initial .now) (a .rest .now) (S .0), S .1, S .2, H),
-      (λ c' bs ss H'. (omega arith, omega (arith, same-members H H', length-aside (a .i) (a .initial .now) (a .rest .now) (S .0) h)), (s .pre .1 .1 .0, s .pre .1 .1 .1 .0)),
+    let r = from-rest (c .before .before .before .before) in
+    let H = rest-put (c .before) (opened r) in
+    let h = start r .pre .1 .0 _ _ _ (opened r) .0 in
+    let p = count-is r (opened r) in (
+      (_, _, _, H),
+      (
+        λ b' bs ss H'. (omega (arith, h, p), omega (arith, p, same-members H H', length-aside (i r) (initial r) (rest r) (b₀ r) h)),
+        (start r .pre .1 .1 .0, start r .pre .1 .1 .1 .0),
+      ),
     )
 
 same-length-3 : tie.Need-same-length-3
-same-length-3 c = search needs
+same-length-3 c = let k = c .before .before in k .keep-open .kept .0 ∙ same-rest (rest-of k)
 
 returns-3 : tie.Need-returns-3
 returns-3 c b bs ss H =
-    let s = c .before .before .before .before .before .before .before .before .before .before .before .before .before .before .before .before .before .before .before .before .before .before .before .before .before .before in
-    let a = s .args in
-    let n = c .before .before .before .before .before .before .before .before .before .before .before .before .before .before .before .before .before .before .get02 .result - 1 in
-    let h = s .pre .1 .0 b bs ss H in
-    let A = aside (a .i) (a .initial .now) (a .rest .now) b in
-    let p = p-is (c .before .before .before .before .before .before .before .before .before .before .before .before .before .before .before .before .before .before) b bs ss H in
-    left-by (view (c .before .before .keep-open .last .0)) (c .before .before .keep-open .result) (with-open (kept-open (a .i) n (a .f .now) (a .initial .now) A) (A ∷ bs) ss)
-    (split-area (a .i) (a .initial .now) (a .rest .now) b bs ss) (c .before .before .before .before .before .before .before .put-p2 .last .0) (a .w .now) (c .before .before .before .before .before .before .before .put-p2 .kept .0 ∙ c .before .before .before .before .before .before .before .before .before .before .before .before .put-p .kept .0 ∙ c .before .before .before .before .before .before .before .before .before .before .before .before .before .before .before .before .remove-p .kept .0)
-    (ap (λ (x : Stored). with-open x (A ∷ bs) ss) (kept-aside (a .i) n (a .f .now) (a .initial .now) (a .rest .now) b (h .0) (omega (arith, h .0)) (h .1) (h .2) (h .3)))
-    (c .before .before .keep-open .ensures A bs ss (set-aside (c .before .before .before .before) b bs ss H))
+    let k = c .before .before in
+    let m = rest-of k in
+    let r = from-rest m in
+    let h = start r .pre .1 .0 b bs ss H in
+    let n : r .get02 .result - 1 + 1 ≡ length (b .P) = omega (arith, count-is r H, h .0) in
+    left-by _ _ _ _ (m .put-p2 .last .0) (w r) (same-rest m)
+    (ap (λ (x : Stored). with-open x (with-rest r b ∷ bs) ss) (kept-aside (i r) _ (f r) (initial r) (rest r) b (h .0) n (h .1) (h .2) (h .3)))
+    (k .keep-open .ensures _ bs ss (rest-put (k .before .before) H))
 
 pub split-spec : {M : Type 1} → statement M
 split-spec =

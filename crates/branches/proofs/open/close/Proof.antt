@@ -1,6 +1,6 @@
 -- `close` meets its contract: the member is taken out of P, and put in before T, where there is room for it now.
-use mathlib.Core.Path.{_≡_, refl, sym, ap, subst, _∙_}
-use mathlib.Core.List.{List, [], _∷_, _++_, append-assoc}
+use mathlib.Core.Path.{_≡_, refl, subst, _∙_}
+use mathlib.Core.List.{List, [], _++_}
 use Prim.Native.Nat.{ℕ, _+_, _/_, _≤_, _<_}
 use native.Mathlib.Omega.{arith}
 use lib.ListN.{length, getD}
@@ -13,7 +13,6 @@ use Rattle.branches.specs.Area.{Stored, Held, with-open, capacity, witho
 use Rattle.branches.proofs.AreaLaws.{place, at-of, own-of, own-read, storable-open, place-inside, at-inside, end-P, end-Q}
 use Rattle.branches.proofs.OpenLaws.{More, more-P, freed-room, Read, Gap, fits-word, at-fits, gap-inside, end-in-fits, held-in}
 use Rattle.branches.proofs.OpenLaws.{mk-equal, w0-is, w1-is, w2-is, w3-is}
-use Rattle.branches.proofs.LengthLaws.{inside-room}
 use Rattle.branches.proofs.PutLaws.{counts-small, adds-T, count-T, storable-T}
 use borrow.Author.Needs.{needs}
 use Rattle.branches.proofs.open.close.Statement.{statement}

@@ -1,10 +1,10 @@
 -- `turn::list` meets its contract: the branch's records are moved up to the systems, and both records are written anew.
-use mathlib.Core.Path.{_≡_, refl, ap, _∙_}
+use mathlib.Core.Path.{_≡_}
 use mathlib.Core.List.{List}
-use Prim.Native.Nat.{ℕ, _+_, _-_, _≤_, _<_}
+use Prim.Native.Nat.{ℕ, _≤_, _<_}
 use native.Mathlib.Omega.{arith}
 use lib.ListN.{length}
-use Rattle.records.specs.Records.{Rec, mk, room, view}
+use Rattle.records.specs.Records.{mk, room, view}
 use Rattle.branches.specs.Area.{Stored, Held, with-open, capacity}
 use Rattle.branches.proofs.LengthLaws.{inside-room}
 use Rattle.branches.proofs.OpenLaws.{mk-equal, w0-is, w1-is, w2-is, w3-is}

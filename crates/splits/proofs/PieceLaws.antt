@@ -1,6 +1,6 @@
 -- Pieces appended one behind the other over free records, and that they fit.
 use mathlib.Core.Path.{_≡_, sym, ap, _∙_}
-use mathlib.Core.List.{List, [], _∷_, _++_, append-assoc, append-nil}
+use mathlib.Core.List.{List, [], _++_, append-assoc, append-nil}
 use Prim.Native.Nat.{ℕ, _+_, _-_, _≤_}
 use native.Mathlib.Omega.{arith}
 use lib.ListN.{length, take, drop, length-append, length-drop}
@@ -36,33 +36,32 @@ top-left k end end' top l e h t = omega (arith, length-drop k l)
 pub last-part : (a b d : List Rec) → a ++ (b ++ d) ≡ a ++ b ++ (d ++ [])
 last-part a b d = sym (append-assoc a b d) ∙ ap (λ (u : List Rec). a ++ b ++ u) (sym (append-nil d))
 
--- Six pieces appended behind one record, four of them copied from X and two stored.
-pub chain : (X after : List Rec) (r : Rec) (R1 F R2 RQ I RT A₁ Z₁ A₂ Z₂ A₃ Z₃ A₄ Z₄ v₁ v₂ v₃ v₄ v₅ v₆ v₇ : List Rec) (end p₁ p₂ p₃ p₄ x₁ xf x₂ x₃ xi x₄ a₁ a₂ a₃ a₄ a₅ a₆ : ℕ)
-    → length X ≡ end → v₁ ≡ X ++ ((r ∷ []) ++ drop 1 after)
-    → (X ≡ A₁ ++ (R1 ++ Z₁)) × (length A₁ ≡ p₁) × (length R1 ≡ x₁) → length F ≡ xf
-    → (X ≡ A₂ ++ (R2 ++ Z₂)) × (length A₂ ≡ p₂) × (length R2 ≡ x₂)
-    → (X ≡ A₃ ++ (RQ ++ Z₃)) × (length A₃ ≡ p₃) × (length RQ ≡ x₃) → length I ≡ xi
-    → (X ≡ A₄ ++ (RT ++ Z₄)) × (length A₄ ≡ p₄) × (length RT ≡ x₄)
-    → (a₁ ≡ end + 1 + x₁) × (v₂ ≡ moved v₁ p₁ x₁ (end + 1)) → (a₂ ≡ a₁ + xf) × (v₃ ≡ paste v₂ a₁ F xf) → (a₃ ≡ a₂ + x₂) × (v₄ ≡ moved v₃ p₂ x₂ a₂)
-    → (a₄ ≡ a₃ + x₃) × (v₅ ≡ moved v₄ p₃ x₃ a₃) → (a₅ ≡ a₄ + xi) × (v₆ ≡ paste v₅ a₄ I xi) → (a₆ ≡ a₅ + x₄) × (v₇ ≡ moved v₆ p₄ x₄ a₅)
-    → (v₇ ≡ X ++ (((r ∷ []) ++ R1 ++ F ++ R2 ++ RQ ++ I ++ RT) ++ drop (1 + x₁ + xf + x₂ + x₃ + xi + x₄) after)) × (a₆ ≡ end + (1 + x₁ + xf + x₂ + x₃ + xi + x₄))
-chain X after r R1 F R2 RQ I RT A₁ Z₁ A₂ Z₂ A₃ Z₃ A₄ Z₄ v₁ v₂ v₃ v₄ v₅ v₆ v₇ end p₁ p₂ p₃ p₄ x₁ xf x₂ x₃ xi x₄ a₁ a₂ a₃ a₄ a₅ a₆ lX s₁ b₁ lF b₂ b₃ lI b₄ e₂ e₃ e₄ e₅ e₆ e₇ =
-    let m₂ : List Rec = (r ∷ []) ++ R1 in
-    let m₃ : List Rec = m₂ ++ F in
-    let m₄ : List Rec = m₃ ++ R2 in
-    let m₅ : List Rec = m₄ ++ RQ in
-    let m₆ : List Rec = m₅ ++ I in
-    let l₂ : length m₂ ≡ 1 + length R1 = length-append (r ∷ []) R1 in
-    let l₃ : length m₃ ≡ length m₂ + length F = length-append m₂ F in
-    let l₄ : length m₄ ≡ length m₃ + length R2 = length-append m₃ R2 in
-    let l₅ : length m₅ ≡ length m₄ + length RQ = length-append m₄ RQ in
-    let l₆ : length m₆ ≡ length m₅ + length I = length-append m₅ I in
-    let s₂ : v₂ ≡ X ++ (m₂ ++ drop (1 + x₁) after) = copied X (r ∷ []) after A₁ R1 Z₁ v₁ v₂ p₁ (end + 1) 1 x₁ s₁ (omega arith) (b₁ .0) (b₁ .1) (b₁ .2) (e₂ .1) in
-    let s₃ : v₃ ≡ X ++ (m₃ ++ drop (1 + x₁ + xf) after) = appended X m₂ after F F v₂ v₃ a₁ (1 + x₁) xf s₂ (omega arith) (all-of F xf lF) (e₃ .1) in
-    let s₄ : v₄ ≡ X ++ (m₄ ++ drop (1 + x₁ + xf + x₂) after) = copied X m₃ after A₂ R2 Z₂ v₃ v₄ p₂ a₂ (1 + x₁ + xf) x₂ s₃ (omega arith) (b₂ .0) (b₂ .1) (b₂ .2) (e₄ .1) in
-    let s₅ : v₅ ≡ X ++ (m₅ ++ drop (1 + x₁ + xf + x₂ + x₃) after) = copied X m₄ after A₃ RQ Z₃ v₄ v₅ p₃ a₃ (1 + x₁ + xf + x₂) x₃ s₄ (omega arith) (b₃ .0) (b₃ .1) (b₃ .2) (e₅ .1) in
-    let s₆ : v₆ ≡ X ++ (m₆ ++ drop (1 + x₁ + xf + x₂ + x₃ + xi) after) = appended X m₅ after I I v₅ v₆ a₄ (1 + x₁ + xf + x₂ + x₃) xi s₅ (omega arith) (all-of I xi lI) (e₆ .1) in
-    (copied X m₆ after A₄ RT Z₄ v₆ v₇ p₄ a₅ (1 + x₁ + xf + x₂ + x₃ + xi) x₄ s₆ (omega arith) (b₄ .0) (b₄ .1) (b₄ .2) (e₇ .1), omega arith)
+-- The records v are X, then the pieces m, k records in all and up to record a, and then what is left of `after`.
+pub record Grown (X after m : List Rec) (k : ℕ) (v : List Rec) (a : ℕ) : Type 0 where
+  pub is : v ≡ X ++ (m ++ drop k after)
+  pub over : length m ≡ k
+  pub up-to : a ≡ length X + k
+
+module _ {X after m : List Rec} {k : ℕ} {v : List Rec} {a : ℕ} (G : Grown X after m k v a) where
+  here : length X + length m ≡ a
+  here = omega (arith, G)
+
+  -- A piece of x records is copied from X, or is stored.
+  pub grow-copied : (A b Z : List Rec) {from x a₁ : ℕ} {v₁ : List Rec} → (X ≡ A ++ (b ++ Z)) × (length A ≡ from) × (length b ≡ x)
+      → (a₁ ≡ a + x) × (v₁ ≡ moved v from x a) → Grown X after (m ++ b) (k + x) v₁ a₁
+  grow-copied A b Z {from} {x} {a₁} {v₁} s e = record {
+    is = copied X m after A b Z v v₁ from a k x (G .is) here (s .0) (s .1) (s .2) (e .1);
+    over = omega (arith, G .over, s .2, length-append m b);
+    up-to = omega (arith, G .up-to, e .0);
+  }
+
+  pub grow-stored : (b : List Rec) {x a₁ : ℕ} {v₁ : List Rec} → length b ≡ x → (a₁ ≡ a + x) × (v₁ ≡ paste v a b x)
+      → Grown X after (m ++ b) (k + x) v₁ a₁
+  grow-stored b {x} {a₁} {v₁} s e = record {
+    is = appended X m after b b v v₁ a k x (G .is) here (all-of b x s) (e .1);
+    over = omega (arith, G .over, s, length-append m b);
+    up-to = omega (arith, G .up-to, e .0);
+  }
 
 -- ── the pieces fit ──
 -- The words w, as many as w₀ were, have the pieces up to record a, which is behind `end`; the next takes x records and the others `left`, below `top`.

@@ -10,8 +10,8 @@ use lib.Seq.{take-at, drop-append-le, drop-append-add, length-take-le, paste, se
 use Rattle.records.specs.Records.{Rec, mk, nul, moved}
 use Rattle.stored.specs.Stored.{poly-records, polys-records, skip-to, Storable}
 use Rattle.stored.specs.laws.Stored.{skip-to-polys-records, polys-records-append, polys-records-snoc, length-poly-records, length-le-polys-records}
-use Rattle.branches.specs.Area.{Stored, Held, Leaves, stack, branch-records, systems-records, with-open, size, kept-open}
-use Rattle.splits.proofs.PieceLaws.{chain, top-left, last-part}
+use Rattle.branches.specs.Area.{Stored, Held, Leaves, stack, branch-records, systems-records, with-open, size, kept-open, Branches-storable}
+use Rattle.splits.proofs.PieceLaws.{Grown, grow-copied, grow-stored, top-left, last-part}
 use Rattle.branches.proofs.AreaLaws.{storable-take}
 use Rattle.branches.proofs.PutLaws.{storable-append, storable-drop}
 use Rattle.branches.proofs.TurnLaws.{start, finish, own, within}
@@ -293,36 +293,43 @@ module _ {v : List Rec} {most : ℕ} {c : Stored} {bs ss : List Stored} (H : Hel
     end-inside : needed ≤ top - end → end < length v
     end-inside room = let fits = fits-in room in omega (arith, within H, G .end-is)
 
-    held-copied : needed ≤ top - end → Storable f → Storable initial → (v₁ v₂ v₃ v₄ v₅ v₆ v₇ v₈ : List Rec) (a₁ a₂ a₃ a₄ a₅ a₆ k : ℕ)
-        → v₁ ≡ set v end (mk (n + 1) (q + 1) t at)
-        → (a₁ ≡ end + 1 + (front - (at + 1))) × (v₂ ≡ moved v₁ (at + 1) (front - (at + 1)) (end + 1))
-        → (a₂ ≡ a₁ + (length f / 2 + 1)) × (v₃ ≡ paste v₂ a₁ (poly-records f) (length f / 2 + 1))
-        → (a₃ ≡ a₂ + (back - front)) × (v₄ ≡ moved v₃ front (back - front) a₂)
-        → (a₄ ≡ a₃ + (in-t - in-q)) × (v₅ ≡ moved v₄ in-q (in-t - in-q) a₃)
-        → (a₅ ≡ a₄ + (length initial / 2 + 1)) × (v₆ ≡ paste v₅ a₄ (poly-records initial) (length initial / 2 + 1))
-        → (a₆ ≡ a₅ + (end - in-t)) × (v₇ ≡ moved v₆ in-t (end - in-t) a₅)
-        → k ≡ getD v₇ 0 nul .w3 → v₈ ≡ set v₇ 0 (mk end a₆ top k)
+    storable-kept : Storable f → Storable initial → Branches-storable (kept-open i n f initial c ∷ (c ∷ bs))
+    storable-kept sf si =
+        let h = H .storable .0 in
+        let back = storable-take (n - i) (drop i (c .P)) (storable-drop i (c .P) (h .0)) in (
+          storable-append (take i (c .P)) (f ∷ take (n - i) (drop i (c .P))) (storable-take i (c .P) (h .0)) (sf, back),
+          storable-append (c .Q) (initial ∷ []) (h .1) (si, tt),
+          h .2,
+          h,
+        )
+
+    pub kept : needed ≤ top - end → Storable f → Storable initial → {v₈ : List Rec} → Copied v n at end top q t front back in-q in-t f initial v₈
         → Leaves most (with-open (kept-open i n f initial c) (c ∷ bs) ss) true v₈
-    held-copied room sf si v₁ v₂ v₃ v₄ v₅ v₆ v₇ v₈ a₁ a₂ a₃ a₄ a₅ a₆ k e₁ e₂ e₃ e₄ e₅ e₆ e₇ ek e₈ =
+    kept room sf si K =
         let behind : List Rec = systems-records ss ++ H .beyond in
         let after : List Rec = H .free ++ behind in
-        let R1 = front-P i c in
-        let R2 = back-P i n c in
-        let RQ = polys-records (c .Q) in
-        let RT = polys-records (c .T) in
-        let new = kept-open i n f initial c in
+        let R1 : List Rec = front-P i c in
+        let R2 : List Rec = back-P i n c in
+        let RQ : List Rec = polys-records (c .Q) in
+        let RT : List Rec = polys-records (c .T) in
+        let new : Stored = kept-open i n f initial c in
         let r : Rec = mk (n + 1) (q + 1) t at in
+        let g₀ : Grown used after (r ∷ []) 1 (K .v₁) (end + 1) =
+        record { is = record-put (end-inside room) r (K .v₁) (K .own-put); over = refl; up-to = omega (arith, length-used) } in
+        let g₁ = grow-copied g₀ to-P R1 (R2 ++ (new-P i n c ++ (RQ ++ RT))) first-block (K .front-copied) in
+        let g₂ = grow-stored g₁ (poly-records f) (length-poly-records f) (K .f-put) in
+        let g₃ = grow-copied g₂ (to-P ++ R1) R2 (new-P i n c ++ (RQ ++ RT)) second-block (K .back-copied) in
+        let g₄ = grow-copied g₃ to-new RQ RT Q-block (K .Q-copied) in
+        let g₅ = grow-stored g₄ (poly-records initial) (length-poly-records initial) (K .initial-put) in
+        let g₆ = grow-copied g₅ (to-new ++ RQ) RT [] T-block (K .T-copied) in
         let built : (r ∷ []) ++ R1 ++ poly-records f ++ R2 ++ RQ ++ poly-records initial ++ RT ≡ branch-records (start bs) new =
         kept-records i n (start bs) f initial c r (λ j. mk (members-P f j) (members-Q j) (G .t-is j) (G .at-is j)) in
-        let K : ℕ = 1 + (front - (at + 1)) + (length f / 2 + 1) + (back - front) + (in-t - in-q) + (length initial / 2 + 1) + (end - in-t) in
-        let done = chain used after r R1 (poly-records f) R2 RQ (poly-records initial) RT to-P (R2 ++ (new-P i n c ++ (RQ ++ RT))) (to-P ++ R1) (new-P i n c ++ (RQ ++ RT))
-        to-new RT (to-new ++ RQ) [] v₁ v₂ v₃ v₄ v₅ v₆ v₇ end (at + 1) front in-q in-t (front - (at + 1)) (length f / 2 + 1) (back - front) (in-t - in-q) (length initial / 2 + 1)
-        (end - in-t) a₁ a₂ a₃ a₄ a₅ a₆ length-used (record-put (end-inside room) r v₁ e₁) first-block (length-poly-records f) second-block Q-block (length-poly-records initial) T-block e₂ e₃ e₄ e₅ e₆ e₇ in
-        let free' : List Rec = drop K (H .free) in
-        let shrunk : drop K after ≡ free' ++ behind = drop-append-le K (H .free) behind (fits-in room) in
-        let systems : k ≡ length ss = ek ∙ ap (λ (u : List Rec). getD u 0 nul .w3) (done .0) in
-        let new-end : a₆ ≡ finish new (c ∷ bs) = done .1 ∙ finish-kept in
+        let free' : List Rec = drop pieces (H .free) in
+        let shrunk : drop pieces after ≡ free' ++ behind = drop-append-le pieces (H .free) behind (fits-in room) in
+        let systems : K .systems ≡ length ss = K .systems-word ∙ ap (λ (u : List Rec). getD u 0 nul .w3) (g₆ .is) in
+        let new-end : K .a₆ ≡ finish new (c ∷ bs) = g₆ .up-to ∙ ap (λ (x : ℕ). x + pieces) length-used ∙ finish-kept in
         let new-top : top ≡ finish new (c ∷ bs) + length free' = top-kept room in
+        let ctl : Rec = mk (finish c bs) (finish new (c ∷ bs)) (finish new (c ∷ bs) + length free') (length ss) in
         record {
           answer = sym (le-leb (size (with-open new (c ∷ bs) ss)) most (omega (arith, size-kept, H .fits, G .end-is, G .top-is)));
           held = λ e.
@@ -330,25 +337,11 @@ module _ {v : List Rec} {most : ℕ} {c : Stored} {bs ss : List Stored} (H : Hel
                 free = free';
                 beyond = H .beyond;
                 is =
-                    e₈ ∙ (λ j. set (done .0 j) 0 (mk (G .end-is j) (new-end j) (new-top j) (systems j)))
-                    ∙ (λ j. mk (finish c bs) (finish new (c ∷ bs)) (finish new (c ∷ bs) + length free') (length ss) ∷ (stack (c ∷ bs) .0 ++ (built j ++ shrunk j)))
-                    ∙ ap (λ (u : List Rec). mk (finish c bs) (finish new (c ∷ bs)) (finish new (c ∷ bs) + length free') (length ss) ∷ u)
-                    (sym (append-assoc (stack (c ∷ bs) .0) (branch-records (start bs) new) (free' ++ behind)));
+                    K .control-put ∙ (λ j. set (g₆ .is j) 0 (mk (G .end-is j) (new-end j) (new-top j) (systems j)))
+                    ∙ (λ j. ctl ∷ (stack (c ∷ bs) .0 ++ (built j ++ shrunk j)))
+                    ∙ ap (λ (u : List Rec). ctl ∷ u) (sym (append-assoc (stack (c ∷ bs) .0) (branch-records (start bs) new) (free' ++ behind)));
                 fits = ap (λ (x : ℕ). x + length (systems-records ss)) (sym new-top ∙ G .top-is) ∙ H .fits;
                 few = H .few;
-                storable = (
-                  (
-                    storable-append (take i (c .P)) (f ∷ take (n - i) (drop i (c .P))) (storable-take i (c .P) (H .storable .0 .0)) (sf, storable-take (n - i) (drop i (c .P)) (storable-drop i (c .P) (H .storable .0 .0))),
-                    storable-append (c .Q) (initial ∷ []) (H .storable .0 .1) (si, tt),
-                    H .storable .0 .2,
-                    H .storable .0,
-                  ),
-                  H .storable .1,
-                );
+                storable = (storable-kept sf si, H .storable .1);
               };
         }
-
-    pub kept : needed ≤ top - end → Storable f → Storable initial → {v₈ : List Rec} → Copied v n at end top q t front back in-q in-t f initial v₈
-        → Leaves most (with-open (kept-open i n f initial c) (c ∷ bs) ss) true v₈
-    kept room sf si K = held-copied room sf si (K .v₁) (K .v₂) (K .v₃) (K .v₄) (K .v₅) (K .v₆) (K .v₇) _ (K .a₁) (K .a₂) (K .a₃) (K .a₄) (K .a₅) (K .a₆) (K .systems)
-        (K .own-put) (K .front-copied) (K .f-put) (K .back-copied) (K .Q-copied) (K .initial-put) (K .T-copied) (K .systems-word) (K .control-put)

@@ -3,8 +3,9 @@ pub mod input;
 pub mod text;
 
 ghost use mathlib.Core.Path.{_≡_};
-ghost use Rattle.lines.specs.Line.{read-line, trial-line, place-line};
 ghost use Rattle.tables.specs.Reason.{number as Reason·number};
+ghost use Rattle.tables.specs.Numbers.{accepted-numbers, refused-numbers};
+ghost use Rattle.lines.specs.Line.{line-of, read-line, trial-line, place-line};
 use input::Input;
 use tables::PlaceOutcome;
 use tables::ReadOutcome;
@@ -46,18 +47,30 @@ pub fn number(why: Reason) -> u32
     }
 }
 
+fn accepted(value: u32) -> Line
+    ensures { λ r. ⌜ r ≡ line-of (accepted-numbers value) ⌝ }
+{
+    Line {
+        outcome: 0,
+        value: value,
+    }
+}
+
+fn refused(why: Reason, at: u32) -> Line
+    ensures { λ r. ⌜ r ≡ line-of (refused-numbers why at) ⌝ }
+{
+    Line {
+        outcome: number(why),
+        value: at,
+    }
+}
+
 pub fn read_line(outcome: ReadOutcome) -> Line
     ensures { λ r. ⌜ r ≡ read-line outcome ⌝ }
 {
     match outcome {
-        ReadOutcome::Accepted => Line {
-            outcome: 0,
-            value: 0,
-        },
-        ReadOutcome::Refused(why, record) => Line {
-            outcome: number(why),
-            value: record,
-        },
+        ReadOutcome::Accepted => accepted(0),
+        ReadOutcome::Refused(why, record) => refused(why, record),
     }
 }
 
@@ -65,18 +78,9 @@ pub fn trial_line(outcome: TrialOutcome) -> Line
     ensures { λ r. ⌜ r ≡ trial-line outcome ⌝ }
 {
     match outcome {
-        TrialOutcome::Yes => Line {
-            outcome: 0,
-            value: 1,
-        },
-        TrialOutcome::No => Line {
-            outcome: 0,
-            value: 0,
-        },
-        TrialOutcome::Refused(why, record) => Line {
-            outcome: number(why),
-            value: record,
-        },
+        TrialOutcome::Yes => accepted(1),
+        TrialOutcome::No => accepted(0),
+        TrialOutcome::Refused(why, record) => refused(why, record),
     }
 }
 
@@ -84,13 +88,7 @@ pub fn place_line(outcome: PlaceOutcome) -> Line
     ensures { λ r. ⌜ r ≡ place-line outcome ⌝ }
 {
     match outcome {
-        PlaceOutcome::Place(k) => Line {
-            outcome: 0,
-            value: k,
-        },
-        PlaceOutcome::Refused(why, record) => Line {
-            outcome: number(why),
-            value: record,
-        },
+        PlaceOutcome::Place(k) => accepted(k),
+        PlaceOutcome::Refused(why, record) => refused(why, record),
     }
 }

@@ -58,8 +58,13 @@ module _ (bytes : List ℕ) where
   pub too-long : {t : List ℕ} → 65536 < length bytes → t ≡ line-text (1 ∷ 0 ∷ 0 ∷ []) → t ≡ response bytes
   too-long h e = e ∙ sym (by-tests (lt-ltb 65536 (length bytes) h) refl)
 
-  pub broken : {t : List ℕ} → length bytes ≤ 65536 → (length bytes % 4 ≡ 0 → ⊥) → t ≡ line-text (1 ∷ 0 ∷ 0 ∷ []) → t ≡ response bytes
-  broken h n e = e ∙ sym (by-tests (le-ltb 65536 (length bytes) h) (ne-eqb (length bytes % 4) 0 n))
+  -- A broken last word is refused at any length.
+  pub broken : {t : List ℕ} → (length bytes % 4 ≡ 0 → ⊥) → t ≡ line-text (1 ∷ 0 ∷ 0 ∷ []) → t ≡ response bytes
+  broken n e = e ∙ sym (go (ltb 65536 (length bytes)) refl)
+    where
+      go : (a : Bool) → ltb 65536 (length bytes) ≡ a → response bytes ≡ line-text (1 ∷ 0 ∷ 0 ∷ [])
+      go true p = by-tests p refl
+      go false p = by-tests p (ne-eqb (length bytes % 4) 0 n)
 
   pub answered : {t : List ℕ} {a : Answer} {out : List ℕ} (w out₀ : List ℕ) (work output : ℕ) → length bytes ≤ 65536 → length bytes % 4 ≡ 0 → w ≡ words-of bytes → work ≡ 16384 → output ≡ 16384
       → a ≡ answer-of (eliminated w work output 100000) → out ≡ output-after (eliminated w work output 100000) out₀ → t ≡ said a out → t ≡ response bytes

@@ -21,7 +21,7 @@ same-length c = search needs
 returns : tie.Need-returns
 returns c =
     let e = c .before .before .print-line .ensures in
-    (e .0, too-long (c .before .before .before .before .before .before .before .before .before .before .before .args .bytes .now) (c .before .before .before .before .before .if1 .taken) (e .1 (omega arith) .is))
+    (e .0, too-long (c .before .before .before .before .before .before .before .before .before .before .before .args .bytes .now) (omega (arith, c .before .before .before .before .before .if1 .taken)) (e .1 (omega arith) .is))
 
 slice-aggregate-print-line-2 : tie.Need-slice-aggregate-print-line-2
 slice-aggregate-print-line-2 c = search needs
@@ -35,7 +35,7 @@ same-length-2 c = search needs
 returns-2 : tie.Need-returns-2
 returns-2 c =
     let e = c .before .before .print-line2 .ensures in
-    (e .0, broken (c .before .before .before .before .before .before .before .before .before .before .before .before .args .bytes .now) (c .before .before .before .before .before .before .if1 .left) (c .before .before .before .before .before .if2 .taken) (e .1 (omega arith) .is))
+    (e .0, broken (c .before .before .before .before .before .before .before .before .before .before .before .before .args .bytes .now) (λ z. c .before .before .before .before .before .if2 .taken (omega (arith, z))) (e .1 (omega arith) .is))
 
 decode-requires : tie.Need-decode-requires
 decode-requires c κs = search needs
@@ -75,7 +75,7 @@ returns-3 c =
     let l = c .before .before .before .before .before .before .before .before .before .before .before .before .before .before .before .before .before .before .before .before .before .before .before .before .pre in
     let p = c .before .before .put-answer .ensures in (
       p .0,
-      answered b (take (length b / 4) (c .before .before .before .before .before .before .before .before .before .before .before .before .before .before .before .decode .last .1 .0)) (a .output .now) (length (a .work .now)) (length (a .output .now)) (c .before .before .before .before .before .before .before .before .before .before .before .before .before .before .before .before .before .before .if1 .left) (c .before .before .before .before .before .before .before .before .before .before .before .before .before .before .before .before .before .if2 .left) (c .before .before .before .before .before .before .before .before .before .before .before .before .before .before .before .decode .ensures .0)
+      answered b (take (length b / 4) (c .before .before .before .before .before .before .before .before .before .before .before .before .before .before .before .decode .last .1 .0)) (a .output .now) (length (a .work .now)) (length (a .output .now)) (omega (arith, c .before .before .before .before .before .before .before .before .before .before .before .before .before .before .before .before .before .before .if1 .left)) (omega (arith, c .before .before .before .before .before .before .before .before .before .before .before .before .before .before .before .before .before .if2 .left)) (c .before .before .before .before .before .before .before .before .before .before .before .before .before .before .before .decode .ensures .0)
           (sym (l .1)) (sym (l .2)) (e .0) (e .1 .0) (p .1),
     )
 

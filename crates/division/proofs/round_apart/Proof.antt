@@ -12,7 +12,7 @@ use Rattle.polynomials.specs.Division.{degree}
 use Rattle.polynomials.specs.Packed.{terms}
 use Rattle.polynomials.specs.Working.{Written, Forms}
 use Rattle.polynomials.specs.laws.Answers.{Answered, round-answered, written-holds}
-use Rattle.products.proofs.ProductLaws.{copy-asks, copied}
+use Rattle.products.proofs.ProductLaws.{copied}
 use Rattle.division.proofs.RoundLaws.{first-written, copied-back, degree-refused, terms-refused}
 use Rattle.division.proofs.round_apart.Statement.{statement}
 use Rattle.division.proofs.round_apart.Tie as tie
@@ -109,7 +109,7 @@ copy-requires-2 : tie.Need-copy-requires-2
 copy-requires-2 c κs =
     let m = c .before .before .before in
     let s = start (formed-from (called m)) in
-    copy-asks _ _ _ (s .args .r .now) (first-written (s .args .p) (m .m .given .0 .0) (Z (called m)) (answer m .inside) (answer m .holds)) (s .pre .1 .1 .1 .1)
+    omega (arith, length-take-le (m .m .given .0 .0) (Z (called m)) (answer m .inside), answer m .holds .few, s .pre .1 .1 .1 .1)
 
 enum-told : tie.Need-enum-told
 enum-told c = search needs

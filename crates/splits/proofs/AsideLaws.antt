@@ -46,7 +46,9 @@ put-Q-adds f fs one there =
     let all : length fs - 0 ≡ length fs = omega arith in
     let front : take (length fs - 0) fs ≡ fs = take-all (length fs - 0) fs (omega arith) in
     let back : drop (length fs - 0) fs ≡ [] = ap (λ (k : ℕ). drop k fs) all ∙ drop-length fs in
-    sym ((λ t. unless (is-one f || member f (front t)) f (front t) ++ back t) ∙ append-nil (unless (is-one f || member f fs) f fs) ∙ (λ t. unless (one t || there t) f fs))
+    sym
+    ((λ t. unless (is-one f || member f (front t)) f (front t) ++ back t) ∙ append-nil (unless (is-one f || member f fs) f fs)
+    ∙ (λ t. unless (one t || there t) f fs))
 
 -- P of the branch set aside begins with P without the pivot.
 aside-P : (i : ℕ) (initial rest : List ℕ) (b : Stored) → List (List ℕ)
@@ -75,12 +77,19 @@ kept-aside i n f initial rest b h l g one there =
 length-put : (f : List ℕ) (b : Stored) (under : ℕ) → length (branch-records under b) ≤ length (branch-records under (put-into-P f b))
 length-put f b under =
     let rest : List Rec = polys-records (b .Q) ++ polys-records (b .T) in
-    omega (arith, length-append (polys-records (b .P)) rest, length-append (polys-records (put-P f (b .P))) rest, ap (λ (l : List (List ℕ)). length (polys-records l)) (put-P-adds f (b .P)), ap length (polys-records-append (b .P) (added-P f (b .P))), length-append (polys-records (b .P)) (polys-records (added-P f (b .P))))
+    let more : List Rec = polys-records (added-P f (b .P)) in
+    let new : polys-records (put-P f (b .P)) ≡ polys-records (b .P) ++ more =
+    ap polys-records (put-P-adds f (b .P)) ∙ polys-records-append (b .P) (added-P f (b .P)) in
+    let old-length = length-append (polys-records (b .P)) rest in
+    let new-length = length-append (polys-records (put-P f (b .P))) rest in
+    omega (arith, ap length new, length-append (polys-records (b .P)) more)
 
 pub size-put : (f : List ℕ) (b : Stored) (bs ss : List Stored) → size (with-open b bs ss) ≤ size (with-open (put-into-P f b) bs ss)
 unfolding size
 size-put f b bs ss =
-    omega (arith, length-put f b (stack bs .1), length-append (stack bs .0) (branch-records (stack bs .1) b), length-append (stack bs .0) (branch-records (stack bs .1) (put-into-P f b)))
+    let old-length = length-append (stack bs .0) (branch-records (stack bs .1) b) in
+    let new-length = length-append (stack bs .0) (branch-records (stack bs .1) (put-into-P f b)) in
+    omega (arith, length-put f b (stack bs .1))
 
 pub size-more : (b b' : Stored) (bs ss : List Stored) → size (with-open b bs ss) ≤ size (with-open b' (b ∷ bs) ss)
 unfolding size
@@ -98,7 +107,8 @@ failed {a} {a'} {most} {most'} e m L h =
     }
 
 -- Two states that the same records hold have as many members in P.
-pub same-members : {v : List Rec} {most most' : ℕ} {b b' : Stored} {bs bs' ss ss' : List Stored} → Held v most (with-open b bs ss) → Held v most' (with-open b' bs' ss')
+pub same-members : {v : List Rec} {most most' : ℕ} {b b' : Stored} {bs bs' ss ss' : List Stored}
+    → Held v most (with-open b bs ss) → Held v most' (with-open b' bs' ss')
     → length (b .P) ≡ length (b' .P)
 same-members {v} {most} {most'} {b} {b'} {bs} {bs'} H H' =
     let at : start bs ≡ start bs' = sym (ap (λ (r : Rec). r .w0) (control H)) ∙ ap (λ (r : Rec). r .w0) (control H') in

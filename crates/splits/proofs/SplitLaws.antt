@@ -28,13 +28,16 @@ new-P i n c = polys-records (drop (n - i) (drop i (c .P)))
 
 P-in-parts : (i n : ℕ) (c : Stored) → polys-records (c .P) ≡ front-P i c ++ (back-P i n c ++ new-P i n c)
 P-in-parts i n c =
-    ap polys-records (sym (take-append-drop i (c .P))) ∙ polys-records-append (take i (c .P)) (drop i (c .P))
-    ∙ ap (λ (l : List Rec). front-P i c ++ l) (ap polys-records (sym (take-append-drop (n - i) (drop i (c .P)))) ∙ polys-records-append (take (n - i) (drop i (c .P))) (drop (n - i) (drop i (c .P))))
+    let rest : List (List ℕ) = drop i (c .P) in
+    let parted : polys-records rest ≡ back-P i n c ++ new-P i n c =
+    ap polys-records (sym (take-append-drop (n - i) rest)) ∙ polys-records-append (take (n - i) rest) (drop (n - i) rest) in
+    ap polys-records (sym (take-append-drop i (c .P))) ∙ polys-records-append (take i (c .P)) rest ∙ ap (λ (l : List Rec). front-P i c ++ l) parted
 
 -- The records of the branch that is built.
 kept-records : (i n under : ℕ) (f initial : List ℕ) (c : Stored) (r : Rec)
     → r ≡ mk (length (kept-open i n f initial c .P)) (length (kept-open i n f initial c .Q)) (length (c .T)) under
-    → (r ∷ []) ++ front-P i c ++ poly-records f ++ back-P i n c ++ polys-records (c .Q) ++ poly-records initial ++ polys-records (c .T) ≡ branch-records under (kept-open i n f initial c)
+    → (r ∷ []) ++ front-P i c ++ poly-records f ++ back-P i n c ++ polys-records (c .Q) ++ poly-records initial ++ polys-records (c .T)
+    ≡ branch-records under (kept-open i n f initial c)
 unfolding polys-records
 kept-records i n under f initial c r e =
     let inP : polys-records (take i (c .P) ++ (f ∷ take (n - i) (drop i (c .P)))) ≡ front-P i c ++ (poly-records f ++ back-P i n c) =
@@ -42,16 +45,19 @@ kept-records i n under f initial c r e =
     let inQ : polys-records (c .Q ++ (initial ∷ [])) ≡ polys-records (c .Q) ++ poly-records initial = polys-records-snoc (c .Q) initial in
     simp append-assoc (sym ((λ t. sym e t ∷ (inP t ++ (inQ t ++ polys-records (c .T)))) ∙ simp append-assoc))
 
+length-seven : (a b c d e f g : List Rec)
+    → length (a ++ b ++ c ++ d ++ e ++ f ++ g) ≡ length a + length b + length c + length d + length e + length f + length g
+length-seven a b c d e f g = simp length-append
+
 length-kept : (i n under : ℕ) (f initial : List ℕ) (c : Stored)
-    → length (branch-records under (kept-open i n f initial c)) ≡ 1 + length (front-P i c) + (length f / 2 + 1) + length (back-P i n c) + length (polys-records (c .Q)) + (length initial / 2 + 1) + length (polys-records (c .T))
+    → length (branch-records under (kept-open i n f initial c))
+    ≡ 1 + length (front-P i c) + (length f / 2 + 1) + length (back-P i n c) + length (polys-records (c .Q)) + (length initial / 2 + 1)
+    + length (polys-records (c .T))
 length-kept i n under f initial c =
-    let R1 = front-P i c in
-    let R2 = back-P i n c in
-    let RQ = polys-records (c .Q) in
-    let RT = polys-records (c .T) in
-    let r : Rec = mk (length (kept-open i n f initial c .P)) (length (kept-open i n f initial c .Q)) (length (c .T)) under in
-    ap length (sym (kept-records i n under f initial c r refl))
-    ∙ omega (arith, length-append ((r ∷ []) ++ R1 ++ poly-records f ++ R2 ++ RQ ++ poly-records initial) RT, length-append ((r ∷ []) ++ R1 ++ poly-records f ++ R2 ++ RQ) (poly-records initial), length-append ((r ∷ []) ++ R1 ++ poly-records f ++ R2) RQ, length-append ((r ∷ []) ++ R1 ++ poly-records f) R2, length-append ((r ∷ []) ++ R1) (poly-records f), length-append (r ∷ []) R1, length-poly-records f, length-poly-records initial)
+    let new : Stored = kept-open i n f initial c in
+    let r : Rec = mk (length (new .P)) (length (new .Q)) (length (c .T)) under in
+    let parts = length-seven (r ∷ []) (front-P i c) (poly-records f) (back-P i n c) (polys-records (c .Q)) (poly-records initial) (polys-records (c .T)) in
+    ap length (sym (kept-records i n under f initial c r refl)) ∙ omega (arith, parts, length-poly-records f, length-poly-records initial)
 
 -- ── where the parts lie ──
 -- Where the first i members of P end, then those up to the n-th, then all of P, then Q.
@@ -120,20 +126,31 @@ pub record Ordered (n at end top q front back in-q in-t room : ℕ) : Type 0 whe
   pub few-Q : q + in-q ≤ in-t
 
 module _ {v : List Rec} {most : ℕ} {c : Stored} {bs ss : List Stored} (H : Held v most (with-open c bs ss)) (i n : ℕ) (h : (i ≤ n) × (n ≤ length (c .P))) where
+  -- The control record, and all records in use.
+  abbrev ctl : Rec
+  ctl = mk (start bs) (finish c bs) (finish c bs + length (H .free)) (length ss)
+
   abbrev used : List Rec
-  used = mk (start bs) (finish c bs) (finish c bs + length (H .free)) (length ss) ∷ stack (c ∷ bs) .0
+  used = ctl ∷ stack (c ∷ bs) .0
 
+  -- Those before P; those behind its front, and behind its back.
   abbrev to-P : List Rec
-  to-P = (mk (start bs) (finish c bs) (finish c bs + length (H .free)) (length ss) ∷ stack bs .0) ++ (own c bs ∷ [])
+  to-P = (ctl ∷ stack bs .0) ++ (own c bs ∷ [])
 
-  in-order : used ≡ to-P ++ (front-P i c ++ (back-P i n c ++ (new-P i n c ++ (polys-records (c .Q) ++ polys-records (c .T)))))
-  in-order =
-      ap (λ (l : List Rec). mk (start bs) (finish c bs) (finish c bs + length (H .free)) (length ss) ∷ (stack bs .0 ++ (own c bs ∷ (l ++ (polys-records (c .Q) ++ polys-records (c .T))))))
-      (P-in-parts i n c)
-      ∙ simp append-assoc
+  abbrev Q-T : List Rec
+  Q-T = polys-records (c .Q) ++ polys-records (c .T)
+
+  abbrev behind-back : List Rec
+  behind-back = new-P i n c ++ Q-T
+
+  abbrev behind-front : List Rec
+  behind-front = back-P i n c ++ behind-back
+
+  in-order : used ≡ to-P ++ (front-P i c ++ behind-front)
+  in-order = ap (λ (l : List Rec). ctl ∷ (stack bs .0 ++ (own c bs ∷ (l ++ Q-T)))) (P-in-parts i n c) ∙ simp append-assoc
 
   length-to-P : length to-P ≡ start bs + 1
-  length-to-P = omega (arith, length-append (mk (start bs) (finish c bs) (finish c bs + length (H .free)) (length ss) ∷ stack bs .0) (own c bs ∷ []))
+  length-to-P = omega (arith, length-append (ctl ∷ stack bs .0) (own c bs ∷ []))
 
   whole : v ≡ used ++ (H .free ++ (systems-records ss ++ H .beyond))
   whole = H .is
@@ -153,22 +170,21 @@ module _ {v : List Rec} {most : ℕ} {c : Stored} {bs ss : List Stored} (H : Hel
 
   pub to-front : {x : ℕ} → x ≡ start bs → skip-to v (x + 1) i ≡ end-front i c bs
   to-front {x} e =
-      skipped to-P (back-P i n c ++ (new-P i n c ++ (polys-records (c .Q) ++ polys-records (c .T)))) (take i (c .P)) (x + 1) i in-order
+      skipped to-P behind-front (take i (c .P)) (x + 1) i in-order
       (omega (arith, length-to-P)) length-front
       ∙ ap (λ (y : ℕ). y + 1 + length (front-P i c)) e
 
   pub to-back : {x : ℕ} → x ≡ end-front i c bs → skip-to v x (n - i) ≡ end-back i n c bs
   to-back {x} e =
-      skipped (to-P ++ front-P i c) (new-P i n c ++ (polys-records (c .Q) ++ polys-records (c .T))) (take (n - i) (drop i (c .P))) x (n - i)
-      (in-order ∙ sym (append-assoc to-P (front-P i c) (back-P i n c ++ (new-P i n c ++ (polys-records (c .Q) ++ polys-records (c .T))))))
+      skipped (to-P ++ front-P i c) behind-back (take (n - i) (drop i (c .P))) x (n - i)
+      (in-order ∙ sym (append-assoc to-P (front-P i c) behind-front))
       (omega (arith, length-to-P, length-append to-P (front-P i c))) length-back
       ∙ ap (λ (y : ℕ). y + length (back-P i n c)) e
 
   pub to-Q : {x p : ℕ} → p ≡ length (c .P) → x ≡ end-back i n c bs → skip-to v x (p - n) ≡ end-P i n c bs
   to-Q {x} {p} ep e =
-      let rest : List Rec = new-P i n c ++ (polys-records (c .Q) ++ polys-records (c .T)) in
       skipped (to-P ++ front-P i c ++ back-P i n c) (polys-records (c .Q) ++ polys-records (c .T)) (drop (n - i) (drop i (c .P))) x (p - n)
-      (in-order ∙ sym (append-assoc (to-P ++ front-P i c) (back-P i n c) rest ∙ append-assoc to-P (front-P i c) (back-P i n c ++ rest)))
+      (in-order ∙ sym (append-assoc (to-P ++ front-P i c) (back-P i n c) behind-back ∙ append-assoc to-P (front-P i c) behind-front))
       (omega (arith, length-to-P, length-append to-P (front-P i c), length-append (to-P ++ front-P i c) (back-P i n c)))
       (omega (arith, length-drop i (c .P), length-drop (n - i) (drop i (c .P))))
       ∙ ap (λ (y : ℕ). y + length (new-P i n c)) e
@@ -178,7 +194,8 @@ module _ {v : List Rec} {most : ℕ} {c : Stored} {bs ss : List Stored} (H : Hel
 
   length-to-new : length to-new ≡ start bs + 1 + length (front-P i c) + length (back-P i n c) + length (new-P i n c)
   length-to-new =
-      omega (arith, length-to-P, length-append to-P (front-P i c), length-append (to-P ++ front-P i c) (back-P i n c), length-append (to-P ++ front-P i c ++ back-P i n c) (new-P i n c))
+      let up-to-back : List Rec = to-P ++ front-P i c ++ back-P i n c in
+      omega (arith, length-to-P, length-append to-P (front-P i c), length-append (to-P ++ front-P i c) (back-P i n c), length-append up-to-back (new-P i n c))
 
   Q-in-order : used ≡ to-new ++ (polys-records (c .Q) ++ polys-records (c .T))
   Q-in-order = in-order ∙ regroup to-P (front-P i c) (back-P i n c) (new-P i n c) (polys-records (c .Q) ++ polys-records (c .T))
@@ -193,7 +210,7 @@ module _ {v : List Rec} {most : ℕ} {c : Stored} {bs ss : List Stored} (H : Hel
 
   length-parts : finish c bs ≡ end-Q i n c bs + length (polys-records (c .T))
   length-parts =
-      omega (arith, ap length Q-in-order, length-to-new, length-append to-new (polys-records (c .Q) ++ polys-records (c .T)), length-append (polys-records (c .Q)) (polys-records (c .T)))
+      omega (arith, ap length Q-in-order, length-to-new, length-append to-new Q-T, length-append (polys-records (c .Q)) (polys-records (c .T)))
 
   -- All of it lies inside.
   pub parts-inside : {x : ℕ} → x ≤ end-Q i n c bs → x ≤ most
@@ -201,7 +218,9 @@ module _ {v : List Rec} {most : ℕ} {c : Stored} {bs ss : List Stored} (H : Hel
 
   few-members : (n ≤ length (front-P i c) + length (back-P i n c)) × (length (c .Q) ≤ length (polys-records (c .Q)))
   few-members =
-      (omega (arith, length-front, length-back, length-le-polys-records (take i (c .P)), length-le-polys-records (take (n - i) (drop i (c .P)))), length-le-polys-records (c .Q))
+      let front = length-le-polys-records (take i (c .P)) in
+      let back = length-le-polys-records (take (n - i) (drop i (c .P))) in
+      (omega (arith, length-front, length-back), length-le-polys-records (c .Q))
 
   members-P : (f : List ℕ) → n + 1 ≡ length (take i (c .P) ++ (f ∷ take (n - i) (drop i (c .P))))
   members-P f = omega (arith, length-append (take i (c .P)) (f ∷ take (n - i) (drop i (c .P))), length-front, length-back)
@@ -247,19 +266,21 @@ module _ {v : List Rec} {most : ℕ} {c : Stored} {bs ss : List Stored} (H : Hel
     length-used : length used ≡ end
     length-used = omega (arith, G .end-is)
 
-    record-put : end < length v → (r : Rec) (v₁ : List Rec) → v₁ ≡ set v end r → v₁ ≡ used ++ ((r ∷ []) ++ drop 1 (H .free ++ (systems-records ss ++ H .beyond)))
+    record-put : end < length v → (r : Rec) (v₁ : List Rec) → v₁ ≡ set v end r
+        → v₁ ≡ used ++ ((r ∷ []) ++ drop 1 (H .free ++ (systems-records ss ++ H .beyond)))
     record-put room r v₁ e₁ =
         let after : List Rec = H .free ++ (systems-records ss ++ H .beyond) in
         let next : suc end ≡ length used + 1 = omega (arith, length-used) in
         e₁ ∙ set-split v end r room
         ∙ (λ j. (ap (take end) whole ∙ take-at used after end length-used) j ++ (r ∷ ((λ x. drop (next x) (whole x)) ∙ drop-append-add used after 1) j))
 
-    first-block : (used ≡ to-P ++ (front-P i c ++ (back-P i n c ++ (new-P i n c ++ (polys-records (c .Q) ++ polys-records (c .T)))))) × (length to-P ≡ at + 1) × (length (front-P i c) ≡ front - (at + 1))
+    -- Where the pieces that are copied lie.
+    first-block : (used ≡ to-P ++ (front-P i c ++ behind-front)) × (length to-P ≡ at + 1) × (length (front-P i c) ≡ front - (at + 1))
     first-block = (in-order, omega (arith, length-to-P, G .at-is), omega (arith, G .at-is, G .front-is))
 
-    second-block : (used ≡ to-P ++ front-P i c ++ (back-P i n c ++ (new-P i n c ++ (polys-records (c .Q) ++ polys-records (c .T))))) × (length (to-P ++ front-P i c) ≡ front) × (length (back-P i n c) ≡ back - front)
+    second-block : (used ≡ to-P ++ front-P i c ++ behind-front) × (length (to-P ++ front-P i c) ≡ front) × (length (back-P i n c) ≡ back - front)
     second-block = (
-      in-order ∙ sym (append-assoc to-P (front-P i c) (back-P i n c ++ (new-P i n c ++ (polys-records (c .Q) ++ polys-records (c .T))))),
+      in-order ∙ sym (append-assoc to-P (front-P i c) behind-front),
       omega (arith, length-to-P, length-append to-P (front-P i c), G .front-is),
       omega (arith, G .front-is, G .back-is),
     )
@@ -267,7 +288,8 @@ module _ {v : List Rec} {most : ℕ} {c : Stored} {bs ss : List Stored} (H : Hel
     Q-block : (used ≡ to-new ++ (polys-records (c .Q) ++ polys-records (c .T))) × (length to-new ≡ in-q) × (length (polys-records (c .Q)) ≡ in-t - in-q)
     Q-block = (Q-in-order, omega (arith, length-to-new, G .in-q-is), omega (arith, G .in-q-is, G .in-t-is))
 
-    T-block : (used ≡ to-new ++ polys-records (c .Q) ++ (polys-records (c .T) ++ [])) × (length (to-new ++ polys-records (c .Q)) ≡ in-t) × (length (polys-records (c .T)) ≡ end - in-t)
+    T-block : (used ≡ to-new ++ polys-records (c .Q) ++ (polys-records (c .T) ++ [])) × (length (to-new ++ polys-records (c .Q)) ≡ in-t)
+        × (length (polys-records (c .T)) ≡ end - in-t)
     T-block = (
       Q-in-order ∙ last-part to-new (polys-records (c .Q)) (polys-records (c .T)),
       omega (arith, length-append to-new (polys-records (c .Q)), length-to-new, G .in-t-is),
@@ -288,7 +310,9 @@ module _ {v : List Rec} {most : ℕ} {c : Stored} {bs ss : List Stored} (H : Hel
         omega (arith, pieces-needed, length-needed, length-append (stack (c ∷ bs) .0) (branch-records (start bs) (kept-open i n f initial c)), G .end-is)
 
     top-kept : needed ≤ top - end → top ≡ finish (kept-open i n f initial c) (c ∷ bs) + length (drop pieces (H .free))
-    top-kept room = top-left pieces end (finish (kept-open i n f initial c) (c ∷ bs)) top (H .free) finish-kept (fits-in room) (G .top-is ∙ ap (λ (x : ℕ). x + length (H .free)) (sym (G .end-is)))
+    top-kept room =
+        top-left pieces end (finish (kept-open i n f initial c) (c ∷ bs)) top (H .free) finish-kept (fits-in room)
+        (G .top-is ∙ ap (λ (x : ℕ). x + length (H .free)) (sym (G .end-is)))
 
     end-inside : needed ≤ top - end → end < length v
     end-inside room = let fits = fits-in room in omega (arith, within H, G .end-is)
@@ -329,7 +353,7 @@ module _ {v : List Rec} {most : ℕ} {c : Stored} {bs ss : List Stored} (H : Hel
         let systems : K .systems ≡ length ss = K .systems-word ∙ ap (λ (u : List Rec). getD u 0 nul .w3) (g₆ .is) in
         let new-end : K .a₆ ≡ finish new (c ∷ bs) = g₆ .up-to ∙ ap (λ (x : ℕ). x + pieces) length-used ∙ finish-kept in
         let new-top : top ≡ finish new (c ∷ bs) + length free' = top-kept room in
-        let ctl : Rec = mk (finish c bs) (finish new (c ∷ bs)) (finish new (c ∷ bs) + length free') (length ss) in
+        let new-ctl : Rec = mk (finish c bs) (finish new (c ∷ bs)) (finish new (c ∷ bs) + length free') (length ss) in
         record {
           answer = sym (le-leb (size (with-open new (c ∷ bs) ss)) most (omega (arith, size-kept, H .fits, G .end-is, G .top-is)));
           held = λ e.
@@ -338,8 +362,8 @@ module _ {v : List Rec} {most : ℕ} {c : Stored} {bs ss : List Stored} (H : Hel
                 beyond = H .beyond;
                 is =
                     K .control-put ∙ (λ j. set (g₆ .is j) 0 (mk (G .end-is j) (new-end j) (new-top j) (systems j)))
-                    ∙ (λ j. ctl ∷ (stack (c ∷ bs) .0 ++ (built j ++ shrunk j)))
-                    ∙ ap (λ (u : List Rec). ctl ∷ u) (sym (append-assoc (stack (c ∷ bs) .0) (branch-records (start bs) new) (free' ++ behind)));
+                    ∙ (λ j. new-ctl ∷ (stack (c ∷ bs) .0 ++ (built j ++ shrunk j)))
+                    ∙ ap (λ (u : List Rec). new-ctl ∷ u) (sym (append-assoc (stack (c ∷ bs) .0) (branch-records (start bs) new) (free' ++ behind)));
                 fits = ap (λ (x : ℕ). x + length (systems-records ss)) (sym new-top ∙ G .top-is) ∙ H .fits;
                 few = H .few;
                 storable = (storable-kept sf si, H .storable .1);

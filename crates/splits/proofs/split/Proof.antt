@@ -84,7 +84,8 @@ module _ {b : Stored} {bs ss : List Stored} where
       → Leaves (capacity (remove-of c .remove-p .last .0)) (with-open (with-initial (from-initial c) b) bs ss) (c .put-p .result) (view (c .put-p .last .0))
   initial-leaves c H = c .put-p .ensures _ bs ss (removed (remove-of c) H)
 
-  initial-put : (c : tie.Else1) → let m = c .before .before .before in Holds (w (from-initial m)) b bs ss → Holds (m .put-p .last .0) (with-initial (from-initial m) b) bs ss
+  initial-put : (c : tie.Else1)
+      → let m = c .before .before .before in Holds (w (from-initial m)) b bs ss → Holds (m .put-p .last .0) (with-initial (from-initial m) b) bs ss
   initial-put c H =
       let m = c .before .before .before in
       held-by _ _ (remove-of m .remove-p .last .0) (m .put-p .last .0) (sym (m .put-p .kept .0)) (initial-leaves m H .held (not-false _ (c .if1 .left)))
@@ -93,7 +94,8 @@ module _ {b : Stored} {bs ss : List Stored} where
       → Leaves (capacity (initial-of c .put-p .last .0)) (with-open (with-rest (from-rest c) b) bs ss) (c .put-p2 .result) (view (c .put-p2 .last .0))
   rest-leaves c H = c .put-p2 .ensures _ bs ss (initial-put (c .before .before) H)
 
-  rest-put : (c : tie.Else2) → let m = c .before .before .before in Holds (w (from-rest m)) b bs ss → Holds (m .put-p2 .last .0) (with-rest (from-rest m) b) bs ss
+  rest-put : (c : tie.Else2)
+      → let m = c .before .before .before in Holds (w (from-rest m)) b bs ss → Holds (m .put-p2 .last .0) (with-rest (from-rest m) b) bs ss
   rest-put c H =
       let m = c .before .before .before in
       held-by _ _ (initial-of m .put-p .last .0) (m .put-p2 .last .0) (sym (m .put-p2 .kept .0)) (rest-leaves m H .held (not-false _ (c .if2 .left)))

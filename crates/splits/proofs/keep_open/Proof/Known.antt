@@ -110,6 +110,9 @@ end r = end-read r .get1 .result
 abbrev pub top : Words → ℕ
 top r = top-read r .get2 .result
 
+abbrev pub q : Words → ℕ
+q r = q-read r .get12 .result
+
 abbrev pub front : Parts → ℕ
 front c = front-read c .skip .result
 
@@ -133,7 +136,7 @@ module _ {b : Stored} {bs ss : List Stored} where
   pub p-is : (r : Words) → Entry r b bs ss → p-read r .get02 .result ≡ length (b .P)
   p-is r H = w0-is (own-record H _ (at-is H (bounds r))) (p-read r .get02 .ensures)
 
-  pub q-is : (r : Words) → Entry r b bs ss → q-read r .get12 .result ≡ length (b .Q)
+  pub q-is : (r : Words) → Entry r b bs ss → q r ≡ length (b .Q)
   q-is r H = w1-is (own-record H _ (at-is H (bounds r))) (q-read r .get12 .ensures)
 
   pub t-is : (r : Words) → Entry r b bs ss → r .get22 .result ≡ length (b .T)
@@ -142,7 +145,8 @@ module _ {b : Stored} {bs ss : List Stored} where
   pub to-front-is : (r : Words) → Entry r b bs ss → skip-to (view (w r)) (at r + 1) (i r) ≡ end-front (i r) b bs
   to-front-is r H = to-front H (i r) (n r) (members r H) (at-is H (bounds r))
 
-  pub to-back-is : (c : tie.After-skip) → let r = from-front c in Entry r b bs ss → skip-to (view (w r)) (c .skip .result) (n r - i r) ≡ end-back (i r) (n r) b bs
+  pub to-back-is : (c : tie.After-skip)
+      → let r = from-front c in Entry r b bs ss → skip-to (view (w r)) (c .skip .result) (n r - i r) ≡ end-back (i r) (n r) b bs
   to-back-is c H = let r = from-front c in to-back H (i r) (n r) (members r H) (c .skip .ensures ∙ to-front-is r H)
 
   pub to-P-is : (c : tie.After-skip2)
@@ -150,12 +154,12 @@ module _ {b : Stored} {bs ss : List Stored} where
   to-P-is c H = let r = from-back c in to-Q H (i r) (n r) (members r H) (p-is r H) (c .skip2 .ensures ∙ to-back-is (c .before .before) H)
 
   pub to-Q-is : (c : tie.After-skip3)
-      → let r = from-P c in Entry r b bs ss → skip-to (view (w r)) (c .skip3 .result) (q-read r .get12 .result) ≡ end-Q (i r) (n r) b bs
+      → let r = from-P c in Entry r b bs ss → skip-to (view (w r)) (c .skip3 .result) (q r) ≡ end-Q (i r) (n r) b bs
   to-Q-is c H = let r = from-P c in to-T H (i r) (n r) (members r H) (q-is r H) (c .skip3 .ensures ∙ to-P-is (c .before .before) H)
 
   pub placed : (c : Parts) (H : Entry (words c) b bs ss)
       → let r = words c in
-      Placed b bs (i r) (n r) (length (H .free)) (at r) (end r) (top r) (q-read r .get12 .result) (r .get22 .result) (front c) (back c) (in-q c) (c .skip4 .result)
+      Placed b bs (i r) (n r) (length (H .free)) (at r) (end r) (top r) (q r) (r .get22 .result) (front c) (back c) (in-q c) (c .skip4 .result)
   placed c H = let r = words c in record {
     at-is = at-is H (bounds r);
     end-is = end-is H (bounds r);
@@ -176,7 +180,9 @@ opened r = start r .pre .0 .3
 pub skip-inside : (r : Words) {x : ℕ} → x ≤ end-Q (i r) (n r) (start r .pre .0 .0) (start r .pre .0 .1) → x ≤ room (w r)
 skip-inside r h = inside-room (w r) (parts-inside (opened r) (i r) (n r) (members r (opened r)) h)
 
-pub at-inside : (c : tie.After-get2) → c .before .before .before .before .get0 .result < room (c .before .before .before .before .before .before .before .before .before .args .w .now)
+pub at-inside : (c : tie.After-get2)
+    → let a = c .before .before .before .before in
+    a .get0 .result < room (a .before .before .before .before .before .args .w .now)
 at-inside c =
     let a = c .before .before .before .before in
     let s = a .before .before .before .before .before in
@@ -185,7 +191,7 @@ at-inside c =
 
 pub in-order : (c : Parts)
     → let r = words c in
-    Ordered (n r) (at r) (end r) (top r) (q-read r .get12 .result) (front c) (back c) (in-q c) (c .skip4 .result) (room (w r))
+    Ordered (n r) (at r) (end r) (top r) (q r) (front c) (back c) (in-q c) (c .skip4 .result) (room (w r))
 in-order c =
     let r = words c in
     let H = opened r in

@@ -268,6 +268,9 @@ module _ {v : List Rec} {most : ℕ} {b : Stored} {bs ss : List Stored} (H : Hel
       ap₂ (skip-to v) e (sym (length-take-le k (b .Q) h)) ∙ skips (lies H) (b .P) (take k (b .Q)) (drop k (b .Q) ++ b .T) (parted-Q-behind b k)
       ∙ sym (place-add (at-of bs) (b .P) (take k (b .Q)))
 
+  pub all-Q : {from q : ℕ} → from ≡ place (at-of bs) (b .P) → q ≡ length (b .Q) → polys-at v from q ≡ b .Q
+  all-Q {from} {q} e n = in-Q from q e (omega arith) ∙ take-all q (b .Q) (omega arith)
+
   pub end-Q : {from q : ℕ} → from ≡ place (at-of bs) (b .P) → q ≡ length (b .Q) → skip-to v from q ≡ place (at-of bs) (b .P ++ b .Q)
   end-Q {from} {q} e n =
       skip-Q from q e (omega arith) ∙ ap (λ (l : List (List ℕ)). place (at-of bs) (b .P ++ l)) (take-all q (b .Q) (omega arith))

@@ -32,8 +32,9 @@ returns c =
     let s = c .before .before .before .before .before .before .before .before .before .before .before in
     let w = s .args .w .now in
     let v = view w in
-    begun v (view (c .before .before .before .before .before .before .put-rec .last .0)) (view (c .before .before .put-rec2 .last .0)) (capacity w) (s .pre) (omega (arith, length-view w)) (omega arith)
-    (c .before .before .before .before .before .before .put-rec .ensures ∙ ap (λ (k : ℕ). set v 0 (mk 1 2 k 0)) (most-is (c .before .before .before .before .before .before .before .before .before))) (c .before .before .put-rec2 .ensures)
+    let p = c .before .before .before .before .before .before in
+    begun v _ _ (capacity w) (s .pre) (omega (arith, length-view w)) (omega arith)
+    (p .put-rec .ensures ∙ ap (λ (k : ℕ). set v 0 (mk 1 2 k 0)) (most-is (p .before .before .before))) (c .before .before .put-rec2 .ensures)
 
 pub begin-spec : {M : Type 1} → statement M
 begin-spec =

@@ -1,8 +1,8 @@
 -- `turn::drop`: `dropped` with the words read.
-use mathlib.Core.Path.{_≡_, ap, _∙_}
+use mathlib.Core.Path.{_≡_}
 use native.Mathlib.Omega.{arith}
-use Rattle.records.specs.Records.{Rec, view}
 use Rattle.records.proofs.Rows.{length-view}
+use Rattle.branches.proofs.OpenLaws.{w0-is, w2-is, w3-is}
 use Rattle.branches.proofs.TurnLaws.{start, control, own-record, within, dropped}
 use borrow.Author.Needs.{needs}
 use Rattle.branches.proofs.turn.drop.Statement.{statement}
@@ -18,7 +18,7 @@ get3-requires : tie.Need-get3-requires
 get3-requires c κs =
     let s = c .before .before .before .before in
     let H = s .pre .3 in
-    omega (arith, c .before .get0 .ensures, ap (λ (r : Rec). r .w0) (control H), within H, length-view (s .args .w .now))
+    omega (arith, w0-is (control H) (c .before .get0 .ensures), within H, length-view (s .args .w .now))
 
 get2-requires : tie.Need-get2-requires
 get2-requires c κs = search needs
@@ -37,12 +37,13 @@ same-length c = search needs
 
 returns : tie.Need-returns
 returns c b bs ss H =
-    let at = c .before .before .before .before .before .before .before .before .before .before .get0 .result in
-    let eat : at ≡ start bs = c .before .before .before .before .before .before .before .before .before .before .get0 .ensures ∙ ap (λ (r : Rec). r .w0) (control H) in
-    dropped H (view (c .before .before .put-rec .last .0)) (c .before .before .before .before .before .before .before .before .get3 .result) at (c .before .before .before .before .before .before .get2 .result) (c .before .before .before .before .get32 .result)
-    (c .before .before .before .before .before .before .before .before .get3 .ensures ∙ ap (λ (r : Rec). r .w3) (own-record H at eat)) eat
-    (c .before .before .before .before .before .before .get2 .ensures ∙ ap (λ (r : Rec). r .w2) (control H))
-    (c .before .before .before .before .get32 .ensures ∙ ap (λ (r : Rec). r .w3) (control H)) (c .before .before .put-rec .ensures)
+    let systems = c .before .before .before .before in
+    let top = systems .before .before in
+    let under = top .before .before in
+    let at = under .before .before in
+    let at-is : at .get0 .result ≡ start bs = w0-is (control H) (at .get0 .ensures) in
+    dropped H _ _ _ _ _ (w3-is (own-record H _ at-is) (under .get3 .ensures)) at-is (w2-is (control H) (top .get2 .ensures))
+    (w3-is (control H) (systems .get32 .ensures)) (c .before .before .put-rec .ensures)
 
 pub drop-spec : {M : Type 1} → statement M
 drop-spec =

@@ -8,7 +8,8 @@ use lib.ListN.{length, take, drop, getD, set, length-append, length-drop, take-a
 use lib.Seq.{getD-at, set-at, drop-append-le, length-take-le, take-all, split-at}
 use Rattle.records.specs.Records.{Rec, mk, nul}
 use Rattle.stored.specs.Stored.{poly-records, polys-records, size-at, words-at, skip-to, polys-at, inserted, removed, Storable}
-use Rattle.stored.specs.laws.Stored.{length-poly-records, polys-records-append, size-at-poly-records, words-at-poly-records, skip-to-polys-records, polys-at-polys-records, inserted-in-parts, removed-in-parts, All-pairs}
+use Rattle.stored.specs.laws.Stored.{length-poly-records, polys-records-append, size-at-poly-records, words-at-poly-records, skip-to-polys-records}
+use Rattle.stored.specs.laws.Stored.{polys-at-polys-records, inserted-in-parts, removed-in-parts, All-pairs}
 use Rattle.branches.specs.Area.{Stored, Held, with-open, stack, systems-records, branch-records, All-storable}
 
 pub all-pairs : (fs : List (List ℕ)) → All-storable fs → All-pairs fs
@@ -32,7 +33,8 @@ place at xs = at + 1 + length (polys-records xs)
 pub place-add : (at : ℕ) (xs ys : List (List ℕ)) → place at (xs ++ ys) ≡ place at xs + length (polys-records ys)
 place-add at xs ys = omega (arith, ap length (polys-records-append xs ys), length-append (polys-records xs) (polys-records ys))
 
-pub place-one : (at : ℕ) (xs : List (List ℕ)) (f : List ℕ) (ys : List (List ℕ)) → place at (xs ++ (f ∷ ys)) ≡ place at xs + (length f / 2 + 1) + length (polys-records ys)
+pub place-one : (at : ℕ) (xs : List (List ℕ)) (f : List ℕ) (ys : List (List ℕ))
+    → place at (xs ++ (f ∷ ys)) ≡ place at xs + (length f / 2 + 1) + length (polys-records ys)
 unfolding polys-records
 place-one at xs f ys = omega (arith, place-add at xs (f ∷ ys), length-append (poly-records f) (polys-records ys), length-poly-records f)
 
@@ -63,15 +65,18 @@ module _ {v pre : List Rec} {own : Rec} {fs : List (List ℕ)} {free fin : List 
   split₂ : (xs gs ys : List (List ℕ)) → fs ≡ xs ++ (gs ++ ys) → v ≡ front xs ++ (polys-records gs ++ (polys-records ys ++ (free ++ fin)))
   split₂ xs gs ys s =
       split xs (gs ++ ys) s
-      ∙ ap (λ (u : List Rec). front xs ++ u) (ap (λ (u : List Rec). u ++ (free ++ fin)) (polys-records-append gs ys) ∙ append-assoc (polys-records gs) (polys-records ys) (free ++ fin))
+      ∙ ap (λ (u : List Rec). front xs ++ u)
+      (ap (λ (u : List Rec). u ++ (free ++ fin)) (polys-records-append gs ys) ∙ append-assoc (polys-records gs) (polys-records ys) (free ++ fin))
 
   pub skips : (xs gs ys : List (List ℕ)) → fs ≡ xs ++ (gs ++ ys) → skip-to v (place at xs) (length gs) ≡ place at xs + length (polys-records gs)
   skips xs gs ys s = skip-to-polys-records v (front xs) (place at xs) gs (polys-records ys ++ (free ++ fin)) (length-front xs) (split₂ xs gs ys s)
 
   pub finds : (xs gs ys : List (List ℕ)) → fs ≡ xs ++ (gs ++ ys) → All-storable gs → polys-at v (place at xs) (length gs) ≡ gs
-  finds xs gs ys s h = polys-at-polys-records v (front xs) (place at xs) gs (polys-records ys ++ (free ++ fin)) (length-front xs) (split₂ xs gs ys s) (all-pairs gs h)
+  finds xs gs ys s h =
+      polys-at-polys-records v (front xs) (place at xs) gs (polys-records ys ++ (free ++ fin)) (length-front xs) (split₂ xs gs ys s) (all-pairs gs h)
 
-  split-one : (xs : List (List ℕ)) (f : List ℕ) (ys : List (List ℕ)) → fs ≡ xs ++ (f ∷ ys) → v ≡ front xs ++ (poly-records f ++ (polys-records ys ++ (free ++ fin)))
+  split-one : (xs : List (List ℕ)) (f : List ℕ) (ys : List (List ℕ)) → fs ≡ xs ++ (f ∷ ys)
+      → v ≡ front xs ++ (poly-records f ++ (polys-records ys ++ (free ++ fin)))
   unfolding polys-records
   split-one xs f ys s = split xs (f ∷ ys) s ∙ ap (λ (u : List Rec). front xs ++ u) (append-assoc (poly-records f) (polys-records ys) (free ++ fin))
 
@@ -93,18 +98,23 @@ module _ {v pre : List Rec} {own : Rec} {fs : List (List ℕ)} {free fin : List 
       record {
         starts = L .starts;
         is = e
-            ∙ inserted-in-parts v (front xs) (polys-records ys) (free ++ fin) (poly-records f) (place at xs) (place at fs - place at xs) (split xs ys s) (length-front xs) m
+            ∙ inserted-in-parts v (front xs) (polys-records ys) (free ++ fin) (poly-records f) (place at xs) (place at fs - place at xs) (split xs ys s)
+            (length-front xs) m
             ∙ ap (λ (u : List Rec). front xs ++ (poly-records f ++ (polys-records ys ++ u))) shrunk
             ∙ append-assoc pre (own ∷ polys-records xs) (poly-records f ++ (polys-records ys ++ free'))
             ∙ ap (λ (u : List Rec). pre ++ (own ∷ u))
             (ap (λ (u : List Rec). polys-records xs ++ u) (sym (append-assoc (poly-records f) (polys-records ys) free'))
-            ∙ sym (append-assoc (polys-records xs) (poly-records f ++ polys-records ys) free') ∙ ap (λ (u : List Rec). u ++ free') (sym (polys-records-append xs (f ∷ ys))));
+            ∙ sym (append-assoc (polys-records xs) (poly-records f ++ polys-records ys) free')
+            ∙ ap (λ (u : List Rec). u ++ free') (sym (polys-records-append xs (f ∷ ys))));
       }
 
   -- ── f taken out ──
   -- The records from n on that are free then.
   pub freed : ℕ → List Rec
   freed n = drop n (pre ++ (own ∷ (polys-records fs ++ free)))
+
+  length-upto : length (pre ++ (own ∷ (polys-records fs ++ free))) ≡ place at fs + length free
+  length-upto = omega (arith, L .starts, length-append pre (own ∷ (polys-records fs ++ free)), length-append (polys-records fs) free)
 
   pub take-out : (xs : List (List ℕ)) (f : List ℕ) (ys : List (List ℕ)) → fs ≡ xs ++ (f ∷ ys) → (v₁ : List Rec)
       → v₁ ≡ removed v (place at xs) (length f / 2 + 1) (place at fs - place at xs - (length f / 2 + 1))
@@ -115,26 +125,30 @@ module _ {v pre : List Rec} {own : Rec} {fs : List (List ℕ)} {free fin : List 
       let m : ℕ = place at fs - place at xs - n in
       let lm : length (polys-records ys) ≡ m = omega (arith, ap (place at) s, place-one at xs f ys) in
       let to : place at xs + m ≡ place at (xs ++ ys) = omega (arith, place-add at xs ys) in
-      let whole : v ≡ pre ++ (own ∷ (polys-records fs ++ free)) ++ fin =
-      L .is ∙ ap (λ (u : List Rec). pre ++ (own ∷ u)) (sym (append-assoc (polys-records fs) free fin)) ∙ sym (append-assoc pre (own ∷ (polys-records fs ++ free)) fin) in
-      let short : place at (xs ++ ys) ≤ length (pre ++ (own ∷ (polys-records fs ++ free))) =
-      omega (arith, L .starts, length-append pre (own ∷ (polys-records fs ++ free)), length-append (polys-records fs) free, ap (place at) s, place-one at xs f ys, place-add at xs ys) in
-      let left : drop (place at xs + m) v ≡ drop (place at (xs ++ ys)) (pre ++ (own ∷ (polys-records fs ++ free))) ++ fin =
-      (λ t. drop (to t) (whole t)) ∙ drop-append-le (place at (xs ++ ys)) (pre ++ (own ∷ (polys-records fs ++ free))) fin short in
-      let free' : List Rec = drop (place at (xs ++ ys)) (pre ++ (own ∷ (polys-records fs ++ free))) ++ fin in
+      let upto : List Rec = pre ++ (own ∷ (polys-records fs ++ free)) in
+      let whole : v ≡ upto ++ fin =
+      L .is ∙ ap (λ (u : List Rec). pre ++ (own ∷ u)) (sym (append-assoc (polys-records fs) free fin))
+      ∙ sym (append-assoc pre (own ∷ (polys-records fs ++ free)) fin) in
+      let short : place at (xs ++ ys) ≤ length upto = omega (arith, length-upto, ap (place at) s, place-one at xs f ys, place-add at xs ys) in
+      let left : drop (place at xs + m) v ≡ drop (place at (xs ++ ys)) upto ++ fin =
+      (λ t. drop (to t) (whole t)) ∙ drop-append-le (place at (xs ++ ys)) upto fin short in
+      let free' : List Rec = drop (place at (xs ++ ys)) upto ++ fin in
       record {
         starts = L .starts;
         is = gone
-            ∙ removed-in-parts v (front xs) (poly-records f) (polys-records ys) (free ++ fin) (place at xs) n m (split-one xs f ys s) (length-front xs) (length-poly-records f) lm
+            ∙ removed-in-parts v (front xs) (poly-records f) (polys-records ys) (free ++ fin) (place at xs) n m (split-one xs f ys s) (length-front xs)
+            (length-poly-records f) lm
             ∙ ap (λ (u : List Rec). front xs ++ (polys-records ys ++ u)) left ∙ append-assoc pre (own ∷ polys-records xs) (polys-records ys ++ free')
-            ∙ ap (λ (u : List Rec). pre ++ (own ∷ u)) (sym (append-assoc (polys-records xs) (polys-records ys) free') ∙ ap (λ (u : List Rec). u ++ free') (sym (polys-records-append xs ys)));
+            ∙ ap (λ (u : List Rec). pre ++ (own ∷ u))
+            (sym (append-assoc (polys-records xs) (polys-records ys) free') ∙ ap (λ (u : List Rec). u ++ free') (sym (polys-records-append xs ys)));
       }
 
   pub length-freed : (xs : List (List ℕ)) (f : List ℕ) (ys : List (List ℕ)) → fs ≡ xs ++ (f ∷ ys)
       → length (freed (place at (xs ++ ys))) ≡ length free + (length f / 2 + 1)
   unfolding freed
   length-freed xs f ys s =
-      omega (arith, length-drop (place at (xs ++ ys)) (pre ++ (own ∷ (polys-records fs ++ free))), L .starts, length-append pre (own ∷ (polys-records fs ++ free)), length-append (polys-records fs) free, ap (place at) s, place-one at xs f ys, place-add at xs ys)
+      let dropped = length-drop (place at (xs ++ ys)) (pre ++ (own ∷ (polys-records fs ++ free))) in
+      omega (arith, length-upto, ap (place at) s, place-one at xs f ys, place-add at xs ys)
 
   -- ── the branch's own record written anew ──
   pub own-set : (v₁ : List Rec) (r : Rec) → v₁ ≡ set v at r → Lies v₁ pre r fs free fin at
@@ -242,7 +256,8 @@ pub record Found (v : List Rec) (most r : ℕ) (f : List ℕ) : Type 0 where
   pub words : words-at v r ≡ f
 
 module _ {v : List Rec} {most : ℕ} {b : Stored} {bs ss : List Stored} (H : Held v most (with-open b bs ss)) where
-  pub found : (xs : List (List ℕ)) (f : List ℕ) (ys : List (List ℕ)) → all b ≡ xs ++ (f ∷ ys) → Storable f → (r : ℕ) → r ≡ place (at-of bs) xs → Found v most r f
+  pub found : (xs : List (List ℕ)) (f : List ℕ) (ys : List (List ℕ)) → all b ≡ xs ++ (f ∷ ys) → Storable f
+      → (r : ℕ) → r ≡ place (at-of bs) xs → Found v most r f
   found xs f ys s h r e =
       let size : size-at v r ≡ length f / 2 = ap (size-at v) e ∙ size-of (lies H) xs f ys s in
       record {

@@ -17,5 +17,6 @@ inside-room w h = omega arith
 pub held-by : (v : List Rec) (a : Area) (xs ys : List ℕ) → length xs ≡ length ys → Held v (capacity xs) a → Held v (capacity ys) a
 held-by v a xs ys e H = subst (λ (n : ℕ). Held v n a) (same-capacity xs ys e) H
 
-pub left-by : (v : List Rec) (r : Bool) (a a' : Area) (xs ys : List ℕ) → length xs ≡ length ys → a ≡ a' → Leaves (capacity xs) a r v → Leaves (capacity ys) a' r v
+pub left-by : (v : List Rec) (r : Bool) (a a' : Area) (xs ys : List ℕ) → length xs ≡ length ys → a ≡ a'
+    → Leaves (capacity xs) a r v → Leaves (capacity ys) a' r v
 left-by v r a a' xs ys e f L = subst (λ (x : Area). Leaves (capacity ys) x r v) f (subst (λ (n : ℕ). Leaves n a r v) (same-capacity xs ys e) L)

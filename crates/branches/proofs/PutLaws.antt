@@ -133,8 +133,8 @@ abbrev pub seen : ℕ → Stored → ℕ
 seen left b = length (b .Q) - left
 
 -- They lie behind P.
-module _ {v : List Rec} {most : ℕ} {b : Stored} {bs ss : List Stored} (H : Held v most (with-open b bs ss)) (left : ℕ) {from q : ℕ} (e : from ≡ place (at-of bs) (b .P))
-    (n : q ≡ length (b .Q)) where
+module _ {v : List Rec} {most : ℕ} {b : Stored} {bs ss : List Stored} (H : Held v most (with-open b bs ss)) (left : ℕ) {from q : ℕ}
+    (e : from ≡ place (at-of bs) (b .P)) (n : q ≡ length (b .Q)) where
   pub seen-Q : polys-at v from (q - left) ≡ take (seen left b) (b .Q)
   seen-Q = ap (λ (k : ℕ). polys-at v from (k - left)) n ∙ in-Q H from (seen left b) e (omega arith)
 

@@ -43,28 +43,35 @@ module _ {v : List Rec} {most : ℕ} {b : Stored} {bs ss : List Stored} (H : Hel
   behind : List Rec
   behind = systems-records ss ++ H .beyond
 
+  abbrev ctl : Rec
+  ctl = mk (start bs) (finish b bs) (finish b bs + length (H .free)) (length ss)
+
   pub control : getD v 0 nul ≡ mk (start bs) (finish b bs) (finish b bs + length (H .free)) (length ss)
   control = ap (λ (u : List Rec). getD u 0 nul) (H .is)
 
-  in-parts : v ≡ (mk (start bs) (finish b bs) (finish b bs + length (H .free)) (length ss) ∷ stack bs .0) ++ (branch-records (stack bs .1) b ++ (H .free ++ behind))
+  in-parts : v ≡ (ctl ∷ stack bs .0) ++ (branch-records (stack bs .1) b ++ (H .free ++ behind))
   unfolding behind
   in-parts = H .is ∙ simp append-assoc
 
   pub own-record : (at : ℕ) → at ≡ start bs → getD v at nul ≡ own b bs
   own-record at h =
       ap (λ (u : List Rec). getD u at nul) in-parts
-      ∙ getD-at (mk (start bs) (finish b bs) (finish b bs + length (H .free)) (length ss) ∷ stack bs .0) (own b bs)
+      ∙ getD-at (ctl ∷ stack bs .0) (own b bs)
       ((polys-records (b .P) ++ (polys-records (b .Q) ++ polys-records (b .T))) ++ (H .free ++ behind)) nul at (omega arith)
 
   pub length-open : finish b bs ≡ start bs + length (branch-records (stack bs .1) b)
   length-open = omega (arith, length-append (stack bs .0) (branch-records (stack bs .1) b))
+
+  length-behind : length (H .free ++ behind) ≡ length (H .free) + (length (systems-records ss) + length (H .beyond))
+  unfolding behind
+  length-behind = omega (arith, length-append (H .free) behind, length-append (systems-records ss) (H .beyond))
 
   -- The branch has a record, and the branches, the free records and the systems lie in the list.
   pub within : (start bs < finish b bs) × (finish b bs + length (H .free) + length (systems-records ss) ≤ length v) × (length ss < 65536)
   unfolding behind
   within = (
     omega (arith, length-open),
-    omega (arith, ap length (H .is), length-append (stack (b ∷ bs) .0) (H .free ++ behind), length-append (H .free) behind, length-append (systems-records ss) (H .beyond)),
+    omega (arith, ap length (H .is), length-append (stack (b ∷ bs) .0) (H .free ++ behind), length-behind),
     omega (arith, length-le-systems-records ss, H .fits, H .few),
   )
 
@@ -92,7 +99,6 @@ module _ {v : List Rec} {most : ℕ} {b : Stored} {bs ss : List Stored} (H : Hel
   moved-up v₁ v₂ v₃ at n to p q t x k eat en eto ep eq et ex ek e₁ e₂ e₃ =
       let B : List Rec = branch-records (stack bs .1) b in
       let rest : List Rec = polys-records (b .P) ++ (polys-records (b .Q) ++ polys-records (b .T)) in
-      let ctl : Rec = mk (start bs) (finish b bs) (finish b bs + length (H .free)) (length ss) in
       let pre : List Rec = ctl ∷ stack bs .0 in
       let big : List Rec = B ++ H .free in
       let free' : List Rec = take (to - at) big in
@@ -101,7 +107,8 @@ module _ {v : List Rec} {most : ℕ} {b : Stored} {bs ss : List Stored} (H : Hel
       let e' : v ≡ pre ++ (big ++ behind) = in-parts ∙ simp append-assoc in
       let nto : to ≡ length pre + (to - at) = omega arith in
       let cut : take to v ≡ pre ++ free' =
-      (λ i. take (nto i) (e' i)) ∙ take-append-add pre (big ++ behind) (to - at) ∙ ap (λ (u : List Rec). pre ++ u) (take-append-le (to - at) big behind (omega arith)) in
+      (λ i. take (nto i) (e' i)) ∙ take-append-add pre (big ++ behind) (to - at)
+      ∙ ap (λ (u : List Rec). pre ++ u) (take-append-le (to - at) big behind (omega arith)) in
       let mid : take n (drop at v) ≡ B =
       ap (take n) (ap (drop at) in-parts ∙ drop-at pre (B ++ (H .free ++ behind)) at (omega arith)) ∙ take-at B (H .free ++ behind) n lB in
       let back : drop (to + n) v ≡ behind =
@@ -114,10 +121,12 @@ module _ {v : List Rec} {most : ℕ} {b : Stored} {bs ss : List Stored} (H : Hel
       ∙ set-at (pre ++ free') (own b bs) (rest ++ behind) (mk p q t 0) to (omega (arith, length-append pre free')) in
       let top : to ≡ start bs + length free' = omega arith in
       let more : k ≡ length (b ∷ ss) = omega arith in
+      let ctl' : Rec = mk (stack bs .1) (start bs) (start bs + length free') (length (b ∷ ss)) in
       record {
         free = free';
         beyond = H .beyond;
-        is = e₃ ∙ (λ i. set (i₂ i) 0 (mk (ex i) (eat i) (top i) (more i))) ∙ (λ i. mk (stack bs .1) (start bs) (start bs + length free') (length (b ∷ ss)) ∷ (stack bs .0 ++ free' ++ (mk (ep i) (eq i) (et i) 0 ∷ (rest ++ behind)))) ∙ simp append-assoc;
+        is = e₃ ∙ (λ i. set (i₂ i) 0 (mk (ex i) (eat i) (top i) (more i)))
+            ∙ (λ i. ctl' ∷ (stack bs .0 ++ free' ++ (mk (ep i) (eq i) (et i) 0 ∷ (rest ++ behind)))) ∙ simp append-assoc;
         fits = omega (arith, H .fits, length-append (branch-records 0 b) (systems-records ss));
         few = H .few;
         storable = (H .storable .0 .3, (H .storable .0 .0, H .storable .0 .1, H .storable .0 .2, H .storable .1));

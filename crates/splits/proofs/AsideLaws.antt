@@ -11,7 +11,8 @@ use Rattle.records.specs.Records.{Rec}
 use Rattle.stored.specs.Stored.{polys-records, member}
 use Rattle.stored.specs.laws.Stored.{polys-records-append}
 use Rattle.branches.specs.Words.{put-P, put-Q, put-Q-before, remove, unless, is-zero, is-one}
-use Rattle.branches.specs.Area.{Stored, Area, Held, Leaves, stack, branch-records, with-open, size, kept-open, aside, put-into-P, put-into-Q, without-P, split-area}
+use Rattle.branches.specs.Area.{Stored, Area, Held, Leaves, stack, branch-records, with-open, size}
+use Rattle.branches.specs.Area.{kept-open, aside, put-into-P, put-into-Q, without-P, split-area}
 use Rattle.branches.proofs.OpenLaws.{remove-in-parts, length-remove}
 use Rattle.branches.proofs.TurnLaws.{start, control, own-record}
 

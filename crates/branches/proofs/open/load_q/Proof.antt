@@ -16,7 +16,8 @@ abbrev Entry : tie.Start → Stored → List Stored → List Stored → Type 0
 Entry s b bs ss = Held (view (s .args .w .now)) (capacity (s .args .w .now)) (with-open b bs ss)
 
 -- P ends where the first call of `skip` does.
-from-is : (c : tie.After-skip) {b : Stored} {bs ss : List Stored} → Entry (c .before .before .before .before .before) b bs ss → c .skip .result ≡ place (at-of bs) (b .P)
+from-is : (c : tie.After-skip) {b : Stored} {bs ss : List Stored} → Entry (c .before .before .before .before .before) b bs ss
+    → c .skip .result ≡ place (at-of bs) (b .P)
 from-is c H = c .skip .ensures ∙ end-P H _ (c .before .before .get0 .ensures) _ (c .before .get02 .ensures)
 
 -- The member of Q at place i is where the second one does.

@@ -74,21 +74,21 @@ abbrev from-insert : tie.After-insert → Reading
 from-insert c = from-gap (c .before .before)
 
 -- The branch's own record is written.
-abbrev own-from-insert : tie.After-put-rec-arg → tie.After-insert
-own-from-insert c = c .before .before .before
+abbrev insert-before-own : tie.After-put-rec-arg → tie.After-insert
+insert-before-own c = c .before .before .before
 
 abbrev insert-of : tie.After-put-rec → tie.After-insert
-insert-of c = own-from-insert (c .before)
+insert-of c = insert-before-own (c .before)
 
 -- The control record is read again, and written.
-abbrev top-from-own : tie.After-get2-arg2 → tie.After-put-rec
-top-from-own c = c .before .before .before
+abbrev own-before-top : tie.After-get2-arg2 → tie.After-put-rec
+own-before-top c = c .before .before .before
 
-abbrev systems-from-own : tie.After-get3-arg2 → tie.After-put-rec
-systems-from-own c = top-from-own (c .before .before)
+abbrev own-before-systems : tie.After-get3-arg2 → tie.After-put-rec
+own-before-systems c = own-before-top (c .before .before)
 
-abbrev control-from-own : tie.After-put-rec-arg2 → tie.After-put-rec
-control-from-own c = systems-from-own (c .before .before)
+abbrev own-before-control : tie.After-put-rec-arg2 → tie.After-put-rec
+own-before-control c = own-before-systems (c .before .before)
 
 -- ── what is read ──
 abbrev i : Removed → ℕ
@@ -126,8 +126,8 @@ module _ {b : Stored} {bs ss : List Stored} where
   after : (m : Removed) → Entry m b bs ss → Held (view (w m)) (capacity (start m .args .w .now)) (with-open (without-P (i m) b) bs ss)
   after m H = m .remove-p .ensures b bs ss H
 
-  own-before : (r : Reading) → Entry (removed r) b bs ss → getD (view (w (removed r))) (at r) nul ≡ own-of (without-P (i (removed r)) b) bs
-  own-before r H = own-read (after (removed r) H) _ (read r .at-word)
+  own-kept : (r : Reading) → Entry (removed r) b bs ss → getD (view (w (removed r))) (at r) nul ≡ own-of (without-P (i (removed r)) b) bs
+  own-kept r H = own-read (after (removed r) H) _ (read r .at-word)
 
   end-P-is : (r : Reading) → Entry (removed r) b bs ss
       → skip-to (view (w (removed r))) (at r + 1) (p-read r .get02 .result) ≡ place (at-of bs) (remove (i (removed r)) (b .P))
@@ -136,7 +136,7 @@ module _ {b : Stored} {bs ss : List Stored} where
   there : (c : tie.After-skip) → Entry (removed (from-skip c)) b bs ss
       → let r = from-skip c in skip-to (view (w (removed r))) (c .skip .result) (q-read r .get12 .result) ≡ place (at-of bs) (before-T (removed r) b)
   there c H =
-      let r = from-skip c in end-Q (after (removed r) H) (c .skip .ensures ∙ end-P-is r H) (w1-is (own-before r H) (q-read r .get12 .ensures))
+      let r = from-skip c in end-Q (after (removed r) H) (c .skip .ensures ∙ end-P-is r H) (w1-is (own-kept r H) (q-read r .get12 .ensures))
 
   adds : (m : Removed) → Entry m b bs ss → More (without-P (i m) b) (closed (i m) b) (before-T m b) (f m) (b .T)
   adds m H = subst (λ (g : List ℕ). More (without-P (i m) b) (closed (i m) b) (before-T m b) g (b .T)) (is-member m H .1) (adds-T b (i m))
@@ -155,7 +155,7 @@ module _ {b : Stored} {bs ss : List Stored} where
 
   own-is : (r : Reading) → Entry (removed r) b bs ss → own r ≡ own-of (closed (i (removed r)) b) bs
   own-is r H =
-      let o = own-before r H in
+      let o = own-kept r H in
       mk-equal (w0-is o (p-read r .get02 .ensures)) (w1-is o (q-read r .get12 .ensures))
       (count-T b (i (removed r)) (w2-is o (t-read r .get2 .ensures))) (w3-is o (r .get3 .ensures))
 
@@ -237,45 +237,45 @@ insert-requires c κs =
 
 add-put-rec : tie.Need-add-put-rec
 add-put-rec c =
-    let r = from-insert (own-from-insert c) in
+    let r = from-insert (insert-before-own c) in
     let H = opened (removed r) in
     let H₁ = after (removed r) H in
-    fits-word H₁ (read r) (omega (arith, w2-is (own-before r H) (t-read r .get2 .ensures), counts-small H₁))
+    fits-word H₁ (read r) (omega (arith, w2-is (own-kept r H) (t-read r .get2 .ensures), counts-small H₁))
 
 put-rec-requires : tie.Need-put-rec-requires
-put-rec-requires c κs = own-inside (own-from-insert c)
+put-rec-requires c κs = own-inside (insert-before-own c)
 
 get2-requires-2 : tie.Need-get2-requires-2
-get2-requires-2 c κs = control-inside (top-from-own c)
+get2-requires-2 c κs = control-inside (own-before-top c)
 
 get3-requires-2 : tie.Need-get3-requires-2
-get3-requires-2 c κs = control-inside (systems-from-own c)
+get3-requires-2 c κs = control-inside (own-before-systems c)
 
 cast-put-rec : tie.Need-cast-put-rec
-cast-put-rec c = let r = from-insert (insert-of (control-from-own c)) in at-fits (after (removed r) (opened (removed r))) (read r)
+cast-put-rec c = let r = from-insert (insert-of (own-before-control c)) in at-fits (after (removed r) (opened (removed r))) (read r)
 
 add-put-rec-2 : tie.Need-add-put-rec-2
-add-put-rec-2 c = omega (arith, end-fits (insert-of (control-from-own c)))
+add-put-rec-2 c = omega (arith, end-fits (insert-of (own-before-control c)))
 
 add-put-rec-3 : tie.Need-add-put-rec-3
-add-put-rec-3 c = omega (arith, end-fits (insert-of (control-from-own c)))
+add-put-rec-3 c = omega (arith, end-fits (insert-of (own-before-control c)))
 
 cast-put-rec-2 : tie.Need-cast-put-rec-2
-cast-put-rec-2 c = end-fits (insert-of (control-from-own c))
+cast-put-rec-2 c = end-fits (insert-of (own-before-control c))
 
 put-rec-requires-2 : tie.Need-put-rec-requires-2
-put-rec-requires-2 c κs = control-inside (control-from-own c)
+put-rec-requires-2 c κs = control-inside (own-before-control c)
 
 same-length : tie.Need-same-length
 same-length c =
-    let o = control-from-own (c .before .before .before) in
+    let o = own-before-control (c .before .before .before) in
     let n = insert-of o in
     c .before .before .put-rec2 .kept .0 ∙ o .put-rec .kept .0 ∙ n .insert .kept .0 ∙ removed (from-insert n) .remove-p .kept .0
 
 returns : tie.Need-returns
 returns c b bs ss H =
     let k = c .before .before .before in
-    let o = control-from-own k in
+    let o = own-before-control k in
     let n = insert-of o in
     let r = from-insert n in
     let m = removed r in

@@ -49,27 +49,27 @@ from-skip c = c .before .before .before
 abbrev from-find : tie.After-find → Reading
 from-find c = from-skip (c .before .before)
 
-abbrev skip-from-room : tie.Else5 → tie.After-skip
-skip-from-room c = c .before .before .before .before
+abbrev skip-before-room : tie.Else5 → tie.After-skip
+skip-before-room c = c .before .before .before .before
 
-abbrev skip-from-gap : tie.After-skip2 → tie.After-skip
-skip-from-gap c = skip-from-room (c .before .before)
+abbrev skip-before-gap : tie.After-skip2 → tie.After-skip
+skip-before-gap c = skip-before-room (c .before .before)
 
 abbrev from-gap : tie.After-skip2 → Reading
-from-gap c = from-skip (skip-from-gap c)
+from-gap c = from-skip (skip-before-gap c)
 
 abbrev from-insert : tie.After-insert → Reading
 from-insert c = from-gap (c .before .before)
 
 -- The other words of the branch's own record are read, and it is written.
-abbrev t-from-insert : tie.After-get2-arg2 → tie.After-insert
-t-from-insert c = c .before .before .before
+abbrev insert-before-t : tie.After-get2-arg2 → tie.After-insert
+insert-before-t c = c .before .before .before
 
-abbrev under-from-insert : tie.After-get3-arg → tie.After-insert
-under-from-insert c = t-from-insert (c .before .before)
+abbrev insert-before-under : tie.After-get3-arg → tie.After-insert
+insert-before-under c = insert-before-t (c .before .before)
 
-abbrev own-from-insert : tie.After-put-rec-arg → tie.After-insert
-own-from-insert c = under-from-insert (c .before .before)
+abbrev insert-before-own : tie.After-put-rec-arg → tie.After-insert
+insert-before-own c = insert-before-under (c .before .before)
 
 abbrev under-read : tie.After-put-rec → tie.After-get3
 under-read c = c .before .before
@@ -78,14 +78,14 @@ abbrev t-read : tie.After-put-rec → tie.After-get22
 t-read c = under-read c .before .before
 
 abbrev insert-of : tie.After-put-rec → tie.After-insert
-insert-of c = own-from-insert (c .before)
+insert-of c = insert-before-own (c .before)
 
 abbrev from-own : tie.After-put-rec → Reading
 from-own c = from-insert (insert-of c)
 
 -- The control record is written.
-abbrev own-from-control : tie.After-put-rec-arg2 → tie.After-put-rec
-own-from-control c = c .before .before .before .before .before
+abbrev own-before-control : tie.After-put-rec-arg2 → tie.After-put-rec
+own-before-control c = c .before .before .before .before .before
 
 -- ── what is read ──
 abbrev w : Reading → List ℕ
@@ -156,7 +156,7 @@ module _ {b : Stored} {bs ss : List Stored} where
       → let r = from-gap c in Gap H (read r) (c .skip2 .result) (put-into-Q (left r) (f r) b) (before-it r b) (f r) (behind-it r b)
   gap c H = record {
     adds = adds-Q _ _ b (new-is (c .before .before .before) H);
-    there = c .skip2 .ensures ∙ there (skip-from-gap c) H;
+    there = c .skip2 .ensures ∙ there (skip-before-gap c) H;
     fits = omega (arith, c .before .before .if5 .left, between (from-gap c) H);
   }
 
@@ -274,7 +274,7 @@ returns-3 c b bs ss H =
     no-room H (adds-Q _ _ b (new-is (c .before) H)) (omega (arith, c .if5 .taken, between (from-find (c .before .before)) H))
 
 skip-requires-2 : tie.Need-skip-requires-2
-skip-requires-2 c κs = seen-inside (skip-from-room (c .before))
+skip-requires-2 c κs = seen-inside (skip-before-room (c .before))
 
 insert-requires : tie.Need-insert-requires
 insert-requires c κs =
@@ -283,43 +283,43 @@ insert-requires c κs =
     (start r .pre .1 .1, (g .0, inside-room (w r) (g .1)))
 
 get2-requires-2 : tie.Need-get2-requires-2
-get2-requires-2 c κs = own-inside (t-from-insert c)
+get2-requires-2 c κs = own-inside (insert-before-t c)
 
 get3-requires : tie.Need-get3-requires
-get3-requires c κs = own-inside (under-from-insert c)
+get3-requires c κs = own-inside (insert-before-under c)
 
 add-put-rec : tie.Need-add-put-rec
-add-put-rec c = let r = from-insert (own-from-insert c) in fits-word (opened r) (read r) (omega (arith, count-is r (opened r), counts-small (opened r)))
+add-put-rec c = let r = from-insert (insert-before-own c) in fits-word (opened r) (read r) (omega (arith, count-is r (opened r), counts-small (opened r)))
 
 put-rec-requires : tie.Need-put-rec-requires
-put-rec-requires c κs = own-inside (own-from-insert c)
+put-rec-requires c κs = own-inside (insert-before-own c)
 
 get3-requires-2 : tie.Need-get3-requires-2
 get3-requires-2 c κs = control-inside (c .before .before .before)
 
 cast-put-rec : tie.Need-cast-put-rec
-cast-put-rec c = let r = from-own (own-from-control c) in at-fits (opened r) (read r)
+cast-put-rec c = let r = from-own (own-before-control c) in at-fits (opened r) (read r)
 
 add-put-rec-2 : tie.Need-add-put-rec-2
-add-put-rec-2 c = omega (arith, end-fits (own-from-control c))
+add-put-rec-2 c = omega (arith, end-fits (own-before-control c))
 
 cast-put-rec-2 : tie.Need-cast-put-rec-2
-cast-put-rec-2 c = end-fits (own-from-control c)
+cast-put-rec-2 c = end-fits (own-before-control c)
 
 cast-put-rec-3 : tie.Need-cast-put-rec-3
-cast-put-rec-3 c = let r = from-own (own-from-control c) in top-fits (opened r) (read r) _ (top-read r .get2 .ensures)
+cast-put-rec-3 c = let r = from-own (own-before-control c) in top-fits (opened r) (read r) _ (top-read r .get2 .ensures)
 
 put-rec-requires-2 : tie.Need-put-rec-requires-2
-put-rec-requires-2 c κs = control-inside (own-from-control c)
+put-rec-requires-2 c κs = control-inside (own-before-control c)
 
 same-length-4 : tie.Need-same-length-4
 same-length-4 c =
-    let o = own-from-control (c .before .before .before) in
+    let o = own-before-control (c .before .before .before) in
     c .before .before .put-rec2 .kept .0 ∙ o .put-rec .kept .0 ∙ insert-of o .insert .kept .0
 
 returns-4 : tie.Need-returns-4
 returns-4 c b bs ss H =
-    let o = own-from-control (c .before .before .before) in
+    let o = own-before-control (c .before .before .before) in
     let i = insert-of o in
     let r = from-insert i in
     let g = gap (i .before .before) H in

@@ -38,20 +38,20 @@ abbrev from-remove : tie.After-remove → Reading
 from-remove c = from-size (c .before .before)
 
 -- The words of the branch's own record are read, and it is written.
-abbrev p-from-remove : tie.After-get0-arg3 → tie.After-remove
-p-from-remove c = c .before .before .before
+abbrev remove-before-p : tie.After-get0-arg3 → tie.After-remove
+remove-before-p c = c .before .before .before
 
-abbrev q-from-remove : tie.After-get1-arg2 → tie.After-remove
-q-from-remove c = p-from-remove (c .before .before)
+abbrev remove-before-q : tie.After-get1-arg2 → tie.After-remove
+remove-before-q c = remove-before-p (c .before .before)
 
-abbrev t-from-remove : tie.After-get2-arg → tie.After-remove
-t-from-remove c = q-from-remove (c .before .before)
+abbrev remove-before-t : tie.After-get2-arg → tie.After-remove
+remove-before-t c = remove-before-q (c .before .before)
 
-abbrev under-from-remove : tie.After-get3-arg → tie.After-remove
-under-from-remove c = t-from-remove (c .before .before)
+abbrev remove-before-under : tie.After-get3-arg → tie.After-remove
+remove-before-under c = remove-before-t (c .before .before)
 
-abbrev own-from-remove : tie.After-put-rec-arg → tie.After-remove
-own-from-remove c = under-from-remove (c .before .before)
+abbrev remove-before-own : tie.After-put-rec-arg → tie.After-remove
+remove-before-own c = remove-before-under (c .before .before)
 
 abbrev under-read : tie.After-put-rec-arg → tie.After-get3
 under-read c = c .before
@@ -66,20 +66,20 @@ abbrev p-read : tie.After-put-rec-arg → tie.After-get03
 p-read c = q-read c .before .before
 
 abbrev remove-of : tie.After-put-rec → tie.After-remove
-remove-of c = own-from-remove (c .before)
+remove-of c = remove-before-own (c .before)
 
 abbrev from-own : tie.After-put-rec → Reading
 from-own c = from-remove (remove-of c)
 
 -- The control record is read again, and written.
-abbrev top-from-own : tie.After-get2-arg2 → tie.After-put-rec
-top-from-own c = c .before .before .before
+abbrev own-before-top : tie.After-get2-arg2 → tie.After-put-rec
+own-before-top c = c .before .before .before
 
-abbrev systems-from-own : tie.After-get3-arg2 → tie.After-put-rec
-systems-from-own c = top-from-own (c .before .before)
+abbrev own-before-systems : tie.After-get3-arg2 → tie.After-put-rec
+own-before-systems c = own-before-top (c .before .before)
 
-abbrev control-from-own : tie.After-put-rec-arg2 → tie.After-put-rec
-control-from-own c = systems-from-own (c .before .before)
+abbrev own-before-control : tie.After-put-rec-arg2 → tie.After-put-rec
+own-before-control c = own-before-systems (c .before .before)
 
 -- ── what is read ──
 abbrev w : Reading → List ℕ
@@ -126,17 +126,17 @@ module _ {b : Stored} {bs ss : List Stored} where
       Spot H (read r) (c .before .before .skip .result) (c .get02 .result + 1) (without-P (i r) b) (before-it r b) (it r b) (behind-it r b)
   member c H = let r = from-size c in spot H (read r) (takes r H) (c .before .before .skip .ensures ∙ there r H) (c .get02 .ensures)
 
-  own-before : (c : tie.After-remove) → Entry (from-remove c) b bs ss → getD (view (c .remove .last .0)) (at (from-remove c)) nul ≡ own-of b bs
-  own-before c H = own-out H (read (from-remove c)) (member (c .before .before) H) (c .remove .ensures)
+  own-kept : (c : tie.After-remove) → Entry (from-remove c) b bs ss → getD (view (c .remove .last .0)) (at (from-remove c)) nul ≡ own-of b bs
+  own-kept c H = own-out H (read (from-remove c)) (member (c .before .before) H) (c .remove .ensures)
 
-  p-is : (c : tie.After-put-rec-arg) → Entry (from-remove (own-from-remove c)) b bs ss → p-read c .get03 .result ≡ length (b .P)
-  p-is c H = w0-is (own-before (own-from-remove c) H) (p-read c .get03 .ensures)
+  p-is : (c : tie.After-put-rec-arg) → Entry (from-remove (remove-before-own c)) b bs ss → p-read c .get03 .result ≡ length (b .P)
+  p-is c H = w0-is (own-kept (remove-before-own c) H) (p-read c .get03 .ensures)
 
-  own-is : (c : tie.After-put-rec-arg) → Entry (from-remove (own-from-remove c)) b bs ss
-      → own c ≡ own-of (without-P (i (from-remove (own-from-remove c))) b) bs
+  own-is : (c : tie.After-put-rec-arg)
+      → let r = from-remove (remove-before-own c) in Entry r b bs ss → own c ≡ own-of (without-P (i r) b) bs
   own-is c H =
-      let r = from-remove (own-from-remove c) in
-      let o = own-before (own-from-remove c) H in
+      let r = from-remove (remove-before-own c) in
+      let o = own-kept (remove-before-own c) H in
       mk-equal (count-remove (b .P) (i-small r H) (p-is c H))
       (w1-is o (q-read c .get12 .ensures)) (w2-is o (t-read c .get2 .ensures)) (w3-is o (under-read c .get3 .ensures))
 
@@ -191,56 +191,56 @@ remove-requires c κs =
     (h .0, inside-room (w r) (h .1))
 
 get0-requires-3 : tie.Need-get0-requires-3
-get0-requires-3 c κs = own-inside (p-from-remove c)
+get0-requires-3 c κs = own-inside (remove-before-p c)
 
 get1-requires-2 : tie.Need-get1-requires-2
-get1-requires-2 c κs = own-inside (q-from-remove c)
+get1-requires-2 c κs = own-inside (remove-before-q c)
 
 get2-requires : tie.Need-get2-requires
-get2-requires c κs = own-inside (t-from-remove c)
+get2-requires c κs = own-inside (remove-before-t c)
 
 get3-requires : tie.Need-get3-requires
-get3-requires c κs = own-inside (under-from-remove c)
+get3-requires c κs = own-inside (remove-before-under c)
 
 sub-put-rec : tie.Need-sub-put-rec
-sub-put-rec c = let r = from-remove (own-from-remove c) in omega (arith, i-small r (opened r), p-is c (opened r))
+sub-put-rec c = let r = from-remove (remove-before-own c) in omega (arith, i-small r (opened r), p-is c (opened r))
 
 put-rec-requires : tie.Need-put-rec-requires
-put-rec-requires c κs = own-inside (own-from-remove c)
+put-rec-requires c κs = own-inside (remove-before-own c)
 
 get2-requires-2 : tie.Need-get2-requires-2
-get2-requires-2 c κs = control-inside (top-from-own c)
+get2-requires-2 c κs = control-inside (own-before-top c)
 
 get3-requires-2 : tie.Need-get3-requires-2
-get3-requires-2 c κs = control-inside (systems-from-own c)
+get3-requires-2 c κs = control-inside (own-before-systems c)
 
 cast-put-rec : tie.Need-cast-put-rec
-cast-put-rec c = let r = from-own (control-from-own c) in at-fits (opened r) (read r)
+cast-put-rec c = let r = from-own (own-before-control c) in at-fits (opened r) (read r)
 
 sub-put-rec-2 : tie.Need-sub-put-rec-2
 sub-put-rec-2 c =
-    let m = remove-of (control-from-own c) in
+    let m = remove-of (own-before-control c) in
     let r = from-remove m in
     omega (arith, spot-inside (opened r) (read r) (member (m .before .before) (opened r)))
 
 cast-put-rec-2 : tie.Need-cast-put-rec-2
 cast-put-rec-2 c =
-    let m = remove-of (control-from-own c) in
+    let m = remove-of (own-before-control c) in
     let r = from-remove m in
     end-out-fits (opened r) (read r) (member (m .before .before) (opened r))
 
 put-rec-requires-2 : tie.Need-put-rec-requires-2
-put-rec-requires-2 c κs = control-inside (control-from-own c)
+put-rec-requires-2 c κs = control-inside (own-before-control c)
 
 same-length : tie.Need-same-length
 same-length c =
-    let o = control-from-own (c .before .before .before) in
+    let o = own-before-control (c .before .before .before) in
     c .before .before .put-rec2 .kept .0 ∙ o .put-rec .kept .0 ∙ remove-of o .remove .kept .0
 
 returns : tie.Need-returns
 returns c b bs ss H =
     let k = c .before .before .before in
-    let o = control-from-own k in
+    let o = own-before-control k in
     let m = remove-of o in
     let r = from-remove m in
     let h = storable-open H in

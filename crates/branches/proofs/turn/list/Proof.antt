@@ -56,14 +56,14 @@ p-read c = q-read c .before .before
 abbrev from-move : tie.After-move-up → Reading
 from-move c = from-own (c .before .before)
 
-abbrev move-from-put : tie.After-put-rec-arg → tie.After-move-up
-move-from-put c = c .before .before .before
+abbrev move-before-own : tie.After-put-rec-arg → tie.After-move-up
+move-before-own c = c .before .before .before
 
-abbrev put-from-control : tie.After-put-rec-arg2 → tie.After-put-rec
-put-from-control c = c .before .before .before
+abbrev own-before-control : tie.After-put-rec-arg2 → tie.After-put-rec
+own-before-control c = c .before .before .before
 
 abbrev move-of : tie.After-put-rec → tie.After-move-up
-move-of c = move-from-put (c .before)
+move-of c = move-before-own (c .before)
 
 -- ── what is read ──
 abbrev w : Reading → List ℕ
@@ -152,7 +152,7 @@ move-up-requires : tie.Need-move-up-requires
 move-up-requires c κs = let h = inside (from-own (c .before)) in (omega (arith, h), omega (arith, h))
 
 put-rec-requires : tie.Need-put-rec-requires
-put-rec-requires c κs = let m = move-from-put c in omega (arith, inside (from-move m), m .move-up .kept)
+put-rec-requires c κs = let m = move-before-own c in omega (arith, inside (from-move m), m .move-up .kept)
 
 cast-put-rec : tie.Need-cast-put-rec
 cast-put-rec c = search needs
@@ -161,7 +161,7 @@ cast-put-rec-2 : tie.Need-cast-put-rec-2
 cast-put-rec-2 c = search needs
 
 add-put-rec : tie.Need-add-put-rec
-add-put-rec c = let r = from-move (move-of (put-from-control c)) in omega (arith, systems-is r (opened r), within (opened r))
+add-put-rec c = let r = from-move (move-of (own-before-control c)) in omega (arith, systems-is r (opened r), within (opened r))
 
 put-rec-requires-2 : tie.Need-put-rec-requires-2
 put-rec-requires-2 c κs = search needs
@@ -171,7 +171,7 @@ same-length c = search needs
 
 returns : tie.Need-returns
 returns c b bs ss H =
-    let o = put-from-control (c .before .before .before) in
+    let o = own-before-control (c .before .before .before) in
     let m = move-of o in
     let r = from-move m in
     listed H (bounds r) (own-is (m .before .before) H) (systems-is r H) (m .move-up .ensures) (o .put-rec .ensures) (c .before .before .put-rec2 .ensures)

@@ -91,6 +91,33 @@ pub fn round_apart(
     }
 }
 
+// `round` in the lent buffers if it fits them, and else in buffers of its own; r need only hold the result.
+pub fn round_anywhere(
+    p: u64,
+    k: u32,
+    d: u64,
+    e: u64,
+    i: &[u64],
+    t: &[u64],
+    r: &mut [u64],
+    n: usize,
+    x: &mut [u64],
+    y: &mut [u64],
+    z: &mut [u64],
+) -> Formed
+    requires { ⌜ (1 ≤ p) × (p < 2147483648) × (k < 8) × (1 ≤ d) × (d ≤ e) ⌝ }
+    requires { ⌜ Holds p (now t) × (degree k (terms (now t)) ≡ d) ⌝ }
+    requires { ⌜ Holds p (now i) × (terms (now i) ≡ coefficient k d (terms (now t))) ⌝ }
+    requires { ⌜ (n ≤ length (now r)) × Holds p (take n (now r)) × (degree k (terms (take n (now r))) ≡ e) ⌝ }
+    requires { ⌜ (512 ≤ length (now r)) × (length (now x) ≤ length (now r)) × (length (now x) ≤ length (now y)) × (length (now x) ≤ length (now z)) ⌝ }
+    ensures { λ f. ⌜ Forms (bounded-round standard p k d (terms (now (t .entry))) (terms (take n (now (r .entry))))) f (now (r .exit)) ⌝ }
+{
+    if round_fits(n, i.len(), t.len(), x.len()) {
+        return round(p, k, d, e, i, t, r, n, x, y, z);
+    }
+    round_apart(p, k, d, e, i, t, r, n)
+}
+
 // i times f, in the first words of x. The initial is 1 in many divisions: then f is copied.
 fn times_initial(p: u64, i: &[u64], f: &[u64], x: &mut [u64], z: &mut [u64]) -> Formed
     requires { ⌜ (1 ≤ p) × (p < 2147483648) ⌝ }

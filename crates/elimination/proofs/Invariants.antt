@@ -4,7 +4,6 @@ use mathlib.Core.Bool.{Bool}
 use mathlib.Core.List.{List, [], map, reverse}
 use Prim.Native.Nat.{ℕ, zero, suc, _-_, _≤_, _<_}
 use native.Mathlib.Omega.{arith}
-use native.Mathlib.Nat.{sub-zero}
 use lib.ListN.{length, take}
 use Rattle.polynomials.specs.Poly.{Poly}
 use Rattle.polynomials.specs.Packed.{terms}
@@ -33,14 +32,15 @@ run-in most p left n a = run (limits-in most) p left n (state-of a)
 abbrev pub rest-in : ℕ → ℕ → Bool → ℕ → ℕ → ℕ → Poly → Stored → List Stored → List Stored → Stepped
 rest-in most = rest-of-step (limits-in most)
 
--- The run from the state held gives the whole run.
-pub record AtRun (p limit : ℕ) (w₀ w : List ℕ) (steps : ℕ) : Type 0 where
+-- The run from the state held, so many steps being done, gives the run from where the loop began, with `from` done.
+pub record AtRun (p limit from : ℕ) (w₀ w : List ℕ) (steps : ℕ) : Type 0 where
   pub same : length w ≡ length w₀
   pub within : steps ≤ limit
   pub some : (a : Area) × Held (view w) (capacity w₀) a × Ready p a
   pub all :
       (a₀ : Area) → Held (view w₀) (capacity w₀) a₀ → Ready p a₀
-      → (a : Area) × Held (view w) (capacity w₀) a × Ready p a × (run-in (capacity w₀) p (limit - steps) steps a ≡ run-in (capacity w₀) p limit 0 a₀)
+      → (a : Area) × Held (view w) (capacity w₀) a × Ready p a
+      × (run-in (capacity w₀) p (limit - steps) steps a ≡ run-in (capacity w₀) p (limit - from) from a₀)
 
 -- What is left of the step is the step, by the pivot f in v(k+1).
 pub record AtMembers (p k : ℕ) (f : Poly) (closing : Bool) (place left₀ : ℕ) (w₀ w : List ℕ) (left : ℕ) : Type 0 where
@@ -65,13 +65,8 @@ pub record AtDivision (p k d : ℕ) (f : Poly) (r₀ : List ℕ) (n₀ : ℕ) (r
       × (bounded-remainder standard p k d f s (terms (take n r)) ≡ bounded-remainder standard p k d f s₀ (terms (take n₀ r₀)))
 
 -- ── where a loop begins ──
-pub run-begins : (p limit : ℕ) (w : List ℕ) → (a : Area) × Held (view w) (capacity w) a × Ready p a → AtRun p limit w w 0
-run-begins p limit w h = record {
-  same = refl;
-  within = omega arith;
-  some = h;
-  all = λ a H R. (a, H, R, ap (λ (n : ℕ). run-in (capacity w) p n 0 a) (sub-zero limit));
-}
+pub run-begins : (p limit from : ℕ) (w : List ℕ) → from ≤ limit → ((a : Area) × Held (view w) (capacity w) a × Ready p a) → AtRun p limit from w w from
+run-begins p limit from w l h = record { same = refl; within = l; some = h; all = λ a H R. (a, H, R, refl) }
 
 pub division-begins : (p k d : ℕ) (f : Poly) (r : List ℕ) (n : ℕ) → n ≤ length r → Holds p (take n r) → AtDivision p k d f r n r n
 division-begins p k d f r n l h = record { same = refl; inside = l; holds = h; rounds = λ s q. (s, q, refl) }

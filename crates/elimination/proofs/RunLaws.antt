@@ -20,9 +20,12 @@ use Rattle.steps.specs.declared.Prepared.{Prepared}
 use Rattle.steps.specs.declared.Prepared.the-variants.{Done, Members, Stop}
 use Rattle.steps.specs.Ready.{Ready, limits-in}
 use Rattle.steps.specs.Pending.{Comes, Pivoted, Prepares}
-use Rattle.elimination.specs.declared.Answer.{Answer}
+use Rattle.elimination.specs.declared.Outcome.{Outcome}
 use Rattle.elimination.specs.declared.Outcome.the-variants.{Systems, Refused}
+use Rattle.elimination.specs.declared.run.Ending.the-variants.{Final, Paused}
+use Rattle.elimination.specs.declared.run.Stretch.{Stretch}
 use Rattle.elimination.specs.Answer.{Ran}
+use Rattle.elimination.proofs.StretchLaws.{Answers}
 use Rattle.elimination.proofs.Invariants.{run-in, AtRun, AtMembers, run-ends, run-used, run-steps}
 use Rattle.elimination.proofs.MembersLaws.{Comes-to, members-begin, members-end}
 
@@ -136,12 +139,14 @@ None-open w = (a : Area) → Held (view w) (capacity w) a → has-branch a ≡ f
 abbrev pub All-open : List ℕ → Type 0
 All-open w = (a : Area) → Held (view w) (capacity w) a → has-branch a ≡ true
 
--- q is the answer from every state that w held where the run began, and v the area then.
-abbrev pub Answers : ℕ → ℕ → List ℕ → Answer → List ℕ → Type 0
-Answers p limit w q v =
-    (a : Area) → Held (view w) (capacity w) a → Ready p a → Ran (run (limits-in (capacity w)) p limit 0 (state-of a)) p q (view v) (capacity w)
+-- The outcome o, so many steps being done; or a pause.
+abbrev pub ended : ℕ → Outcome → Stretch
+ended n o = record { steps = n; ending = Final o }
 
-module _ {p limit : ℕ} {w₀ w : List ℕ} {steps : ℕ} (A : AtRun p limit w₀ w steps) where
+abbrev pub paused : ℕ → Stretch
+paused n = record { steps = n; ending = Paused }
+
+module _ {p limit from : ℕ} {w₀ w : List ℕ} {steps : ℕ} (A : AtRun p limit from w₀ w steps) where
   capacity-kept : capacity w ≡ capacity w₀
   capacity-kept = same-capacity w w₀ (A .same)
 
@@ -151,14 +156,17 @@ module _ {p limit : ℕ} {w₀ w : List ℕ} {steps : ℕ} (A : AtRun p limit w�
   pub run-has-control : 0 < room w
   run-has-control = let s = A .some in omega (arith, length-view w, ap length (s .1 .is))
 
+  pub run-paused : (v : List ℕ) → v ≡ w → Answers p limit from w₀ (paused steps) v
+  run-paused v e = subst (Answers p limit from w₀ (paused steps)) (sym e) (λ a₀ H₀ R₀. (A .within, A .all a₀ H₀ R₀))
+
   -- ── no branch is left ──
   module _ (none : None-open w) where
-    pub run-finished : (n : ℕ) → n ≡ getD (view w) 0 nul .w3 → Answers p limit w₀ (record { steps = steps; outcome = Systems n }) w
+    pub run-finished : (n : ℕ) → n ≡ getD (view w) 0 nul .w3 → Answers p limit from w₀ (ended steps (Systems n)) w
     run-finished n e a₀ H₀ R₀ =
         let s = A .all a₀ H₀ R₀ in
         let c = closed (s .0) (none (s .0) (subst (λ (m : ℕ). Held (view w) m (s .0)) (sym capacity-kept) (s .1))) in
         let ss = s .0 .systems in
-        let ends : run-in (capacity w₀) p limit 0 a₀ ≡ finished steps (reverse (map system-of ss)) =
+        let ends : run-in (capacity w₀) p (limit - from) from a₀ ≡ finished steps (reverse (map system-of ss)) =
         sym (s .3) ∙ ap (run-in (capacity w₀) p (limit - steps) steps) c ∙ run-ends (limits-in (capacity w₀)) p steps (limit - steps) ss in
         let count : n ≡ length (reverse (map system-of ss)) =
         e ∙ ap (λ (v : List Rec). getD v 0 nul .w3) (s .1 .is) ∙ sym (length-reverse (map system-of ss) ∙ length-map ss system-of) in
@@ -174,7 +182,7 @@ module _ {p limit : ℕ} {w₀ w : List ℕ} {steps : ℕ} (A : AtRun p limit w�
     -- Whatever state the run began with, it comes to one with an open branch.
     pub run-open : (a₀ : Area) → Held (view w₀) (capacity w₀) a₀ → Ready p a₀
         → (b : Stored) × (bs : List Stored) × (ss : List Stored) × Held (view w) (capacity w₀) (with-open b bs ss) × Ready p (with-open b bs ss)
-        × (run-in (capacity w₀) p (limit - steps) steps (with-open b bs ss) ≡ run-in (capacity w₀) p limit 0 a₀)
+        × (run-in (capacity w₀) p (limit - steps) steps (with-open b bs ss) ≡ run-in (capacity w₀) p (limit - from) from a₀)
     run-open a₀ H₀ R₀ =
         let s = A .all a₀ H₀ R₀ in
         let o = opened (s .0) (some (s .0) (subst (λ (m : ℕ). Held (view w) m (s .0)) (sym capacity-kept) (s .1))) in (
@@ -183,7 +191,7 @@ module _ {p limit : ℕ} {w₀ w : List ℕ} {steps : ℕ} (A : AtRun p limit w�
           s .0 .systems,
           subst (Held (view w) (capacity w₀)) (o .2) (s .1),
           subst (Ready p) (o .2) (s .2),
-          subst (λ (a : Area). run-in (capacity w₀) p (limit - steps) steps a ≡ run-in (capacity w₀) p limit 0 a₀) (o .2) (s .3),
+          subst (λ (a : Area). run-in (capacity w₀) p (limit - steps) steps a ≡ run-in (capacity w₀) p (limit - from) from a₀) (o .2) (s .3),
         )
 
     pub run-open-some : Some-open p w
@@ -195,13 +203,13 @@ module _ {p limit : ℕ} {w₀ w : List ℕ} {steps : ℕ} (A : AtRun p limit w�
 
     -- The run is refused from every state that it may have begun with.
     refused-all : (why : Reason) (v : List ℕ)
-        → ((a₀ : Area) → Held (view w₀) (capacity w₀) a₀ → Ready p a₀ → refused steps why ≡ run-in (capacity w₀) p limit 0 a₀)
-        → Answers p limit w₀ (record { steps = steps; outcome = Refused why 0 }) v
+        → ((a₀ : Area) → Held (view w₀) (capacity w₀) a₀ → Ready p a₀ → refused steps why ≡ run-in (capacity w₀) p (limit - from) from a₀)
+        → Answers p limit from w₀ (ended steps (Refused why 0)) v
     refused-all why v ends a₀ H₀ R₀ =
         subst (λ (E : Ended). Ran E p (record { steps = steps; outcome = Refused why 0 }) (view v) (capacity w₀)) (ends a₀ H₀ R₀)
         (record { answer = refl; left = tt })
 
-    pub run-no-steps : (v : List ℕ) → limit ≤ steps → Answers p limit w₀ (record { steps = steps; outcome = Refused Steps 0 }) v
+    pub run-no-steps : (v : List ℕ) → limit ≤ steps → Answers p limit from w₀ (ended steps (Refused Steps 0)) v
     run-no-steps v h = refused-all Steps v (λ a₀ H₀ R₀.
         let s = run-open a₀ H₀ R₀ in
         let z : limit - steps ≡ 0 = omega (arith, h) in
@@ -220,13 +228,13 @@ module _ {p limit : ℕ} {w₀ w : List ℕ} {steps : ℕ} (A : AtRun p limit w�
           ap (λ (n : ℕ). run-in (capacity w₀) p n steps (with-open b bs ss)) z
           ∙ run-steps (limits-in (capacity w₀)) p steps b bs ss (limit - suc steps)
 
-      pub run-stopped : (why : Reason) (v : List ℕ) → Stops (capacity w) p w why → Answers p limit w₀ (record { steps = steps; outcome = Refused why 0 }) v
+      pub run-stopped : (why : Reason) (v : List ℕ) → Stops (capacity w) p w why → Answers p limit from w₀ (ended steps (Refused why 0)) v
       run-stopped why v S = refused-all why v (λ a₀ H₀ R₀.
           let s = run-open a₀ H₀ R₀ in
           let e = subst (λ (m : ℕ). Stops m p w why) capacity-kept S (s .0) (s .1) (s .2) (s .3) (s .4) in
           sym (by-step (s .0) (s .1) (s .2) ∙ ap after e) ∙ s .5)
 
-      pub run-goes-on : (v : List ℕ) → length v ≡ length w → Goes-to (capacity w) p w v → AtRun p limit w₀ v (suc steps)
+      pub run-goes-on : (v : List ℕ) → length v ≡ length w → Goes-to (capacity w) p w v → AtRun p limit from w₀ v (suc steps)
       run-goes-on v kept G = record {
         same = kept ∙ A .same;
         within = omega (arith, more);

@@ -1,8 +1,9 @@
 -- The slices that `run` is lent, as they are at one place of its code: the work area w, the pivot t, its initial i, the member divided r, and
 -- x, y and z for products. They keep their lengths.
 use mathlib.Core.Path.{_≡_, refl, _∙_}
+use mathlib.Core.Bool.{Bool, true}
 use mathlib.Core.List.{List}
-use Prim.Native.Nat.{ℕ, _≤_}
+use Prim.Native.Nat.{ℕ, _≤_, _<_}
 use native.Mathlib.Omega.{arith}
 use lib.ListN.{length}
 
@@ -42,21 +43,26 @@ kept-then K L = record {
   z = L .z ∙ K .z;
 }
 
--- The scratch is long enough for every polynomial within bounds.
-pub record Long (a : Slices) : Type 0 where
-  pub t : 512 ≤ length (a .t)
-  pub i : 512 ≤ length (a .i)
-  pub r : 1024 ≤ length (a .r)
-  pub x : 1024 ≤ length (a .x)
-  pub y : 1024 ≤ length (a .y)
-  pub z : 1024 ≤ length (a .z)
+-- What the run asks of the scratch: the initial of a pivot that fits t fits i, every member fits r, and what fits x fits r, y and z.
+pub record Suits (a : Slices) : Type 0 where
+  pub initial : length (a .t) ≤ length (a .i)
+  pub member : 512 ≤ length (a .r)
+  pub x-in-r : length (a .x) ≤ length (a .r)
+  pub x-in-y : length (a .x) ≤ length (a .y)
+  pub x-in-z : length (a .x) ≤ length (a .z)
 
-pub long-kept : {a b : Slices} → Long a → Kept a b → Long b
-long-kept L K = record {
-  t = omega (arith, L .t, K .t);
-  i = omega (arith, L .i, K .i);
-  r = omega (arith, L .r, K .r);
-  x = omega (arith, L .x, K .x);
-  y = omega (arith, L .y, K .y);
-  z = omega (arith, L .z, K .z);
+pub suits-kept : {a b : Slices} → Suits a → Kept a b → Suits b
+suits-kept S K = record {
+  initial = omega (arith, S .initial, K .t, K .i);
+  member = omega (arith, S .member, K .r);
+  x-in-r = omega (arith, S .x-in-r, K .x, K .r);
+  x-in-y = omega (arith, S .x-in-y, K .x, K .y);
+  x-in-z = omega (arith, S .x-in-z, K .x, K .z);
 }
+
+-- The run is crowded only where x is shorter than a round may need.
+abbrev pub Crowds : Bool → Slices → Type 0
+Crowds crowded a = crowded ≡ true → length (a .x) < 1024
+
+pub crowds-kept : {a b : Slices} {crowded : Bool} → Crowds crowded a → Kept a b → Crowds crowded b
+crowds-kept C K e = omega (arith, C e, K .x)

@@ -3,13 +3,18 @@ pub mod deliver;
 pub mod run;
 
 ghost use mathlib.Core.Path.{_≡_};
-ghost use Prim.Native.Nat.{_/_};
+ghost use Prim.Native.Nat.{_-_, _/_, _≤_};
 ghost use lib.ListN.{length, replicate};
 ghost use Rattle.tables.specs.Read.{Input, good, read-table};
-ghost use Rattle.rules.specs.Run.{run-of};
+ghost use Rattle.records.specs.Records.{view};
+ghost use Rattle.branches.specs.Area.{Area, Held, capacity};
+ghost use Rattle.representation.specs.Represent.{state-of};
+ghost use Rattle.rules.specs.Run.{run, run-of};
 ghost use Rattle.rules.specs.Eliminate.{delivered, eliminated, limits-of, output-after};
-ghost use Rattle.elimination.specs.Answer.{answer-of};
+ghost use Rattle.steps.specs.Ready.{Ready, Modulus, limits-in};
+ghost use Rattle.elimination.specs.Answer.{Ran, answer-of};
 ghost use Rattle.elimination.specs.Delivered.{Delivered};
+use run::Ending;
 use tables::ReadOutcome;
 use tables::Reason;
 
@@ -31,12 +36,7 @@ fn eliminate_accepted(table: &[u32], work: &mut [u32], output: &mut [u32], limit
     ensures { λ r. ⌜ ((t : Input) → read-table (now (table .entry)) ≡ good t
         → Delivered (delivered (length (now (output .entry)) / 4) t (run-of (limits-of (length (now (work .entry)))) limit t)) r (now (output .entry)) (now (output .exit))) ⌝ }
 {
-    let mut pivot = [0u64; 512];
-    let mut initial = [0u64; 512];
-    let mut divided = [0u64; 1024];
-    let mut x = [0u64; 1024];
-    let mut y = [0u64; 1024];
-    let mut z = [0u64; 1024];
+    let mut divided = [0u64; 512];
     if !loading::start(table, work, &mut divided) {
         return Answer {
             steps: 0,
@@ -44,10 +44,65 @@ fn eliminate_accepted(table: &[u32], work: &mut [u32], output: &mut [u32], limit
         };
     }
     let p = table[0] as u64;
-    let ran = run::run(
+    let ran = if table.len() <= 128 {
+        run_short(work, p, limit, &mut divided)
+    } else {
+        run_long(work, p, limit, 0)
+    };
+    deliver::deliver(table, work, output, ran)
+}
+
+// Runs in short scratch, and goes on in long scratch where the run pauses: a small job need not clear what only a large one uses.
+fn run_short(work: &mut [u32], p: u64, limit: u32, divided: &mut [u64]) -> Answer
+    requires { ⌜ Modulus p × ((a : Area) × Held (view (now work)) (capacity (now work)) a × Ready p a) × (512 ≤ length (now divided)) ⌝ }
+    ensures { λ q. ⌜ ((a : Area) → Held (view (now (work .entry))) (capacity (now (work .entry))) a → Ready p a
+        → Ran (run (limits-in (capacity (now (work .entry)))) p limit 0 (state-of a)) p q (view (now (work .exit))) (capacity (now (work .entry)))) ⌝ }
+{
+    let mut pivot = [0u64; 32];
+    let mut initial = [0u64; 32];
+    let mut x = [0u64; 64];
+    let mut y = [0u64; 64];
+    let mut z = [0u64; 64];
+    let first = run::run(
         work,
         p,
         limit,
+        0,
+        &mut pivot,
+        &mut initial,
+        divided,
+        &mut x,
+        &mut y,
+        &mut z,
+    );
+    let steps = first.steps;
+    let ending = first.ending;
+    match ending {
+        Ending::Final(outcome) => Answer {
+            steps: steps,
+            outcome: outcome,
+        },
+        Ending::Paused => run_long(work, p, limit, steps),
+    }
+}
+
+// Goes on with the run, `from` steps being done, in scratch that suits every step: 40 KiB, cleared once.
+fn run_long(work: &mut [u32], p: u64, limit: u32, from: u32) -> Answer
+    requires { ⌜ Modulus p × (from ≤ limit) × ((a : Area) × Held (view (now work)) (capacity (now work)) a × Ready p a) ⌝ }
+    ensures { λ q. ⌜ ((a : Area) → Held (view (now (work .entry))) (capacity (now (work .entry))) a → Ready p a
+        → Ran (run (limits-in (capacity (now (work .entry)))) p (limit - from) from (state-of a)) p q (view (now (work .exit))) (capacity (now (work .entry)))) ⌝ }
+{
+    let mut pivot = [0u64; 512];
+    let mut initial = [0u64; 512];
+    let mut divided = [0u64; 1024];
+    let mut x = [0u64; 1024];
+    let mut y = [0u64; 1024];
+    let mut z = [0u64; 1024];
+    let last = run::run(
+        work,
+        p,
+        limit,
+        from,
         &mut pivot,
         &mut initial,
         &mut divided,
@@ -55,11 +110,23 @@ fn eliminate_accepted(table: &[u32], work: &mut [u32], output: &mut [u32], limit
         &mut y,
         &mut z,
     );
-    deliver::deliver(table, work, output, ran)
+    let steps = last.steps;
+    let ending = last.ending;
+    match ending {
+        Ending::Final(outcome) => Answer {
+            steps: steps,
+            outcome: outcome,
+        },
+        // In such scratch the run does not pause.
+        Ending::Paused => Answer {
+            steps: steps,
+            outcome: Outcome::Refused(Reason::Steps, 0),
+        },
+    }
 }
 
 // Eliminates the table: on success the list of systems stands in the first words of the output. The work area may hold anything, and is zero
-// afterwards. Stack: about 50 KiB; 1.1 MiB more where a product gathers over 1,024 words.
+// afterwards. Stack: about 8 KiB for a small job, and 50 KiB in long scratch; 1.1 MiB more where a product gathers over 1,024 words.
 pub fn eliminate(table: &[u32], work: &mut [u32], output: &mut [u32], limit: u32) -> Answer
     ensures { λ r. ⌜ r ≡ answer-of (eliminated (now (table .entry)) (length (now (work .entry))) (length (now (output .entry))) limit) ⌝ }
     ensures { λ _. ⌜ now (output .exit) ≡ output-after (eliminated (now (table .entry)) (length (now (work .entry))) (length (now (output .entry))) limit) (now (output .entry)) ⌝ }

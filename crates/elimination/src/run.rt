@@ -1,13 +1,15 @@
 // The run: labelled nested loops; a limit met in the division breaks the outer loop, which yields the outcome.
-ghost use Prim.Native.Nat.{_≤_};
+ghost use mathlib.Core.Path.{_≡_};
+ghost use mathlib.Core.Logic.{_⊎_};
+ghost use Prim.Native.Nat.{_-_, _≤_, _<_};
 ghost use lib.ListN.{length};
 ghost use Rattle.records.specs.Records.{view};
 ghost use Rattle.branches.specs.Area.{Area, Held, capacity};
 ghost use Rattle.rules.specs.Run.{run};
 ghost use Rattle.representation.specs.Represent.{state-of};
 ghost use Rattle.steps.specs.Ready.{Ready, Modulus, limits-in};
-ghost use Rattle.elimination.specs.Answer.{Ran};
-use crate::Answer;
+ghost use Rattle.elimination.specs.Answer.{Stretches};
+ghost use Rattle.elimination.specs.declared.run.Ending.the-variants.{Paused};
 use crate::Outcome;
 use branches::turn;
 use polynomials::Formed;
@@ -15,36 +17,60 @@ use steps::Prepared;
 use tables::Reason;
 use terms::parts;
 
-// Runs the steps from the state in the work area, in at most `limit` steps. The other slices are scratch: pivot and initial of 512 words, the
-// member divided of 1,024, three for products of at least 1,024.
+// How a stretch of the run ends: with the run's outcome, or with a pause between two steps, where the lent scratch is too short.
+pub enum Ending {
+    Final(Outcome),
+    Paused,
+}
+
+// A stretch of the run: the whole steps finished so far, and how it ended.
+pub struct Stretch {
+    pub steps: u32,
+    pub ending: Ending,
+}
+
+// Runs the steps from the state in the work area on, `from` being done and at most `limit` allowed. The other slices are scratch: for the pivot and
+// its initial, for the member divided (512 words at least), and three for products. Long scratch, 512 words for each of the first two and 1,024 for
+// each of the others, suits every step. In shorter scratch the run pauses before a step whose pivot does not fit, and after a step in which a round
+// did not.
 pub fn run(
     w: &mut [u32],
     p: u64,
     limit: u32,
+    from: u32,
     t: &mut [u64],
     i: &mut [u64],
     r: &mut [u64],
     x: &mut [u64],
     y: &mut [u64],
     z: &mut [u64],
-) -> Answer
-    requires { ⌜ Modulus p × ((a : Area) × Held (view (now w)) (capacity (now w)) a × Ready p a) ⌝ }
-    requires { ⌜ (512 ≤ length (now t)) × (512 ≤ length (now i)) × (1024 ≤ length (now r)) × (1024 ≤ length (now x)) × (1024 ≤ length (now y)) × (1024 ≤ length (now z)) ⌝ }
+) -> Stretch
+    requires { ⌜ Modulus p × (from ≤ limit) × ((a : Area) × Held (view (now w)) (capacity (now w)) a × Ready p a) ⌝ }
+    requires { ⌜ (length (now t) ≤ length (now i)) × (512 ≤ length (now r))
+        × (length (now x) ≤ length (now r)) × (length (now x) ≤ length (now y)) × (length (now x) ≤ length (now z)) ⌝ }
     ensures { λ q. ⌜ ((a : Area) → Held (view (now (w .entry))) (capacity (now (w .entry))) a → Ready p a
-        → Ran (run (limits-in (capacity (now (w .entry)))) p limit 0 (state-of a)) p q (view (now (w .exit))) (capacity (now (w .entry)))) ⌝ }
+        → Stretches (run (limits-in (capacity (now (w .entry)))) p (limit - from) from (state-of a)) p limit q (view (now (w .exit))) (capacity (now (w .entry)))) ⌝ }
+    ensures { λ q. ⌜ (q .ending ≡ Paused → (length (now (t .entry)) < 512) ⊎ (length (now (x .entry)) < 1024)) ⌝ }
 {
-    let mut steps: u32 = 0;
-    let outcome = 'run: loop {
+    let mut steps: u32 = from;
+    let mut crowded = false;
+    let ending = 'run: loop {
         if !turn::is_open(w) {
-            break 'run Outcome::Systems(records::get3(w, 0));
+            break 'run Ending::Final(Outcome::Systems(records::get3(w, 0)));
         }
         if limit <= steps {
-            break 'run Outcome::Refused(Reason::Steps, 0);
+            break 'run Ending::Final(Outcome::Refused(Reason::Steps, 0));
+        }
+        if crowded {
+            break 'run Ending::Paused;
         }
         match steps::prepare(w, p, t, i, r) {
             Prepared::Done => {}
+            Prepared::Crowded => {
+                break 'run Ending::Paused;
+            }
             Prepared::Stop(why) => {
-                break 'run Outcome::Refused(why, 0);
+                break 'run Ending::Final(Outcome::Refused(why, 0));
             }
             Prepared::Members(d) => {
                 let k = d.k;
@@ -61,7 +87,10 @@ pub fn run(
                         if e < degree {
                             break 'division;
                         }
-                        match division::round(
+                        if !division::round_fits(n, initial, pivot, x.len()) {
+                            crowded = true;
+                        }
+                        match division::round_anywhere(
                             p,
                             k,
                             degree,
@@ -78,24 +107,24 @@ pub fn run(
                                 n = m;
                             }
                             Formed::OverDegree => {
-                                break 'run Outcome::Refused(Reason::Degree, 0);
+                                break 'run Ending::Final(Outcome::Refused(Reason::Degree, 0));
                             }
                             Formed::OverTerms => {
-                                break 'run Outcome::Refused(Reason::Terms, 0);
+                                break 'run Ending::Final(Outcome::Refused(Reason::Terms, 0));
                             }
                         }
                     }
                     left -= 1;
                     if !steps::put_back(w, p, closing, left, r, n) {
-                        break 'run Outcome::Refused(Reason::Room, 0);
+                        break 'run Ending::Final(Outcome::Refused(Reason::Room, 0));
                     }
                 }
             }
         }
         steps += 1;
     };
-    Answer {
+    Stretch {
         steps: steps,
-        outcome: outcome,
+        ending: ending,
     }
 }

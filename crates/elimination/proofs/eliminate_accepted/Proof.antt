@@ -1,23 +1,26 @@
 -- `eliminate_accepted` meets its contract: the start, the run from its state, and the run delivered. All is said in the room that there was at entry.
 use mathlib.Core.Path.{_≡_, sym, _∙_, subst}
+use mathlib.Core.Logic.{⊎-elim}
 use mathlib.Core.Bool.{true}
 use mathlib.Core.List.{List}
 use Prim.Native.Nat.{ℕ, _/_, _≤_}
 use native.Mathlib.Omega.{arith}
 use borrow.Author.Needs.{needs}
 use borrow.Author.Tests.{not-true, not-false}
-use lib.ListN.{length}
+use lib.ListN.{length, getD}
 use Rattle.records.specs.Records.{view}
 use Rattle.tables.specs.Read.{Input, good, read-table}
 use Rattle.tables.specs.laws.Chains.{readable-words}
 use Rattle.rules.specs.Run.{Ended, start, run-of}
-use Rattle.branches.specs.Area.{capacity}
+use Rattle.branches.specs.Area.{Area, Held, capacity}
 use Rattle.branches.proofs.LengthLaws.{same-capacity}
-use Rattle.steps.specs.Ready.{limits-in}
+use Rattle.steps.specs.Ready.{Ready, Modulus, limits-in}
+use Rattle.elimination.specs.declared.Answer.{Answer}
 use Rattle.elimination.specs.Answer.{Ran}
 use Rattle.loading.specs.Started.{Started}
 use Rattle.loading.proofs.MonicLaws.{readable-modulus}
 use Rattle.loading.proofs.StartLaws.{Chains, chains}
+use Rattle.elimination.proofs.StretchLaws.{Runs, runs-from-0}
 use Rattle.elimination.proofs.WholeLaws.{no-room, begins, run-is, in-words}
 use Rattle.elimination.proofs.eliminate_accepted.Statement.{statement}
 use Rattle.elimination.proofs.eliminate_accepted.Tie as tie
@@ -66,27 +69,61 @@ to-start m = m .before .before .before .before
 found-room : (m : tie.Else1) → to-start m .start .result ≡ true
 found-room m = not-false (to-start m .start .result) (m .if1 .left)
 
--- ── the run is called; it has answered ──
-abbrev run-due : tie.After-z → tie.Else1
-run-due m = m .before .before .before .before .before .before .before .before
-
-module _ (m : tie.After-run) where
+-- ── the run is due ──
+module _ (m : tie.Else1) where
   abbrev to-begun : tie.After-start
-  to-begun = to-start (run-due (m .before))
+  to-begun = to-start m
+
+  abbrev modulus : ℕ
+  modulus = getD (entry to-begun .args .table .now) 0 0
+
+  residues : Modulus modulus
+  residues = readable-modulus (told (entry to-begun) .readable)
+
+  first : (a : Area) × Held (view (area to-begun)) (capacity (area to-begun)) a × Ready modulus a
+  first =
+      let s = entry to-begun in
+      begins (s .pre .0) (most s) (s .args .limit) (view (area to-begun)) (begun to-begun (s .pre .0) (s .pre .1)) (found-room m)
+      (told s .modulus) (same-room to-begun)
+
+-- ── it has been made, in short scratch or in long ──
+abbrev run-due : tie.Joined2 → tie.Else1
+run-due m = m .before .before
+
+module _ (m : tie.Joined2) where
+  abbrev from-start : tie.After-start
+  from-start = to-start (run-due m)
 
   abbrev left : List ℕ
-  left = m .run .last .0
+  left = m .if2 .work
 
-  left-room : most (entry to-begun) ≡ capacity left
-  left-room = sym (same-capacity left (area to-begun) (m .run .kept .0) ∙ same-room to-begun)
+  abbrev answer : Answer
+  answer = m .if2 .ran
 
-  ran : (t : Input) → read-table (entry to-begun .args .table .now) ≡ good t
-      → Ran (due (entry to-begun) t) (t .modulus) (m .run .result) (view left) (capacity left)
+  -- What both calls tell.
+  abbrev Has-run : Answer → List ℕ → Type 0
+  Has-run q v = (length v ≡ length (area from-start)) × Runs (modulus (run-due m)) (entry from-start .args .limit) (area from-start) q v
+
+  same-answer : {q : Answer} {v : List ℕ} → left ≡ v → answer ≡ q → Has-run q v → Has-run answer left
+  same-answer {q} {v} e f h = subst (Has-run answer) (sym e) (subst (λ (q : Answer). Has-run q v) (sym f) h)
+
+  has-run : Has-run answer left
+  has-run =
+      ⊎-elim
+      (λ c. same-answer (c .7) (c .8) (c .3 .kept .0, c .3 .ensures))
+      (λ c. same-answer (c .5) (c .6) (c .2 .kept .0, runs-from-0 _ _ _ _ _ (c .2 .ensures)))
+      (m .if2 .came)
+
+  left-room : most (entry from-start) ≡ capacity left
+  left-room = sym (same-capacity left (area from-start) (has-run .0) ∙ same-room from-start)
+
+  ran : (t : Input) → read-table (entry from-start .args .table .now) ≡ good t
+      → Ran (due (entry from-start) t) (t .modulus) answer (view left) (capacity left)
   ran t e =
-      let a = entry to-begun .args in
-      subst (Ran (due (entry to-begun) t) (t .modulus) (m .run .result) (view left)) left-room
-      (run-is t (most (entry to-begun)) (a .limit) (view (area to-begun)) (begun to-begun t e) (found-room (run-due (m .before)))
-      (chains (a .table .now) t e .modulus) (same-room to-begun) (m .run .ensures))
+      let a = entry from-start .args in
+      subst (Ran (due (entry from-start) t) (t .modulus) answer (view left)) left-room
+      (run-is t (most (entry from-start)) (a .limit) (view (area from-start)) (begun from-start t e) (found-room (run-due m))
+      (chains (a .table .now) t e .modulus) (same-room from-start) (has-run .1))
 
 -- ── the answers ──
 slice-aggregate-start : tie.Need-slice-aggregate-start
@@ -111,47 +148,31 @@ shared-slice-read-p c = omega (arith, header (entry (to-start (c .before))))
 cast-p : tie.Need-cast-p
 cast-p c = omega (arith, c .shared-slice-known2 .given 0)
 
-slice-aggregate-run : tie.Need-slice-aggregate-run
-slice-aggregate-run c = search needs
+slice-aggregate-run-short : tie.Need-slice-aggregate-run-short
+slice-aggregate-run-short c = search needs
 
-slice-aggregate-run-2 : tie.Need-slice-aggregate-run-2
-slice-aggregate-run-2 c = search needs
+run-short-requires : tie.Need-run-short-requires
+run-short-requires c κs =
+    let m = c .before .before .before .before in
+    (residues m, first m, omega (arith, to-start m .start .kept .1 .1 .0))
 
-slice-aggregate-run-3 : tie.Need-slice-aggregate-run-3
-slice-aggregate-run-3 c = search needs
-
-slice-aggregate-run-4 : tie.Need-slice-aggregate-run-4
-slice-aggregate-run-4 c = search needs
-
-slice-aggregate-run-5 : tie.Need-slice-aggregate-run-5
-slice-aggregate-run-5 c = search needs
-
-slice-aggregate-run-6 : tie.Need-slice-aggregate-run-6
-slice-aggregate-run-6 c = search needs
-
-run-requires : tie.Need-run-requires
-run-requires c κs =
-    let m = run-due c in
-    let f = to-start m in
-    let s = entry f in
-    let k = told s in
-    let first = begins (s .pre .0) (most s) (s .args .limit) (view (area f)) (begun f (s .pre .0) (s .pre .1)) (found-room m) (k .modulus) (same-room f) in (
-      (readable-modulus (k .readable), first),
-      (search needs, search needs, omega (arith, f .start .kept .1 .1 .0), search needs, search needs, search needs),
-    )
+run-long-requires : tie.Need-run-long-requires
+run-long-requires c κs = let m = c .before .before .before in (residues m, omega arith, first m)
 
 -- The run is delivered.
-abbrev delivers : tie.After-deliver-arg2 → tie.After-run
-delivers m = m .before .before .before .before .before .before .before .before .before .before
+abbrev delivers : tie.After-deliver-arg2 → tie.Joined2
+delivers m = m .before .before
 
 deliver-requires : tie.Need-deliver-requires
 deliver-requires c κs =
     let n = delivers c in
-    let s = entry (to-begun n) in
+    let s = entry (from-start n) in
     (s .pre .0, due s (s .pre .0), s .pre .1, ran n (s .pre .0) (s .pre .1))
 
 same-length-2 : tie.Need-same-length-2
-same-length-2 c = search needs
+same-length-2 c =
+    let n = delivers (c .before .before .before) in
+    has-run n .0 ∙ from-start n .start .kept .1 .0
 
 same-length-3 : tie.Need-same-length-3
 same-length-3 c = search needs
@@ -160,7 +181,7 @@ returns-2 : tie.Need-returns-2
 returns-2 c t e =
     let d = c .before .before in
     let n = delivers (d .before) in
-    let s = entry (to-begun n) in
+    let s = entry (from-start n) in
     in-words (s .args .work .now) (room s) (s .args .limit) t (d .deliver .ensures t (due s t) e (ran n t e))
 
 pub eliminate-accepted-spec : {M : Type 1} → statement M
@@ -173,13 +194,9 @@ eliminate-accepted-spec =
     returns
     shared-slice-read-p
     cast-p
-    slice-aggregate-run
-    slice-aggregate-run-2
-    slice-aggregate-run-3
-    slice-aggregate-run-4
-    slice-aggregate-run-5
-    slice-aggregate-run-6
-    run-requires
+    slice-aggregate-run-short
+    run-short-requires
+    run-long-requires
     deliver-requires
     same-length-2
     same-length-3

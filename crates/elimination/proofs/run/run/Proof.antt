@@ -3,6 +3,7 @@
 mod Places
 mod Facts
 use mathlib.Core.Path.{refl, sym, subst}
+use mathlib.Core.Bool.{false≢true}
 use native.Mathlib.Omega.{arith}
 use borrow.Author.Needs.{needs}
 use borrow.Author.Tests.{not-true, not-false}
@@ -11,6 +12,7 @@ use Rattle.polynomials.specs.Bounds.{degree-passed, terms-passed}
 use Rattle.polynomials.specs.laws.Answers.{formed-degree, formed-terms}
 use Rattle.tables.specs.declared.Reason.the-variants.{Degree, Terms, Room}
 use Rattle.elimination.proofs.Slices.{kept-all, kept-then}
+use Rattle.elimination.proofs.StretchLaws.{final-not-paused}
 use Rattle.elimination.proofs.Invariants.{AtRun, run-begins}
 use Rattle.elimination.proofs.MembersLaws.{members-open, members-left, member-open, member-behind, member-degree, member-terms}
 use Rattle.elimination.proofs.RunLaws.{run-holds-some, run-has-control, run-finished, run-no-steps, run-goes-on}
@@ -21,7 +23,10 @@ use Facts.*
 
 -- ── the run ──
 run-holds : Of tie.Need-run-holds
-run-holds c = let e = run-begun c in (run-begins (e .args .p) (e .args .limit) (e .args .w .now) (e .pre .0 .1), kept-all)
+run-holds c =
+    let e = run-begun c in
+    let a = e .args in
+    (run-begins (a .p) (a .limit) (a .from) (a .w .now) (e .pre .0 .1) (e .pre .0 .2), kept-all, λ e. absurd (false≢true e))
 
 is-open-requires : Of tie.Need-is-open-requires
 is-open-requires c κs = run-holds-some (run-invariant (c .before))
@@ -31,12 +36,15 @@ get3-requires c κs = run-has-control (run-invariant (none-in (c .before)))
 
 prepare-requires : Of tie.Need-prepare-requires
 prepare-requires c κs =
-    let m = to-open (prepare-due c) in
-    let l = long-turn (to-turn m) in
-    ((modulus (to-entry (to-turn m)), some-open m), (l .t, l .i, omega (arith, l .r)))
+    let m = open-of (prepare-due c) in
+    let s = suits-at-turn (to-turn m) in
+    ((modulus (to-entry (to-turn m)), some-open m), (s .initial, s .member))
 
 enum-told : Of tie.Need-enum-told
 enum-told c = search needs
+
+enum-told-2 : Of tie.Need-enum-told-2
+enum-told-2 c = search needs
 
 enum-known-why : Of tie.Need-enum-known-why
 enum-known-why c = search needs
@@ -54,18 +62,19 @@ run-again : Of tie.Need-run-again
 run-again c =
     let s = done-in c in
     let m = to-run s in
-    let A = run-goes-on (run-invariant m) (all-open (to-open (to-due s))) (steps-left s) (at-done c .w) (step-keeps c .w) (step-goes c) in
-    (subst (AtRun (p m) (limit m) (at-entry (to-entry m) .w) (at-done c .w)) (omega arith) A, kept-then (kept-at-turn m) (step-keeps c))
+    let A = run-goes-on (run-invariant m) (all-open (open-of (to-due s))) (steps-left s) (at-done c .w) (step-keeps c .w) (step-goes c) in
+    let At = AtRun (p m) (limit m) (from m) (at-entry (to-entry m) .w) (at-done c .w) in
+    (subst At (omega arith) A, kept-then (kept-at-turn m) (step-keeps c), crowds-done c)
 
 -- ── the members ──
 members-holds : Of tie.Need-members-holds
-members-holds c = (members-begin c, kept-all)
+members-holds c = (members-begin c, kept-all, crowds-prepared (to-prepared c))
 
 take-requires : Of tie.Need-take-requires
 take-requires c κs =
     let m = take-due c in
     let A = members-invariant (m .before) in
-    (members-open A, (members-left A (m .members-test .taken), omega (arith, long-members (m .before) .r)))
+    (members-open A, (members-left A (m .members-test .taken), suits-members (m .before) .member))
 
 sub-left : Of tie.Need-sub-left
 sub-left c = one-left (to-taken (divided-in c))
@@ -81,11 +90,11 @@ members-less : Of tie.Need-members-less
 members-less c = omega (arith, one-left (to-taken (put-of (c .before))))
 
 members-again : Of tie.Need-members-again
-members-again c = let m = c .before in (member-goes-on m (not-false (fits m) (c .if4 .left)), member-keeps m)
+members-again c = let m = c .before in (member-goes-on m (not-false (fits m) (c .if6 .left)), member-keeps m, crowds-put m)
 
 -- ── the division ──
 division-holds : Of tie.Need-division-holds
-division-holds c = (rounds-begin c, kept-all)
+division-holds c = (rounds-begin c, kept-all, crowds-taken c)
 
 slice-reshare-prefix-degree : Of tie.Need-slice-reshare-prefix-degree
 slice-reshare-prefix-degree c = division-invariant c .inside
@@ -96,71 +105,97 @@ slice-aggregate-degree c = sym (length-take-le _ _ (division-invariant (c .befor
 degree-requires : Of tie.Need-degree-requires
 degree-requires c κs = let m = c .before in (pivoted m .variable, division-invariant m .holds .pairs)
 
-slice-reshare-prefix-round : Of tie.Need-slice-reshare-prefix-round
-slice-reshare-prefix-round c = pivot-in (division-of (to-division c)) .initial-inside
+round-fits-requires : Of tie.Need-round-fits-requires
+round-fits-requires c κs = few-words (to-division c)
 
-slice-aggregate-round : Of tie.Need-slice-aggregate-round
-slice-aggregate-round c = sym (length-take-le _ _ (pivot-in (division-of (to-division (c .before))) .initial-inside))
+slice-reshare-prefix-round : Of tie.Need-slice-reshare-prefix-round-anywhere
+slice-reshare-prefix-round c = pivot-in (division-of (to-division (tried-of c))) .initial-inside
 
-slice-reshare-prefix-round-2 : Of tie.Need-slice-reshare-prefix-round-2
-slice-reshare-prefix-round-2 c = pivot-in (division-of (to-division (c .before))) .pivot-inside
+slice-aggregate-round : Of tie.Need-slice-aggregate-round-anywhere
+slice-aggregate-round c = sym (length-take-le _ _ (pivot-in (division-of (to-division (tried-of (c .before)))) .initial-inside))
 
-slice-aggregate-round-2 : Of tie.Need-slice-aggregate-round-2
-slice-aggregate-round-2 c = sym (length-take-le _ _ (pivot-in (division-of (to-division (c .before .before))) .pivot-inside))
+slice-reshare-prefix-round-2 : Of tie.Need-slice-reshare-prefix-round-anywhere-2
+slice-reshare-prefix-round-2 c = pivot-in (division-of (to-division (tried-of (c .before)))) .pivot-inside
 
-round-requires : Of tie.Need-round-requires
+slice-aggregate-round-2 : Of tie.Need-slice-aggregate-round-anywhere-2
+slice-aggregate-round-2 c = sym (length-take-le _ _ (pivot-in (division-of (to-division (tried-of (c .before .before)))) .pivot-inside))
+
+round-requires : Of tie.Need-round-anywhere-requires
 round-requires c κs =
-    let m = round-due c in
+    let m = tried-of (round-due c) in
     let d = to-division m in
     let M = residues (division-of d) in
     let P = pivoted d in
     let D = division-invariant d in
-    let l = long-division d in (
-      (omega (arith, M .prime .two≤), M .below, P .variable, P .some, m .if3 .left),
-      ((P .pivot, P .of-degree), ((P .initial, P .of-initial), ((D .inside, l .r, D .holds, sym (m .before .degree .ensures)), (l .x, l .y, l .z)))),
+    let s = suits-division d in (
+      (omega (arith, M .prime .two≤), M .below, P .variable, P .some, m .if4 .left),
+      (
+        (P .pivot, P .of-degree),
+        (
+          (P .initial, P .of-initial),
+          (
+            (D .inside, D .holds, sym (m .before .degree .ensures)),
+            (s .member, s .x-in-r, s .x-in-y, s .x-in-z),
+          ),
+        ),
+      ),
     )
 
 enum-known-m : Of tie.Need-enum-known-m
 enum-known-m c = search needs
 
-enum-told-2 : Of tie.Need-enum-told-2
-enum-told-2 c = search needs
-
 enum-told-3 : Of tie.Need-enum-told-3
 enum-told-3 c = search needs
+
+enum-told-4 : Of tie.Need-enum-told-4
+enum-told-4 c = search needs
 
 division-less : Of tie.Need-division-less
 division-less c = degree-falls c
 
 division-again : Of tie.Need-division-again
-division-again c = let m = to-rounded c in (rounds-go-on c, kept-then (rounds-keep (round-of m)) (round-keeps m))
+division-again c = let m = to-rounded c in (rounds-go-on c, kept-then (rounds-keep (round-of m)) (round-keeps m), crowds-round m)
 
 -- ── the ways to return ──
 returns : Of tie.Need-returns
-returns c = let m = c .before .before in run-finished (run-invariant (none-in m)) (none-open m) (c .get3 .result) (c .get3 .ensures)
+returns c =
+    let m = c .before .before in
+    (run-finished (run-invariant (none-in m)) (none-open m) (c .get3 .result) (c .get3 .ensures), final-not-paused)
 
 returns-2 : Of tie.Need-returns-2
-returns-2 c = let m = c .before in run-no-steps (run-invariant (to-turn m)) (all-open m) (at-turn (to-turn m) .w) (c .if2 .taken)
+returns-2 c =
+    let m = c .before in
+    (run-no-steps (run-invariant (to-turn m)) (all-open m) (at-turn (to-turn m) .w) (c .if2 .taken), final-not-paused)
 
 returns-3 : Of tie.Need-returns-3
-returns-3 c = step-stops c (at-prepared (stopped-in c) .w)
+returns-3 c = let P = crowded-pauses c in (P .0, λ e. P .1)
 
 returns-4 : Of tie.Need-returns-4
-returns-4 c =
-    let m = degree-in c in
-    let d = round-of m in
-    let e = formed-degree _ (round-call m .round .result) _ (c .enum-told2 .given .1) (round-forms m) in
-    left-stops (division-of d) Degree (at-rounded m .w) (member-degree (member-out (to-taken d)) (passes m degree-passed (λ g. refl) e))
+returns-4 c = let P = pivot-pauses c in (P .0, λ e. P .1)
 
 returns-5 : Of tie.Need-returns-5
-returns-5 c =
-    let m = terms-in c in
-    let d = round-of m in
-    let e = formed-terms _ (round-call m .round .result) _ (c .enum-told3 .given .1) (round-forms m) in
-    left-stops (division-of d) Terms (at-rounded m .w) (member-terms (member-out (to-taken d)) (passes m terms-passed (λ g. refl) e))
+returns-5 c = (step-stops c (at-prepared (stopped-in c) .w), final-not-paused)
 
 returns-6 : Of tie.Need-returns-6
-returns-6 c = let m = c .before in left-stops (division-of (put-of m)) Room (at-put m .w) (member-stops m (not-true (fits m) (c .if4 .taken)))
+returns-6 c =
+    let m = degree-in c in
+    let d = round-of m in
+    let e = formed-degree _ (round-call m .round-anywhere .result) _ (c .enum-told3 .given .1) (round-forms m) in
+    let s = member-degree (member-out (to-taken d)) (passes m degree-passed (λ g. refl) e) in
+    (left-stops (division-of d) Degree (at-rounded m .w) s, final-not-paused)
+
+returns-7 : Of tie.Need-returns-7
+returns-7 c =
+    let m = terms-in c in
+    let d = round-of m in
+    let e = formed-terms _ (round-call m .round-anywhere .result) _ (c .enum-told4 .given .1) (round-forms m) in
+    let s = member-terms (member-out (to-taken d)) (passes m terms-passed (λ g. refl) e) in
+    (left-stops (division-of d) Terms (at-rounded m .w) s, final-not-paused)
+
+returns-8 : Of tie.Need-returns-8
+returns-8 c =
+    let m = c .before in
+    (left-stops (division-of (put-of m)) Room (at-put m .w) (member-stops m (not-true (fits m) (c .if6 .taken))), final-not-paused)
 
 -- The needs between the returns: the seven slices lent are as long as they were.
 pub run-spec : {M : Type 1} → statement M
@@ -178,6 +213,7 @@ run-spec =
     get3-requires
     prepare-requires
     enum-told
+    enum-told-2
     enum-known-why
     enum-known-d
     members-holds
@@ -186,6 +222,7 @@ run-spec =
     slice-reshare-prefix-degree
     slice-aggregate-degree
     degree-requires
+    round-fits-requires
     slice-reshare-prefix-round
     slice-aggregate-round
     slice-reshare-prefix-round-2
@@ -194,8 +231,8 @@ run-spec =
     enum-known-m
     division-less
     division-again
-    enum-told-2
     enum-told-3
+    enum-told-4
     sub-left
     put-back-requires
     members-less
@@ -221,6 +258,24 @@ run-spec =
     (λ c. kept-at-turn (to-turn (c .before)) .y)
     (λ c. kept-at-turn (to-turn (c .before)) .z)
     returns-2
+    -- a round did not fit x
+    (λ c. kept-at-turn (crowded-run c) .w)
+    (λ c. kept-at-turn (crowded-run c) .t)
+    (λ c. kept-at-turn (crowded-run c) .i)
+    (λ c. kept-at-turn (crowded-run c) .r)
+    (λ c. kept-at-turn (crowded-run c) .x)
+    (λ c. kept-at-turn (crowded-run c) .y)
+    (λ c. kept-at-turn (crowded-run c) .z)
+    returns-3
+    -- the pivot does not fit t
+    (λ c. kept-at-prepared (crowded-in c) .w)
+    (λ c. kept-at-prepared (crowded-in c) .t)
+    (λ c. kept-at-prepared (crowded-in c) .i)
+    (λ c. kept-at-prepared (crowded-in c) .r)
+    (λ c. kept-at-prepared (crowded-in c) .x)
+    (λ c. kept-at-prepared (crowded-in c) .y)
+    (λ c. kept-at-prepared (crowded-in c) .z)
+    returns-4
     -- `prepare` stops
     (λ c. kept-at-prepared (stopped-in c) .w)
     (λ c. kept-at-prepared (stopped-in c) .t)
@@ -229,7 +284,7 @@ run-spec =
     (λ c. kept-at-prepared (stopped-in c) .x)
     (λ c. kept-at-prepared (stopped-in c) .y)
     (λ c. kept-at-prepared (stopped-in c) .z)
-    returns-3
+    returns-5
     -- a bound of degree is passed
     (λ c. kept-at-round (degree-in c) .w)
     (λ c. kept-at-round (degree-in c) .t)
@@ -238,7 +293,7 @@ run-spec =
     (λ c. kept-at-round (degree-in c) .x)
     (λ c. kept-at-round (degree-in c) .y)
     (λ c. kept-at-round (degree-in c) .z)
-    returns-4
+    returns-6
     -- a bound of terms is passed
     (λ c. kept-at-round (terms-in c) .w)
     (λ c. kept-at-round (terms-in c) .t)
@@ -247,7 +302,7 @@ run-spec =
     (λ c. kept-at-round (terms-in c) .x)
     (λ c. kept-at-round (terms-in c) .y)
     (λ c. kept-at-round (terms-in c) .z)
-    returns-5
+    returns-7
     -- the remainder does not fit
     (λ c. kept-at-put (c .before) .w)
     (λ c. kept-at-put (c .before) .t)
@@ -256,4 +311,4 @@ run-spec =
     (λ c. kept-at-put (c .before) .x)
     (λ c. kept-at-put (c .before) .y)
     (λ c. kept-at-put (c .before) .z)
-    returns-6)
+    returns-8)

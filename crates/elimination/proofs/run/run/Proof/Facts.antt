@@ -1,13 +1,14 @@
 -- What is known at the places of `run`, in the order of the code. That the slices keep their lengths is said of a call (`prepare-keeps`), of what is
 -- done since the step was prepared (`division-keeps`), and since the function began (`kept-at-round`).
 use mathlib.Core.Path.{_≡_, refl, sym, ap, subst, _∙_}
-use mathlib.Core.Logic.{⊎-elim}
+use mathlib.Core.Logic.{_⊎_, inl, inr, ⊎-elim}
 use mathlib.Core.Bool.{Bool, true, false}
 use mathlib.Core.List.{List}
 use Prim.Native.Nat.{ℕ, _-_, _≤_, _<_}
 use native.Mathlib.Omega.{arith}
-use borrow.Author.Tests.{not-true, not-false}
+use borrow.Author.Tests.{not-true, not-false, leb-false}
 use lib.ListN.{length, take}
+use lib.Seq.{length-take-le}
 use Rattle.residues.specs.Prime.{Prime}
 use Rattle.polynomials.specs.Poly.{Poly}
 use Rattle.polynomials.specs.Packed.{terms}
@@ -15,6 +16,7 @@ use Rattle.polynomials.specs.Division.{degree}
 use Rattle.polynomials.specs.Bounds.{standard, Bounded, within, and-then, bounded-round}
 use Rattle.polynomials.specs.Working.{Forms}
 use Rattle.polynomials.specs.laws.Answers.{Answered, round-answered}
+use Rattle.division.specs.Lent.{lent-for-round}
 use Rattle.tables.specs.declared.Reason.{Reason}
 use Rattle.tables.specs.declared.Reason.the-variants.{Room}
 use Rattle.rules.specs.Step.{Stepped, stopped, remainder-by}
@@ -25,17 +27,20 @@ use Rattle.steps.specs.declared.Prepared.the-variants.{Done, Members, Stop}
 use Rattle.steps.specs.Ready.{Modulus, limits-in}
 use Rattle.steps.specs.Pending.{Pivoted}
 use Rattle.elimination.specs.declared.Outcome.the-variants.{Refused}
-use Rattle.elimination.proofs.Slices.{Kept, kept-then, Long, long-kept}
+use Rattle.elimination.proofs.Slices.{Kept, kept-then, Suits, suits-kept, Crowds, crowds-kept}
+use Rattle.elimination.proofs.StretchLaws.{Answers}
 use Rattle.elimination.proofs.Invariants.{AtRun, AtMembers, AtDivision, division-begins, round-less, division-goes-on, division-ends, division-passes}
 use Rattle.elimination.proofs.MembersLaws.{AtMember, PutBack, Comes-to, member-taken, member-inside, member-holds, member-put, member-not-put}
-use Rattle.elimination.proofs.RunLaws.{Goes-to, Stops, Some-open, All-open, None-open, Answers, run-open-some, run-stopped}
+use Rattle.elimination.proofs.RunLaws.{Goes-to, Stops, Some-open, All-open, None-open, ended, paused, run-open-some, run-paused, run-stopped}
 use Rattle.elimination.proofs.RunLaws.{Preparation, Pivot-in, prepared-as, prepared-done, prepared-stop, prepared-pivot}
 use Rattle.elimination.proofs.RunLaws.{members-first, members-done, members-stop}
-use Rattle.elimination.proofs.run.run.Proof.Places.{Entry, RunTurn, NoneOpen, BranchOpen, StepPrepared, StepStopped, MembersFound, MembersTurn}
-use Rattle.elimination.proofs.run.run.Proof.Places.{MemberTaken, DivisionTurn, RoundDue, RoundDone, WordsFormed, MemberDivided, MemberPut, StepDone}
-use Rattle.elimination.proofs.run.run.Proof.Places.{to-entry, none-in, to-turn, to-open, to-due, to-run, stopped-in, to-prepared, run-of, entry-of}
+use Rattle.elimination.proofs.run.run.Proof.Places.{Entry, RunTurn, NoneOpen, BranchOpen, RunCrowded, StepPrepared, PivotCrowded, StepStopped}
+use Rattle.elimination.proofs.run.run.Proof.Places.{MembersFound, MembersTurn, MemberTaken, DivisionTurn, RoundDue, RoundTried, RoundDone}
+use Rattle.elimination.proofs.run.run.Proof.Places.{WordsFormed, MemberDivided, MemberPut, StepDone}
+use Rattle.elimination.proofs.run.run.Proof.Places.{to-entry, none-in, to-turn, crowded-run, to-step, open-of, to-due, to-run}
+use Rattle.elimination.proofs.run.run.Proof.Places.{crowded-in, stopped-in, to-prepared, run-of, entry-of}
 use Rattle.elimination.proofs.run.run.Proof.Places.{to-found, to-left, to-members, found-of, to-taken, division-of, to-division}
-use Rattle.elimination.proofs.run.run.Proof.Places.{to-round, round-of, to-rounded, divided-in, to-divided, put-of, done-in}
+use Rattle.elimination.proofs.run.run.Proof.Places.{tried-of, to-tried, to-round, round-of, to-rounded, divided-in, to-divided, put-of, done-in}
 use Rattle.elimination.proofs.run.run.Proof.Places.{prepare-call, take-call, round-call, put-call}
 use Rattle.elimination.proofs.run.run.Proof.Places.{at-entry, at-turn, at-prepared, at-found, at-members}
 use Rattle.elimination.proofs.run.run.Proof.Places.{at-taken, at-division, at-rounded, at-put, at-done}
@@ -45,8 +50,8 @@ module _ (m : Entry) where
   pub modulus : Modulus (m .args .p)
   modulus = m .pre .0 .0
 
-  long : Long (at-entry m)
-  long = let l = m .pre .1 in record { t = l .0; i = l .1; r = l .2; x = l .3; y = l .4; z = l .5 }
+  suits : Suits (at-entry m)
+  suits = let l = m .pre .1 in record { initial = l .0; member = l .1; x-in-r = l .2; x-in-y = l .3; x-in-z = l .4 }
 
 -- ── a turn of the run begins ──
 module _ (m : RunTurn) where
@@ -56,18 +61,29 @@ module _ (m : RunTurn) where
   abbrev pub limit : ℕ
   limit = to-entry m .args .limit
 
-  pub run-invariant : AtRun p limit (at-entry (to-entry m) .w) (at-turn m .w) (m .run .steps)
+  abbrev pub from : ℕ
+  from = to-entry m .args .from
+
+  pub run-invariant : AtRun p limit from (at-entry (to-entry m) .w) (at-turn m .w) (m .run .steps)
   run-invariant = m .run .inv .0
 
   pub kept-at-turn : Kept (at-entry (to-entry m)) (at-turn m)
   kept-at-turn = m .run .inv .1
 
-  pub long-turn : Long (at-turn m)
-  long-turn = long-kept (long (to-entry m)) kept-at-turn
+  pub crowds-at-turn : Crowds (m .run .crowded) (at-turn m)
+  crowds-at-turn = m .run .inv .2
 
-  -- The contract's promise, where the run is refused in this turn and the area is v.
+  pub suits-at-turn : Suits (at-turn m)
+  suits-at-turn = suits-kept (suits (to-entry m)) kept-at-turn
+
+  -- The contract's promise, where the run is refused in this turn and the area is v; or where it pauses.
   abbrev pub Refuses : Reason → List ℕ → Type 0
-  Refuses why v = Answers p limit (at-entry (to-entry m) .w) (record { steps = m .run .steps; outcome = Refused why 0 }) v
+  Refuses why v = Answers p limit from (at-entry (to-entry m) .w) (ended (m .run .steps) (Refused why 0)) v
+
+  abbrev pub Pauses : List ℕ → Type 0
+  Pauses v =
+      Answers p limit from (at-entry (to-entry m) .w) (paused (m .run .steps)) v
+      × (length (at-entry (to-entry m) .t) < 512 ⊎ length (at-entry (to-entry m) .x) < 1024)
 
 -- ── no branch is open; or one is ──
 pub none-open : (m : NoneOpen) → None-open (at-turn (none-in m) .w)
@@ -79,6 +95,12 @@ all-open m a H = sym (m .before .is-open .ensures a H) ∙ not-false (m .before 
 pub some-open : (m : BranchOpen) → Some-open (p (to-turn m)) (at-turn (to-turn m) .w)
 some-open m = run-open-some (run-invariant (to-turn m)) (all-open m)
 
+-- ── a round did not fit x ──
+pub crowded-pauses : (m : RunCrowded) → Pauses (crowded-run m) (at-turn (crowded-run m) .w)
+crowded-pauses m =
+    let r = crowded-run m in
+    (run-paused (run-invariant r) _ refl, inr (omega (arith, crowds-at-turn r (m .if3 .taken), kept-at-turn r .x)))
+
 -- ── the step is prepared ──
 module _ (m : StepPrepared) where
   prepare-keeps : Kept (at-turn (to-run m)) (at-prepared m)
@@ -89,22 +111,37 @@ module _ (m : StepPrepared) where
   pub kept-at-prepared : Kept (at-entry (to-entry (to-run m))) (at-prepared m)
   kept-at-prepared = kept-then (kept-at-turn (to-run m)) prepare-keeps
 
-  long-prepared : Long (at-prepared m)
-  long-prepared = long-kept (long-turn (to-run m)) prepare-keeps
+  suits-prepared : Suits (at-prepared m)
+  suits-prepared = suits-kept (suits-at-turn (to-run m)) prepare-keeps
+
+  pub crowds-prepared : Crowds (to-run m .run .crowded) (at-prepared m)
+  crowds-prepared = crowds-at-turn (to-run m)
 
   -- The answer is q.
   abbrev Prepares-as : Prepared → Type 0
   Prepares-as q = Preparation (p (to-run m)) (at-turn (to-run m) .w) q (at-prepared m .t) (at-prepared m .i) (at-prepared m .w)
 
   preparation : Prepares-as (prepare-call m .prepare .result)
-  preparation = record { same = prepare-keeps .w; answers = prepare-call m .prepare .ensures }
+  preparation = record { same = prepare-keeps .w; answers = prepare-call m .prepare .ensures .0 }
 
   pub steps-left : to-run m .run .steps < limit (to-run m)
-  steps-left = omega (arith, to-due m .if2 .left)
+  steps-left = omega (arith, to-step (to-due m) .if2 .left)
 
   -- Where the step stops, the run does.
   run-stops : (why : Reason) (v : List ℕ) → Stops (capacity (at-turn (to-run m) .w)) (p (to-run m)) (at-turn (to-run m) .w) why → Refuses (to-run m) why v
-  run-stops = run-stopped (run-invariant (to-run m)) (all-open (to-open (to-due m))) steps-left
+  run-stops = run-stopped (run-invariant (to-run m)) (all-open (open-of (to-due m))) steps-left
+
+-- ── the pivot does not fit t ──
+module _ (m : PivotCrowded) where
+  pivot-crowded :
+      let r = to-run (crowded-in m) in
+      (length (at-turn r .t) < 512) × (at-prepared (crowded-in m) .w ≡ at-turn r .w)
+  pivot-crowded = prepare-call (crowded-in m) .prepare .ensures .1 (m .enum-told2 .given .1)
+
+  pub pivot-pauses : Pauses (to-run (crowded-in m)) (at-prepared (crowded-in m) .w)
+  pivot-pauses =
+      let r = to-run (crowded-in m) in
+      (run-paused (run-invariant r) _ (pivot-crowded .1), inl (omega (arith, pivot-crowded .0, kept-at-turn r .t)))
 
 -- ── the step is to stop ──
 module _ (m : StepStopped) where
@@ -135,7 +172,7 @@ module _ (m : MembersFound) where
   members-prepared = prepared-as (preparation (to-prepared m)) (Members found) (m .before .d .given .1)
 
   pub pivot-in : Pivot-in modulo found (at-found m .t) (at-found m .i)
-  pivot-in = prepared-pivot members-prepared (some-open (to-open (to-due (to-prepared m))))
+  pivot-in = prepared-pivot members-prepared (some-open (open-of (to-due (to-prepared m))))
 
   -- So many members are left, in w; one is out, in the first n words of r; what is left of the step comes to S.
   abbrev Left : List ℕ → ℕ → Type 0
@@ -148,7 +185,7 @@ module _ (m : MembersFound) where
   Left-comes-to = Comes-to modulo (found .k) pivot (found .closing) (found .place) (found .left) (at-found m .w)
 
   pub members-begin : Left (at-found m .w) (found .left)
-  members-begin = members-first members-prepared (some-open (to-open (to-due (to-prepared m))))
+  members-begin = members-first members-prepared (some-open (open-of (to-due (to-prepared m))))
 
   pub left-stops : (why : Reason) (v : List ℕ) → Left-comes-to (stopped why) → Refuses (run-of m) why v
   left-stops why v h = run-stops (to-prepared m) why v (members-stop members-prepared why h)
@@ -161,8 +198,8 @@ module _ (m : MembersTurn) where
   members-keep : Kept (at-found (to-found m)) (at-members m)
   members-keep = m .members .inv .1
 
-  pub long-members : Long (at-members m)
-  long-members = long-kept (long-prepared (to-prepared (to-found m))) members-keep
+  pub suits-members : Suits (at-members m)
+  suits-members = suits-kept (suits-prepared (to-prepared (to-found m))) members-keep
 
 -- ── the next member is taken ──
 module _ (m : MemberTaken) where
@@ -173,6 +210,9 @@ module _ (m : MemberTaken) where
   take-keeps =
       let k = take-call m .take .kept in
       record { w = k .0; t = refl; i = refl; r = k .1 .1 .1 .1 .0; x = refl; y = refl; z = refl }
+
+  pub crowds-taken : Crowds (to-members m .members .crowded) (at-taken m)
+  crowds-taken = to-members m .members .inv .2
 
   pub member-out : Out (found-of m) (at-taken m .w) (to-members m .members .left) (take-call m .take .result) (at-taken m .r)
   member-out = member-taken (members-invariant (to-members m)) one-left _ _ _ (take-keeps .w) (take-call m .take .ensures)
@@ -209,13 +249,28 @@ module _ (m : DivisionTurn) where
   division-keeps : Kept (at-found (division-of m)) (at-division m)
   division-keeps = kept-then (members-keep (to-members (to-taken m))) (kept-then (take-keeps (to-taken m)) rounds-keep)
 
-  pub long-division : Long (at-division m)
-  long-division = long-kept (long-prepared (to-prepared (division-of m))) division-keeps
+  crowds-division : Crowds (m .division .crowded) (at-division m)
+  crowds-division = m .division .inv .2
+
+  pub suits-division : Suits (at-division m)
+  suits-division = suits-kept (suits-prepared (to-prepared (division-of m))) division-keeps
 
   pub pivoted :
       let d = found (division-of m) in
       Pivoted (modulo (division-of m)) (d .k) (d .degree) (take (d .pivot) (at-division m .t)) (take (d .initial) (at-division m .i))
   pivoted = pivot-in (division-of m) .pivoted
+
+  -- The words of the member, the initial and the pivot.
+  pub few-words : let d = found (division-of m) in (m .division .n ≤ 512) × (d .initial ≤ 512) × (d .pivot ≤ 512)
+  few-words =
+      let d = found (division-of m) in
+      let a = at-division m in
+      let D = division-invariant in
+      let P = pivot-in (division-of m) in (
+        omega (arith, D .holds .few, length-take-le (m .division .n) (a .r) (D .inside)),
+        omega (arith, P .pivoted .initial .few, length-take-le (d .initial) (a .i) (P .initial-inside)),
+        omega (arith, P .pivoted .pivot .few, length-take-le (d .pivot) (a .t) (P .pivot-inside)),
+      )
 
   -- What a round from here forms.
   abbrev next-round : Bounded
@@ -225,20 +280,39 @@ module _ (m : DivisionTurn) where
 
 -- ── a round is due ──
 pub degree-left : (m : RoundDue) → let d = found (division-of (to-division m)) in d .degree ≤ degree (d .k) (terms (divided (to-division m)))
-degree-left m = omega (arith, m .if3 .left, m .before .degree .ensures)
+degree-left m = omega (arith, m .if4 .left, m .before .degree .ensures)
+
+-- ── whether it fits x is known ──
+-- Crowded since now, or as before.
+pub crowds-tried : (m : RoundTried) → Crowds (m .if5 .crowded) (at-division (to-division (tried-of m)))
+crowds-tried m =
+    let d = to-division (tried-of m) in
+    let f = found (division-of d) in
+    let fits = m .before .round-fits .result in
+    let x = length (at-division d .x) in
+    ⊎-elim
+    (λ c e.
+    let long : x < lent-for-round (d .division .n) (f .initial) (f .pivot) =
+    leb-false _ _ (sym (m .before .round-fits .ensures) ∙ not-true fits (c .0 .taken)) in
+    omega (arith, long))
+    (λ c e. crowds-division d (sym (c .1) ∙ e))
+    (m .if5 .came)
 
 -- ── the round is done ──
 module _ (m : RoundDone) where
   pub round-keeps : Kept (at-division (round-of m)) (at-rounded m)
   round-keeps =
-      let k = round-call m .round .kept .1 .1 .1 .1 .1 .1 in
+      let k = round-call m .round-anywhere .kept .1 .1 .1 .1 .1 .1 in
       record { w = refl; t = refl; i = refl; r = k .0; x = k .1 .1 .0; y = k .1 .1 .1 .0; z = k .1 .1 .1 .1 .0 }
 
   pub kept-at-round : Kept (at-entry (entry-of (division-of (round-of m)))) (at-rounded m)
   kept-at-round = kept-then (kept-at-prepared (to-prepared (division-of (round-of m)))) (kept-then (division-keeps (round-of m)) round-keeps)
 
-  pub round-forms : Forms (next-round (round-of m)) (round-call m .round .result) (at-rounded m .r)
-  round-forms = round-call m .round .ensures
+  pub crowds-round : Crowds (to-tried m .if5 .crowded) (at-rounded m)
+  crowds-round = crowds-kept (crowds-tried (to-tried m)) round-keeps
+
+  pub round-forms : Forms (next-round (round-of m)) (round-call m .round-anywhere .result) (at-rounded m .r)
+  round-forms = round-call m .round-anywhere .ensures
 
   -- The bound that the round passes is passed by the division.
   pub passes : (B : Bounded) → ((g : Poly → Bounded) → and-then B g ≡ B) → next-round (round-of m) ≡ B → remainder (to-taken (round-of m)) ≡ B
@@ -272,7 +346,7 @@ module _ (m : WordsFormed) where
 pub remainder-stands : (m : MemberDivided) → remainder (to-taken (divided-in m)) ≡ within (terms (divided (divided-in m)))
 remainder-stands m =
     let d = divided-in m in
-    division-ends (pivoted d) (division-invariant d) _ (omega (arith, m .if3 .taken, m .before .degree .ensures))
+    division-ends (pivoted d) (division-invariant d) _ (omega (arith, m .if4 .taken, m .before .degree .ensures))
 
 -- ── the remainder is put back ──
 module _ (m : MemberPut) where
@@ -286,6 +360,9 @@ module _ (m : MemberPut) where
 
   pub kept-at-put : Kept (at-entry (entry-of (division-of (put-of m)))) (at-put m)
   kept-at-put = kept-then (kept-at-prepared (to-prepared (division-of (put-of m)))) member-keeps
+
+  pub crowds-put : Crowds (put-of m .division .crowded) (at-put m)
+  crowds-put = crowds-division (put-of m)
 
   abbrev pub fits : Bool
   fits = put-call m .put-back .result
@@ -317,18 +394,20 @@ module _ (m : StepDone) where
   Goes = Goes-to (capacity (at-turn done-run .w)) (p done-run) (at-turn done-run .w)
 
   -- With members divided or without: each way tells what happened on it, and then what each slice is where the ways meet.
-  came : Goes (at-done m .w) × Kept (at-prepared (done-in m)) (at-done m)
+  came : Goes (at-done m .w) × Kept (at-prepared (done-in m)) (at-done m) × Crowds (m .match .crowded) (at-done m)
   came =
       let P = preparation (done-in m) in
       ⊎-elim
       (λ c. (
         subst Goes (sym (c .2)) (prepared-done (prepared-as P Done (c .1 .given .1))),
         record { w = ap length (c .2); t = refl; i = refl; r = ap length (c .3); x = ap length (c .4); y = ap length (c .5); z = ap length (c .6) },
+        λ e. omega (arith, crowds-prepared (done-in m) (sym (c .7) ∙ e), ap length (c .4)),
       ))
       (λ c. (
         subst Goes (sym (c .5)) (members-done (prepared-as P (Members (c .1 .given .0 .0)) (c .1 .given .1)) (c .3 .inv .0) (omega (arith, c .4 .left))),
         kept-then (c .3 .inv .1)
             record { w = ap length (c .5); t = refl; i = refl; r = ap length (c .6); x = ap length (c .7); y = ap length (c .8); z = ap length (c .9) },
+        λ e. omega (arith, c .3 .inv .2 (sym (c .10) ∙ e), ap length (c .7)),
       ))
       (m .match .came)
 
@@ -337,3 +416,6 @@ module _ (m : StepDone) where
 
   pub step-keeps : Kept (at-turn done-run) (at-done m)
   step-keeps = kept-then (prepare-keeps (done-in m)) (came .1)
+
+  pub crowds-done : Crowds (m .match .crowded) (at-done m)
+  crowds-done = came .2

@@ -1,39 +1,43 @@
 -- The invariants and measures of the three loops of `run`; the places of its code that facts are taken from, in the order of the code; and the
 -- slices there.
--- The invariants, of the run: the run from the state held gives the whole run; of the members: what is left of the step, from the branch held, gives
--- the step; of the division: the rounds left, from the words in r, form the remainder. All say that the slices keep their lengths. The measures:
--- the steps left, the members left, the degree.
+-- The invariants, of the run: the run from the state held gives the run from where it began; of the members: what is left of the step, from the branch
+-- held, gives the step; of the division: the rounds left, from the words in r, form the remainder. All say that the slices keep their lengths, and that
+-- the run is crowded only where x is short. The measures: the steps left, the members left, the degree.
 -- A place has what its line has told, and the place `before` it. A call tells of each argument and of each slice that comes back, so a way back
 -- past a call has many steps: each is written here, once.
 use Prim.Native.Nat.{_-_}
 use lib.ListN.{take}
 use Rattle.polynomials.specs.Packed.{terms}
 use Rattle.polynomials.specs.Division as polynomials
-use Rattle.elimination.proofs.Slices.{Slices, slices, Kept}
+use Rattle.elimination.proofs.Slices.{Slices, slices, Kept, Crowds}
 use Rattle.elimination.proofs.Invariants.{AtRun, AtMembers, AtDivision}
 use Rattle.elimination.proofs.run.run.Tie as tie
 
 -- ── the loops ──
 abbrev pub Inv-division : tie.InvT-division
-Inv-division w p limit t i r₀ x₀ y₀ z₀ steps k degree pivot initial closing place left n₀ r x y z n =
-    AtDivision p k degree (terms (take pivot t)) r₀ n₀ r n × Kept (slices w t i r₀ x₀ y₀ z₀) (slices w t i r x y z)
+Inv-division w p limit from t i r₀ x₀ y₀ z₀ steps crowded₀ k degree pivot initial closing place left n₀ r x y z crowded n =
+    AtDivision p k degree (terms (take pivot t)) r₀ n₀ r n
+    × Kept (slices w t i r₀ x₀ y₀ z₀) (slices w t i r x y z) × Crowds crowded (slices w t i r x y z)
 
 abbrev pub μ-division : tie.MeasureT-division
-μ-division w p limit t i r₀ x₀ y₀ z₀ steps k degree pivot initial closing place left n₀ r x y z n = polynomials.degree k (terms (take n r))
+μ-division w p limit from t i r₀ x₀ y₀ z₀ steps crowded₀ k degree pivot initial closing place left n₀ r x y z crowded n =
+    polynomials.degree k (terms (take n r))
 
 abbrev pub Inv-members : tie.InvT-members
-Inv-members w₀ p limit t i r₀ x₀ y₀ z₀ steps k degree pivot initial closing place left₀ w r x y z left =
-    AtMembers p k (terms (take pivot t)) closing place left₀ w₀ w left × Kept (slices w₀ t i r₀ x₀ y₀ z₀) (slices w t i r x y z)
+Inv-members w₀ p limit from t i r₀ x₀ y₀ z₀ steps crowded₀ k degree pivot initial closing place left₀ w r x y z crowded left =
+    AtMembers p k (terms (take pivot t)) closing place left₀ w₀ w left
+    × Kept (slices w₀ t i r₀ x₀ y₀ z₀) (slices w t i r x y z) × Crowds crowded (slices w t i r x y z)
 
 abbrev pub μ-members : tie.MeasureT-members
-μ-members w₀ p limit t i r₀ x₀ y₀ z₀ steps k degree pivot initial closing place left₀ w r x y z left = left
+μ-members w₀ p limit from t i r₀ x₀ y₀ z₀ steps crowded₀ k degree pivot initial closing place left₀ w r x y z crowded left = left
 
 abbrev pub Inv-run : tie.InvT-run
-Inv-run w₀ p limit t₀ i₀ r₀ x₀ y₀ z₀ steps₀ w t i r x y z steps =
-    AtRun p limit w₀ w steps × Kept (slices w₀ t₀ i₀ r₀ x₀ y₀ z₀) (slices w t i r x y z)
+Inv-run w₀ p limit from t₀ i₀ r₀ x₀ y₀ z₀ steps₀ crowded₀ w t i r x y z steps crowded =
+    AtRun p limit from w₀ w steps
+    × Kept (slices w₀ t₀ i₀ r₀ x₀ y₀ z₀) (slices w t i r x y z) × Crowds crowded (slices w t i r x y z)
 
 abbrev pub μ-run : tie.MeasureT-run
-μ-run w₀ p limit t₀ i₀ r₀ x₀ y₀ z₀ steps₀ w t i r x y z steps = limit - steps
+μ-run w₀ p limit from t₀ i₀ r₀ x₀ y₀ z₀ steps₀ crowded₀ w t i r x y z steps crowded = limit - steps
 
 -- A place, or a need, with these invariants and measures.
 abbrev pub Of :
@@ -72,11 +76,27 @@ abbrev pub to-turn : BranchOpen → RunTurn
 to-turn m = m .before .before .before
 
 -- And a step is left.
-abbrev pub StepDue : Type 0
-StepDue = Of tie.Else2
+abbrev pub StepLeft : Type 0
+StepLeft = Of tie.Else2
 
-abbrev pub to-open : StepDue → BranchOpen
+abbrev pub to-open : StepLeft → BranchOpen
 to-open m = m .before
+
+-- A round did not fit x in an earlier step; or the next step is due.
+abbrev pub RunCrowded : Type 0
+RunCrowded = Of tie.Then3
+
+abbrev pub crowded-run : RunCrowded → RunTurn
+crowded-run m = to-turn (to-open (m .before))
+
+abbrev pub StepDue : Type 0
+StepDue = Of tie.Else3
+
+abbrev pub to-step : StepDue → StepLeft
+to-step m = m .before
+
+abbrev pub open-of : StepDue → BranchOpen
+open-of m = to-open (to-step m)
 
 -- `prepare` is called; it has answered.
 abbrev pub prepare-due : Of tie.After-prepare-arg4 → StepDue
@@ -92,7 +112,14 @@ abbrev pub to-due : StepPrepared → StepDue
 to-due m = prepare-due (prepare-call m .before)
 
 abbrev pub to-run : StepPrepared → RunTurn
-to-run m = to-turn (to-open (to-due m))
+to-run m = to-turn (open-of (to-due m))
+
+-- It answered that the pivot does not fit t.
+abbrev pub PivotCrowded : Type 0
+PivotCrowded = Of tie.After-enum-told2
+
+abbrev pub crowded-in : PivotCrowded → StepPrepared
+crowded-in m = m .before .before
 
 -- It answered that the step stops.
 abbrev pub StepStopped : Type 0
@@ -152,23 +179,33 @@ division-of m = found-of (to-taken m)
 
 -- A round is due.
 abbrev pub RoundDue : Type 0
-RoundDue = Of tie.Else3
+RoundDue = Of tie.Else4
 
 abbrev pub to-division : RoundDue → DivisionTurn
 to-division m = m .before .before .before
 
--- `round` is called; it has answered.
-abbrev pub round-due : Of tie.After-round-arg6 → RoundDue
+-- Whether it fits x is known.
+abbrev pub RoundTried : Type 0
+RoundTried = Of tie.Joined5
+
+abbrev pub tried-of : RoundTried → RoundDue
+tried-of m = m .before .before
+
+-- `round_anywhere` is called; it has answered.
+abbrev pub round-due : Of tie.After-round-anywhere-arg6 → RoundTried
 round-due m = m .before .before .before .before .before .before
 
 abbrev pub RoundDone : Type 0
 RoundDone = Of tie.After-slice-known17
 
-abbrev pub round-call : RoundDone → Of tie.After-round
+abbrev pub round-call : RoundDone → Of tie.After-round-anywhere
 round-call m = m .before .before .before .before .before .before .before .before
 
+abbrev pub to-tried : RoundDone → RoundTried
+to-tried m = round-due (round-call m .before)
+
 abbrev pub to-round : RoundDone → RoundDue
-to-round m = round-due (round-call m .before)
+to-round m = tried-of (to-tried m)
 
 abbrev pub round-of : RoundDone → DivisionTurn
 round-of m = to-division (to-round m)
@@ -180,15 +217,15 @@ WordsFormed = Of tie.After-known-told3
 abbrev pub to-rounded : WordsFormed → RoundDone
 to-rounded m = m .before .before .before
 
-abbrev pub degree-in : Of tie.After-enum-told2 → RoundDone
+abbrev pub degree-in : Of tie.After-enum-told3 → RoundDone
 degree-in m = m .before .before
 
-abbrev pub terms-in : Of tie.After-enum-told3 → RoundDone
+abbrev pub terms-in : Of tie.After-enum-told4 → RoundDone
 terms-in m = m .before .before
 
 -- The member is divided.
 abbrev pub MemberDivided : Type 0
-MemberDivided = Of tie.Then3
+MemberDivided = Of tie.Then4
 
 abbrev pub divided-in : MemberDivided → DivisionTurn
 divided-in m = m .before .before .before
@@ -258,7 +295,7 @@ at-division m =
 abbrev pub at-rounded : RoundDone → Slices
 at-rounded m =
     let a = at-division (round-of m) in
-    let l = round-call m .round .last .1 .1 .1 .1 .1 .1 in
+    let l = round-call m .round-anywhere .last .1 .1 .1 .1 .1 .1 in
     slices (a .w) (a .t) (a .i) (l .0) (l .1 .1 .0) (l .1 .1 .1 .0) (l .1 .1 .1 .1 .0)
 
 abbrev pub at-put : MemberPut → Slices

@@ -2,7 +2,7 @@
 use mathlib.Core.Path.{_≡_, ap, subst}
 use mathlib.Core.Bool.{Bool}
 use mathlib.Core.List.{List}
-use Prim.Native.Nat.{ℕ, _/_, _≤_, min}
+use Prim.Native.Nat.{ℕ, _/_, _≤_, _<_, min}
 use native.Mathlib.Omega.{arith}
 use lib.ListN.{length}
 use Rattle.records.specs.Records.{Rec, room}
@@ -13,6 +13,13 @@ same-capacity xs ys e = ap (λ (n : ℕ). min (n / 4) 65536) e
 
 pub inside-room : (w : List ℕ) {n : ℕ} → n ≤ capacity w → n ≤ room w
 inside-room w h = omega arith
+
+-- What lies inside does so in other words that are as many.
+pub still-inside : (w w₁ : List ℕ) {n : ℕ} → n < capacity w → length w₁ ≡ length w → n < room w₁
+still-inside w w₁ h e = omega arith
+
+pub first-inside : (w w₁ : List ℕ) {n : ℕ} → n < room w → length w₁ ≡ length w → 0 < room w₁
+first-inside w w₁ h e = omega arith
 
 pub held-by : (v : List Rec) (a : Area) (xs ys : List ℕ) → length xs ≡ length ys → Held v (capacity xs) a → Held v (capacity ys) a
 held-by v a xs ys e H = subst (λ (n : ℕ). Held v n a) (same-capacity xs ys e) H

@@ -4,7 +4,7 @@ use mathlib.Core.Path.{_≡_, refl, sym, ap, ap₂, _∙_, subst}
 use mathlib.Core.List.{List, [], _∷_, _++_, append-assoc}
 use Prim.Native.Nat.{ℕ, zero, suc, _+_, _-_, _/_, _≤_, _<_}
 use native.Mathlib.Omega.{arith}
-use mir.Syntax.{w32}
+use mir.Syntax.{w32, w64}
 use mir.Val.{Fits}
 use lib.ListN.{length, take, drop, getD, set, length-drop}
 use Rattle.records.specs.Records.{Rec, mk, nul}
@@ -89,6 +89,9 @@ module _ {r : Rec} {x₀ x₁ x₂ x₃ n : ℕ} (e : r ≡ mk x₀ x₁ x₂ x�
   pub w3-is : n ≡ r .w3 → n ≡ x₃
   w3-is h = h ∙ ap (λ (u : Rec). u .w3) e
 
+pub fits-wide : {n : ℕ} → Fits w32 n → Fits w64 n
+fits-wide f = omega (arith, f .fits)
+
 -- What the control record says first: where the open branch starts and where it ends.
 pub record Read (v : List Rec) (at end : ℕ) : Type 0 where
   pub at-word : at ≡ getD v 0 nul .w0
@@ -115,9 +118,23 @@ module _ {v : List Rec} {most : ℕ} {b : Stored} {bs ss : List Stored} (H : Hel
   pub free-is : (top : ℕ) → top ≡ getD v 0 nul .w2 → top ≡ end + length (H .free)
   free-is top e = omega (arith, w2-is (first-is (lies H)) e, ends)
 
+  -- What fits into them, and what does not.
+  module _ {top : ℕ} (e : top ≡ getD v 0 nul .w2) where
+    pub end-le-top : end ≤ top
+    end-le-top = omega (arith, free-is top e)
+
+    pub fits-free : {n : ℕ} → n ≤ top - end → n ≤ length (H .free)
+    fits-free h = omega (arith, free-is top e)
+
+    pub over-free : {n : ℕ} → top - end < n → length (H .free) < n
+    over-free h = omega (arith, free-is top e)
+
   -- What is written into the records fits a word.
   pub fits-word : {n : ℕ} → n ≤ most → Fits w32 n
   fits-word h = omega (arith, H .few)
+
+  pub next-fits : {x n : ℕ} → x ≡ n → n < most → Fits w32 (x + 1)
+  next-fits e h = fits-word (omega arith)
 
   pub at-fits : Fits w32 at
   at-fits = fits-word (omega (arith, start-is, room-is H))

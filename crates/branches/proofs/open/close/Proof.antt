@@ -11,8 +11,9 @@ use Rattle.stored.specs.Stored.{skip-to}
 use Rattle.branches.specs.Words.{remove}
 use Rattle.branches.specs.Area.{Stored, Held, with-open, capacity, without-P, closed}
 use Rattle.branches.proofs.AreaLaws.{place, at-of, own-of, own-read, storable-open, place-inside, at-inside, end-P, end-Q}
-use Rattle.branches.proofs.OpenLaws.{More, more-P, freed-room, Read, Gap, fits-word, at-fits, gap-inside, end-in-fits, held-in}
+use Rattle.branches.proofs.OpenLaws.{More, more-P, freed-room, Read, Gap, fits-wide, next-fits, at-fits, gap-inside, end-in-fits, held-in}
 use Rattle.branches.proofs.OpenLaws.{mk-equal, w0-is, w1-is, w2-is, w3-is}
+use Rattle.branches.proofs.LengthLaws.{still-inside, first-inside}
 use Rattle.branches.proofs.PutLaws.{counts-small, adds-T, count-T, storable-T}
 use borrow.Author.Needs.{needs}
 use Rattle.branches.proofs.open.close.Statement.{statement}
@@ -165,13 +166,17 @@ opened m = start m .pre .0 .3
 
 -- What is read and written lies inside, and what is written fits a word.
 at-in : (c : tie.After-get0) → c .get0 .result < room (w (from-at c))
-at-in c = let m = from-at c in omega (arith, at-inside (after m (opened m)) _ (c .get0 .ensures), m .remove-p .kept)
+at-in c = let m = from-at c in still-inside (start m .args .w .now) (w m) (at-inside (after m (opened m)) _ (c .get0 .ensures)) (m .remove-p .kept .0)
 
 own-inside : (c : tie.After-insert) → at (from-insert c) < room (c .insert .last .0)
-own-inside c = omega (arith, at-in (at-read (from-insert c)), c .insert .kept)
+own-inside c =
+    let r = from-insert c in
+    let m = removed r in
+    let h = at-inside (after m (opened m)) _ (read r .at-word) in
+    still-inside (start m .args .w .now) (c .insert .last .0) h (c .insert .kept .0 ∙ m .remove-p .kept .0)
 
 control-inside : (c : tie.After-put-rec) → 0 < room (c .put-rec .last .0)
-control-inside c = omega (arith, own-inside (insert-of c), c .put-rec .kept)
+control-inside c = first-inside (insert-of c .insert .last .0) (c .put-rec .last .0) (own-inside (insert-of c)) (c .put-rec .kept .0)
 
 end-fits : (c : tie.After-insert) → let r = from-insert c in Fits w32 (end r + (length (f (removed r)) / 2 + 1))
 end-fits c =
@@ -240,7 +245,7 @@ add-put-rec c =
     let r = from-insert (insert-before-own c) in
     let H = opened (removed r) in
     let H₁ = after (removed r) H in
-    fits-word H₁ (read r) (omega (arith, w2-is (own-kept r H) (t-read r .get2 .ensures), counts-small H₁))
+    next-fits H₁ (read r) (w2-is (own-kept r H) (t-read r .get2 .ensures)) (counts-small H₁ .2)
 
 put-rec-requires : tie.Need-put-rec-requires
 put-rec-requires c κs = own-inside (insert-before-own c)
@@ -258,7 +263,7 @@ add-put-rec-2 : tie.Need-add-put-rec-2
 add-put-rec-2 c = omega (arith, end-fits (insert-of (own-before-control c)))
 
 add-put-rec-3 : tie.Need-add-put-rec-3
-add-put-rec-3 c = omega (arith, end-fits (insert-of (own-before-control c)))
+add-put-rec-3 c = fits-wide (end-fits (insert-of (own-before-control c)))
 
 cast-put-rec-2 : tie.Need-cast-put-rec-2
 cast-put-rec-2 c = end-fits (insert-of (own-before-control c))

@@ -11,9 +11,9 @@ use Rattle.stored.specs.Stored.{member, skip-to}
 use Rattle.branches.specs.Words.{put-P}
 use Rattle.branches.specs.Area.{Stored, Held, with-open, capacity, put-into-P}
 use Rattle.branches.proofs.AreaLaws.{place, at-of, own-of, storable-open, place-inside, at-inside, end-P, p-is, all-P}
-use Rattle.branches.proofs.OpenLaws.{Read, Gap, free-is, fits-word, at-fits, top-fits, gap-inside, end-in-fits, own-in, top-kept, held-in}
+use Rattle.branches.proofs.OpenLaws.{Read, Gap, end-le-top, fits-free, over-free, fits-wide, next-fits, at-fits, top-fits, gap-inside, end-in-fits, own-in, top-kept, held-in}
 use Rattle.branches.proofs.OpenLaws.{mk-equal, w1-is, w2-is, w3-is}
-use Rattle.branches.proofs.LengthLaws.{inside-room}
+use Rattle.branches.proofs.LengthLaws.{inside-room, still-inside, first-inside}
 use Rattle.branches.proofs.PutLaws.{counts-small, leaves-held, leaves-same, no-room}
 use Rattle.branches.proofs.PutLaws.{put-P-zero, put-P-found, put-P-new, kept-P, adds-P, count-P, storable-P}
 use borrow.Author.Needs.{needs}
@@ -112,10 +112,6 @@ module _ {b : Stored} {bs ss : List Stored} where
   count-is : (r : Reading) → Entry r b bs ss → r .get02 .result ≡ length (b .P)
   count-is r H = p-is H _ (read r .at-word) _ (r .get02 .ensures)
 
-  -- The records up to the systems are free.
-  between : (r : Reading) (H : Entry r b bs ss) → top r ≡ end r + length (H .free)
-  between r H = free-is H (read r) _ (top-read r .get2 .ensures)
-
   there : (r : Reading) → Entry r b bs ss → skip-to (view (w r)) (at r + 1) (r .get02 .result) ≡ place (at-of bs) (b .P)
   there r H = end-P H _ (read r .at-word) _ (r .get02 .ensures)
 
@@ -131,7 +127,7 @@ module _ {b : Stored} {bs ss : List Stored} where
   gap c H = record {
     adds = adds-P _ b (new-is (c .before .before .before) H);
     there = c .skip .ensures ∙ there (from-gap c) H;
-    fits = omega (arith, c .before .before .if3 .left, between (from-gap c) H);
+    fits = fits-free H (read (from-gap c)) (top-read (from-gap c) .get2 .ensures) (c .before .before .if3 .left);
   }
 
   own-is : (c : tie.After-put-rec) → Entry (from-own c) b bs ss → own c ≡ own-of (put-into-P (f (from-own c)) b) bs
@@ -152,10 +148,10 @@ P-inside : (r : Reading) → skip-to (view (w r)) (at r + 1) (r .get02 .result) 
 P-inside r = let b = start r .pre .0 .0 in inside-room (w r) (place-inside (opened r) (b .P) (b .Q ++ b .T) refl (there r (opened r)))
 
 own-inside : (c : tie.After-insert) → at (from-insert c) < room (c .insert .last .0)
-own-inside c = let r = from-insert c in omega (arith, at-inside (opened r) _ (read r .at-word), c .insert .kept)
+own-inside c = let r = from-insert c in still-inside (w r) (c .insert .last .0) (at-inside (opened r) _ (read r .at-word)) (c .insert .kept .0)
 
 control-inside : (c : tie.After-put-rec) → 0 < room (c .put-rec .last .0)
-control-inside c = omega (arith, own-inside (insert-of c), c .put-rec .kept)
+control-inside c = first-inside (insert-of c .insert .last .0) (c .put-rec .last .0) (own-inside (insert-of c)) (c .put-rec .kept .0)
 
 end-fits : (c : tie.After-put-rec) → let r = from-own c in Fits w32 (end r + (length (f r) / 2 + 1))
 end-fits c = let r = from-own c in end-in-fits (opened r) (read r) (gap (insert-of c .before .before) (opened r))
@@ -209,14 +205,14 @@ add-n : tie.Need-add-n
 add-n c = search needs
 
 sub-if3 : tie.Need-sub-if3
-sub-if3 c = let r = from-find (c .before) in omega (arith, between r (opened r))
+sub-if3 c = let r = from-find (c .before) in end-le-top (opened r) (read r) (top-read r .get2 .ensures)
 
 same-length-3 : tie.Need-same-length-3
 same-length-3 c = refl
 
 returns-3 : tie.Need-returns-3
 returns-3 c b bs ss H =
-    no-room H (adds-P _ b (new-is (c .before) H)) (omega (arith, c .if3 .taken, between (from-find (c .before .before)) H))
+    let r = from-find (c .before .before) in no-room H (adds-P _ b (new-is (c .before) H)) (over-free H (read r) (top-read r .get2 .ensures) (c .if3 .taken))
 
 add-skip : tie.Need-add-skip
 add-skip c = search needs
@@ -243,7 +239,7 @@ get3-requires : tie.Need-get3-requires
 get3-requires c κs = own-inside (insert-before-under c)
 
 add-put-rec : tie.Need-add-put-rec
-add-put-rec c = let r = from-insert (insert-before-own c) in fits-word (opened r) (read r) (omega (arith, count-is r (opened r), counts-small (opened r)))
+add-put-rec c = let r = from-insert (insert-before-own c) in next-fits (opened r) (read r) (count-is r (opened r)) (counts-small (opened r) .0)
 
 put-rec-requires : tie.Need-put-rec-requires
 put-rec-requires c κs = own-inside (insert-before-own c)
@@ -255,7 +251,7 @@ cast-put-rec : tie.Need-cast-put-rec
 cast-put-rec c = let r = from-own (own-before-control c) in at-fits (opened r) (read r)
 
 add-put-rec-2 : tie.Need-add-put-rec-2
-add-put-rec-2 c = omega (arith, end-fits (own-before-control c))
+add-put-rec-2 c = fits-wide (end-fits (own-before-control c))
 
 cast-put-rec-2 : tie.Need-cast-put-rec-2
 cast-put-rec-2 c = end-fits (own-before-control c)

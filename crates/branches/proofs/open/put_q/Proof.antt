@@ -13,9 +13,9 @@ use Rattle.stored.specs.Stored.{member, skip-to}
 use Rattle.branches.specs.Words.{put-Q, is-one}
 use Rattle.branches.specs.Area.{Stored, Held, with-open, capacity, put-into-Q}
 use Rattle.branches.proofs.AreaLaws.{place, at-of, own-of, storable-open, place-inside, at-inside, end-P, p-is, q-is, parted-Q}
-use Rattle.branches.proofs.OpenLaws.{Read, Gap, free-is, fits-word, at-fits, top-fits, gap-inside, end-in-fits, own-in, top-kept, held-in}
+use Rattle.branches.proofs.OpenLaws.{Read, Gap, end-le-top, fits-free, over-free, fits-wide, next-fits, at-fits, top-fits, gap-inside, end-in-fits, own-in, top-kept, held-in}
 use Rattle.branches.proofs.OpenLaws.{mk-equal, w2-is, w3-is}
-use Rattle.branches.proofs.LengthLaws.{inside-room}
+use Rattle.branches.proofs.LengthLaws.{inside-room, still-inside, first-inside}
 use Rattle.branches.proofs.PutLaws.{counts-small, leaves-held, leaves-same, no-room, one, not-one-by-length, not-one-by-coefficient, not-one-by-monomial}
 use Rattle.branches.proofs.PutLaws.{put-Q-one, put-Q-found, put-Q-new, seen, seen-Q, behind-seen, kept-Q, adds-Q, count-Q, storable-Q}
 use borrow.Author.Needs.{needs}
@@ -131,10 +131,6 @@ module _ {b : Stored} {bs ss : List Stored} where
   count-is : (r : Reading) → Entry r b bs ss → r .get12 .result ≡ length (b .Q)
   count-is r H = q-is H _ (read r .at-word) _ (r .get12 .ensures)
 
-  -- The records up to the systems are free.
-  between : (r : Reading) (H : Entry r b bs ss) → top r ≡ end r + length (H .free)
-  between r H = free-is H (read r) _ (top-read r .get2 .ensures)
-
   end-P-is : (c : tie.After-skip) → Entry (from-skip c) b bs ss → c .skip .result ≡ place (at-of bs) (b .P)
   end-P-is c H = let r = from-skip c in c .skip .ensures ∙ end-P H _ (read r .at-word) _ (p-read r .get02 .ensures)
 
@@ -157,7 +153,7 @@ module _ {b : Stored} {bs ss : List Stored} where
   gap c H = record {
     adds = adds-Q _ _ b (new-is (c .before .before .before) H);
     there = c .skip2 .ensures ∙ there (skip-before-gap c) H;
-    fits = omega (arith, c .before .before .if5 .left, between (from-gap c) H);
+    fits = fits-free H (read (from-gap c)) (top-read (from-gap c) .get2 .ensures) (c .before .before .if5 .left);
   }
 
   own-is : (c : tie.After-put-rec) → Entry (from-own c) b bs ss → let r = from-own c in own c ≡ own-of (put-into-Q (left r) (f r) b) bs
@@ -184,10 +180,10 @@ at-in : (c : tie.After-get0) → c .get0 .result < room (c .before .before .befo
 at-in c = omega (arith, at-inside (c .before .before .before .before .pre .0 .3) _ (c .get0 .ensures))
 
 own-inside : (c : tie.After-insert) → at (from-insert c) < room (c .insert .last .0)
-own-inside c = let r = from-insert c in omega (arith, at-inside (opened r) _ (read r .at-word), c .insert .kept)
+own-inside c = let r = from-insert c in still-inside (w r) (c .insert .last .0) (at-inside (opened r) _ (read r .at-word)) (c .insert .kept .0)
 
 control-inside : (c : tie.After-put-rec) → 0 < room (c .put-rec .last .0)
-control-inside c = omega (arith, own-inside (insert-of c), c .put-rec .kept)
+control-inside c = first-inside (insert-of c .insert .last .0) (c .put-rec .last .0) (own-inside (insert-of c)) (c .put-rec .kept .0)
 
 end-fits : (c : tie.After-put-rec) → let r = from-own c in Fits w32 (end r + (length (f r) / 2 + 1))
 end-fits c = let r = from-own c in end-in-fits (opened r) (read r) (gap (insert-of c .before .before) (opened r))
@@ -264,14 +260,14 @@ add-n : tie.Need-add-n
 add-n c = search needs
 
 sub-if5 : tie.Need-sub-if5
-sub-if5 c = let r = from-find (c .before) in omega (arith, between r (opened r))
+sub-if5 c = let r = from-find (c .before) in end-le-top (opened r) (read r) (top-read r .get2 .ensures)
 
 same-length-3 : tie.Need-same-length-3
 same-length-3 c = refl
 
 returns-3 : tie.Need-returns-3
 returns-3 c b bs ss H =
-    no-room H (adds-Q _ _ b (new-is (c .before) H)) (omega (arith, c .if5 .taken, between (from-find (c .before .before)) H))
+    let r = from-find (c .before .before) in no-room H (adds-Q _ _ b (new-is (c .before) H)) (over-free H (read r) (top-read r .get2 .ensures) (c .if5 .taken))
 
 skip-requires-2 : tie.Need-skip-requires-2
 skip-requires-2 c κs = seen-inside (skip-before-room (c .before))
@@ -289,7 +285,7 @@ get3-requires : tie.Need-get3-requires
 get3-requires c κs = own-inside (insert-before-under c)
 
 add-put-rec : tie.Need-add-put-rec
-add-put-rec c = let r = from-insert (insert-before-own c) in fits-word (opened r) (read r) (omega (arith, count-is r (opened r), counts-small (opened r)))
+add-put-rec c = let r = from-insert (insert-before-own c) in next-fits (opened r) (read r) (count-is r (opened r)) (counts-small (opened r) .1)
 
 put-rec-requires : tie.Need-put-rec-requires
 put-rec-requires c κs = own-inside (insert-before-own c)
@@ -301,7 +297,7 @@ cast-put-rec : tie.Need-cast-put-rec
 cast-put-rec c = let r = from-own (own-before-control c) in at-fits (opened r) (read r)
 
 add-put-rec-2 : tie.Need-add-put-rec-2
-add-put-rec-2 c = omega (arith, end-fits (own-before-control c))
+add-put-rec-2 c = fits-wide (end-fits (own-before-control c))
 
 cast-put-rec-2 : tie.Need-cast-put-rec-2
 cast-put-rec-2 c = end-fits (own-before-control c)

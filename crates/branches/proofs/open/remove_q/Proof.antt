@@ -10,7 +10,7 @@ use Rattle.branches.specs.Area.{Stored, Held, with-open, capacity, witho
 use Rattle.branches.proofs.AreaLaws.{place, at-of, own-of, storable-open, place-inside, at-inside, skip-Q, end-P, p-is, parted-Q}
 use Rattle.branches.proofs.OpenLaws.{More, more-Q, Read, Spot, spot, at-fits, member-inside, spot-inside, end-out-fits, own-out, held-out}
 use Rattle.branches.proofs.OpenLaws.{mk-equal, w1-is, w2-is, w3-is}
-use Rattle.branches.proofs.LengthLaws.{inside-room}
+use Rattle.branches.proofs.LengthLaws.{inside-room, still-inside, first-inside}
 use Rattle.branches.proofs.OpenLaws.{count-remove, storable-remove}
 use borrow.Author.Needs.{needs}
 use Rattle.branches.proofs.open.remove_q.Statement.{statement}
@@ -159,10 +159,10 @@ opened r = start r .pre .0 .3
 
 -- What is read and written lies inside.
 own-inside : (c : tie.After-remove) → at (from-remove c) < room (c .remove .last .0)
-own-inside c = let r = from-remove c in omega (arith, at-inside (opened r) _ (read r .at-word), c .remove .kept)
+own-inside c = let r = from-remove c in still-inside (w r) (c .remove .last .0) (at-inside (opened r) _ (read r .at-word)) (c .remove .kept .0)
 
 control-inside : (c : tie.After-put-rec) → 0 < room (c .put-rec .last .0)
-control-inside c = omega (arith, own-inside (remove-of c), c .put-rec .kept)
+control-inside c = first-inside (remove-of c .remove .last .0) (c .put-rec .last .0) (own-inside (remove-of c)) (c .put-rec .kept .0)
 
 -- ── the needs ──
 get0-requires : tie.Need-get0-requires

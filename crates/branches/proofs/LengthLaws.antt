@@ -1,4 +1,4 @@
--- What words of one length hold.
+-- What lies inside a work area, and what words of one length hold.
 use mathlib.Core.Path.{_≡_, ap, subst}
 use mathlib.Core.Bool.{Bool}
 use mathlib.Core.List.{List}

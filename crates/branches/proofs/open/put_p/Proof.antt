@@ -25,17 +25,17 @@ use Rattle.branches.proofs.open.put_p.Tie as tie
 abbrev Reading : Type 0
 Reading = tie.After-get02
 
-abbrev start : Reading → tie.Start
-start r = r .before .before .before .before .before .before .before .before .before .before
-
-abbrev at-read : Reading → tie.After-get0
-at-read r = r .before .before .before .before .before .before
-
-abbrev end-read : Reading → tie.After-get1
-end-read r = r .before .before .before .before
-
 abbrev top-read : Reading → tie.After-get2
 top-read r = r .before .before
+
+abbrev end-read : Reading → tie.After-get1
+end-read r = top-read r .before .before
+
+abbrev at-read : Reading → tie.After-get0
+at-read r = end-read r .before .before
+
+abbrev start : Reading → tie.Start
+start r = at-read r .before .before .before .before
 
 -- f was looked for; it was not found, and there is room; its place is known; it is put in.
 abbrev from-find : tie.After-find → Reading

@@ -21,11 +21,11 @@ use Rattle.branches.proofs.open.remove_p.Tie as tie
 abbrev Reading : Type 0
 Reading = tie.After-get1
 
-abbrev start : Reading → tie.Start
-start r = r .before .before .before .before .before
-
 abbrev at-read : Reading → tie.After-get0
 at-read r = r .before .before
+
+abbrev start : Reading → tie.Start
+start r = at-read r .before .before .before
 
 -- The member's place is known; its size is; it is taken out.
 abbrev from-place : tie.After-skip → Reading

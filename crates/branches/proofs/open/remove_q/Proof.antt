@@ -21,14 +21,14 @@ use Rattle.branches.proofs.open.remove_q.Tie as tie
 abbrev Reading : Type 0
 Reading = tie.After-get02
 
-abbrev start : Reading → tie.Start
-start r = r .before .before .before .before .before .before .before
-
-abbrev at-read : Reading → tie.After-get0
-at-read r = r .before .before .before .before
-
 abbrev end-read : Reading → tie.After-get1
 end-read r = r .before .before
+
+abbrev at-read : Reading → tie.After-get0
+at-read r = end-read r .before .before
+
+abbrev start : Reading → tie.Start
+start r = at-read r .before .before .before
 
 -- The end of P is known; the member's place is; its size is; it is taken out.
 abbrev from-skip : tie.After-skip → Reading

@@ -13,7 +13,7 @@ use Rattle.tables.specs.Walk.{Readable}
 use Rattle.tables.specs.laws.Accepted.{head-admissible}
 use Rattle.representation.specs.laws.Monics.{stored-monic}
 use Rattle.steps.specs.Ready.{Modulus}
-use Rattle.steps.proofs.MadeLaws.{made-within, made-monic, made-sound}
+use Rattle.steps.proofs.MadeLaws.{Made, made-within, made-monic, made-sound}
 use Rattle.loading.specs.Started.{Loaded}
 
 pub readable-modulus : {w : List ℕ} {p n : ℕ} → Readable w p n → Modulus p
@@ -25,10 +25,11 @@ module _ (w : List ℕ) (p n head : ℕ) (f : Poly) (readable : Readable w p n) 
       → ((i : ℕ) → getD (s ++ drop m r) i 0 < 18446744073709551616) → Loaded p f m (s ++ drop m r)
   loaded-monic m r s x h k e small =
       let prime = readable-modulus readable .prime in
-      let same = made-monic p m r s prime (x .within) h k e ∙ ap (monic p) (x .holds) in
+      let M : Made p m r s = record { prime = prime; within = x .within; holds = h; kept = k; is = e } in
+      let same = made-monic M ∙ ap (monic p) (x .holds) in
       record {
-        within = made-within p m r s prime (x .within) h k e;
-        sound = made-sound p m r s prime (x .within) h k e small;
+        within = made-within M;
+        sound = made-sound M small;
         holds = same;
         monic = stored-monic p (take m (s ++ drop m r)) f prime (head-admissible w p n head f inside is-read .canonical) same;
       }

@@ -20,10 +20,16 @@ small-take (suc n) (x ∷ s) m l h zero = h 0
 small-take (suc n) (x ∷ s) m l h (suc i) = small-take n s m l (λ j. h (suc j)) i
 
 -- The first n words of r were made monic: m stands in their place.
-module _ (p n : ℕ) (r m : List ℕ) (prime : Prime p) (l : n ≤ length r) (h : Holds p (take n r)) (k : length m ≡ length (take n r))
-    (e : terms m ≡ monic p (terms (take n r))) where
+pub record Made (p n : ℕ) (r m : List ℕ) : Type 0 where
+  pub prime : Prime p
+  pub within : n ≤ length r
+  pub holds : Holds p (take n r)
+  pub kept : length m ≡ length (take n r)
+  pub is : terms m ≡ monic p (terms (take n r))
+
+module _ {p n : ℕ} {r m : List ℕ} (M : Made p n r m) where
   long : length m ≡ n
-  long = k ∙ length-take-le n r l
+  long = M .kept ∙ length-take-le n r (M .within)
 
   made : take n (m ++ drop n r) ≡ m
   made = take-at m (drop n r) n long
@@ -35,14 +41,14 @@ module _ (p n : ℕ) (r m : List ℕ) (prime : Prime p) (l : n ≤ length r) (h 
   made-within = omega (arith, long, length-append m (drop n r))
 
   pub made-monic : terms (take n (m ++ drop n r)) ≡ monic p (terms (take n r))
-  made-monic = ap terms made ∙ e
+  made-monic = ap terms made ∙ M .is
 
   pub made-sound : ((i : ℕ) → getD (m ++ drop n r) i 0 < 18446744073709551616) → Sound p (take n (m ++ drop n r))
   made-sound small = record {
     holds = record {
-      pairs = ap (λ (f : List ℕ). length f % 2) made ∙ ap (λ (i : ℕ). i % 2) k ∙ h .pairs;
-      few = omega (arith, ap length made, k, h .few);
-      canonical = subst (Canonical p) (sym made-monic) (canonical-monic p (terms (take n r)) (omega (arith, prime .two≤)));
+      pairs = ap (λ (f : List ℕ). length f % 2) made ∙ ap (λ (i : ℕ). i % 2) (M .kept) ∙ M .holds .pairs;
+      few = omega (arith, ap length made, M .kept, M .holds .few);
+      canonical = subst (Canonical p) (sym made-monic) (canonical-monic p (terms (take n r)) (omega (arith, M .prime .two≤)));
     };
     small = small-take n (m ++ drop n r) 18446744073709551616 (omega arith) small;
   }

@@ -37,18 +37,30 @@ module _ (p k d : ℕ) where
           (ap (λ (n : ℕ). drop n (t ∷ f)) s ∙ ih .0 ∙ sym (without-of k d t f q), omega (arith, s, ih .1))
       go ih false e =
           let q : getD (t .exps) k 0 ≢ d = eqb-false (getD (t .exps) k 0) d e in
-          let a : All (λ e. getD e k 0 ≢ d) (t ∷ f) = all-map (λ e. getD e k 0 ≤ getD (t .exps) k 0) (λ e. getD e k 0 ≢ d) (t ∷ f) (λ e l z. q (omega (arith, m .0))) (falling p k 8 t f c u h) in
+          let low = falling p k 8 t f c u h in
+          let a : All (λ e. getD e k 0 ≢ d) (t ∷ f) = all-map (λ e. getD e k 0 ≤ getD (t .exps) k 0) (λ e. getD e k 0 ≢ d) (t ∷ f) (λ e l z. q (omega (arith, m .0))) low in
           let s = ap length (coefficient-none k d (t ∷ f) a) in
           (ap (λ (n : ℕ). drop n (t ∷ f)) s ∙ sym (without-none k d (t ∷ f) a), omega (arith, s))
 
+initial-first : (p k : ℕ) (f : Poly) → Canonical p f → Places 8 f → leader f ≡ k + 1 → Behind p k (degree k f) f
+initial-first p k f c u led =
+    behind p k (degree k f) f c u (λ j l. above-leader f j (omega (arith, led))) (all-degree k (degree k f) f (omega arith))
+
 pub initial-few : (p k : ℕ) (f : Poly) → Canonical p f → Places 8 f → leader f ≡ k + 1 → length (initial k f) ≤ length f
 unfolding initial
-initial-few p k f c u led = behind p k (degree k f) f c u (λ j l. above-leader f j (omega (arith, led))) (all-degree k (degree k f) f (omega arith)) .1
+initial-few p k f c u led = initial-first p k f c u led .1
+
+-- The first n words of y are the rest of t.
+pub record Rest-in (p k : ℕ) (t y : List ℕ) (n : ℕ) : Type 0 where
+  pub inside : n ≤ length y
+  pub is : terms (take n y) ≡ rest k (terms t)
+  pub holds : Holds p (take n y)
 
 -- t is led by v(k+1), and i is its initial.
-module _ (p k : ℕ) (t i : List ℕ) (c : Canonical p (terms t)) (led : leader (terms t) ≡ k + 1) (u : Pairs t) (v : Pairs i) (e : terms i ≡ initial k (terms t)) where
+module _ (p k : ℕ) (t i : List ℕ) (c : Canonical p (terms t)) (led : leader (terms t) ≡ k + 1) (u : Pairs t) (v : Pairs i)
+    (e : terms i ≡ initial k (terms t)) where
   both : Behind p k (degree k (terms t)) (terms t)
-  both = behind p k (degree k (terms t)) (terms t) c (places-terms t) (λ j l. above-leader (terms t) j (omega (arith, led))) (all-degree k (degree k (terms t)) (terms t) (omega arith))
+  both = initial-first p k (terms t) c (places-terms t) led
 
   long : length i ≡ 2 * length (coefficient k (degree k (terms t)) (terms t))
   unfolding initial
@@ -76,15 +88,19 @@ module _ (p k : ℕ) (t i : List ℕ) (c : Canonical p (terms t)) (led : leader 
         ∙ take-paste r 0 (drop (length i) t) (length t - length i) (omega arith) (omega (arith, left))
         ∙ take-all (length t - length i) (drop (length i) t) (omega (arith, left))
 
-    pub rest-is : terms (take (length t - length i) y) ≡ rest k (terms t)
-    rest-is = ap terms first ∙ rest-behind
+    is-rest : terms (take (length t - length i) y) ≡ rest k (terms t)
+    is-rest = ap terms first ∙ rest-behind
 
-    pub rest-inside : length t - length i ≤ length y
-    rest-inside = omega (arith, few, room, ap length copied, length-paste r 0 (drop (length i) t) (length t - length i) (omega (arith, few, room)) (omega (arith, left)))
+    pasted : length (paste r 0 (drop (length i) t) (length t - length i)) ≡ length r
+    pasted = length-paste r 0 (drop (length i) t) (length t - length i) (omega (arith, few, room)) (omega (arith, left))
 
-    pub rest-holds : Holds p (take (length t - length i) y)
-    rest-holds = record {
-      pairs = omega (arith, ap length first, left, initial-inside, u, v);
-      few = omega (arith, ap length first, left, few);
-      canonical = subst (Canonical p) (sym rest-is) (canonical-rest p k (terms t) c);
+    pub rest-in : Rest-in p k t y (length t - length i)
+    rest-in = record {
+      inside = omega (arith, few, room, ap length copied, pasted);
+      is = is-rest;
+      holds = record {
+        pairs = omega (arith, ap length first, left, initial-inside, u, v);
+        few = omega (arith, ap length first, left, few);
+        canonical = subst (Canonical p) (sym is-rest) (canonical-rest p k (terms t) c);
+      };
     }

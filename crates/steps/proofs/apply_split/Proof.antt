@@ -9,11 +9,11 @@ use lib.Seq.{length-take-le}
 use Rattle.polynomials.specs.Poly.{monic}
 use Rattle.polynomials.specs.Division.{rest}
 use Rattle.polynomials.specs.Packed.{terms}
-use Rattle.polynomials.specs.Working.{Holds}
+use Rattle.stored.specs.Stored.{Storable}
 use Rattle.representation.specs.Represent.{Sound}
 use Rattle.representation.specs.laws.Sounds.{sound-storable}
-use Rattle.steps.proofs.MadeLaws.{made-length, made-monic, made-sound}
-use Rattle.steps.proofs.RestLaws.{initial-inside, rest-is, rest-inside, rest-holds}
+use Rattle.steps.proofs.MadeLaws.{Made, made-length, made-monic, made-sound}
+use Rattle.steps.proofs.RestLaws.{Rest-in, rest-in, initial-inside}
 use Rattle.steps.proofs.apply_split.Statement.{statement}
 use Rattle.steps.proofs.apply_split.Tie as tie
 
@@ -28,32 +28,28 @@ module _ (c : tie.After-slice-known3) where
   abbrev start : tie.Start
   start = c .before .before .before .before .before .before .before .before
 
+  abbrev p : ℕ
+  p = start .args .p
+
+  abbrev k : ℕ
+  k = start .args .k
+
+  abbrev T : List ℕ
+  T = start .args .t .now
+
   abbrev l : ℕ
-  l = length (start .args .t .now) - length (start .args .i .now)
+  l = length T - length (start .args .i .now)
 
   abbrev copied : List ℕ
   copied = c .before .before .copy .last .1 .1 .0
 
-  fits : l ≤ length copied
-  fits =
+  the-rest : Rest-in p k T copied l
+  the-rest =
       let s = start in
       let t = s .pre .1 .0 .0 .holds in
       let i = s .pre .1 .1 .0 in
-      rest-inside (s .args .p) (s .args .k) (s .args .t .now) (s .args .i .now) (t .canonical) (s .pre .1 .0 .1) (t .pairs) (i .0 .holds .pairs) (i .1) (t .few) (s .args .r .now) copied (s .pre .0 .2) (c .before .before .copy .ensures)
-
-  holds : Holds (start .args .p) (take l copied)
-  holds =
-      let s = start in
-      let t = s .pre .1 .0 .0 .holds in
-      let i = s .pre .1 .1 .0 in
-      rest-holds (s .args .p) (s .args .k) (s .args .t .now) (s .args .i .now) (t .canonical) (s .pre .1 .0 .1) (t .pairs) (i .0 .holds .pairs) (i .1) (t .few) (s .args .r .now) copied (s .pre .0 .2) (c .before .before .copy .ensures)
-
-  is-rest : terms (take l copied) ≡ rest (start .args .k) (terms (start .args .t .now))
-  is-rest =
-      let s = start in
-      let t = s .pre .1 .0 .0 .holds in
-      let i = s .pre .1 .1 .0 in
-      rest-is (s .args .p) (s .args .k) (s .args .t .now) (s .args .i .now) (t .canonical) (s .pre .1 .0 .1) (t .pairs) (i .0 .holds .pairs) (i .1) (t .few) (s .args .r .now) copied (s .pre .0 .2) (c .before .before .copy .ensures)
+      rest-in p k T (s .args .i .now) (t .canonical) (s .pre .1 .0 .1) (t .pairs) (i .0 .holds .pairs) (i .1) (t .few)
+      (s .args .r .now) copied (s .pre .0 .2) (c .before .before .copy .ensures)
 
 -- The rest as it was made monic.
 module _ (c : tie.After-slice-known4) where
@@ -66,16 +62,20 @@ module _ (c : tie.After-slice-known4) where
   abbrev words : List ℕ
   words = take (l before-it) (made ++ drop (l before-it) (copied before-it))
 
-  fills : l before-it ≡ length words
-  fills = made-length (start before-it .args .p) (l before-it) (copied before-it) made (start before-it .pre .0 .1 .prime) (fits before-it) (holds before-it) (c .before .before .monic .kept .1 .0) (c .before .before .monic .ensures)
+  is-made : Made (p before-it) (l before-it) (copied before-it) made
+  is-made = record {
+    prime = start before-it .pre .0 .1 .prime;
+    within = the-rest before-it .inside;
+    holds = the-rest before-it .holds;
+    kept = c .before .before .monic .kept .1 .0;
+    is = c .before .before .monic .ensures;
+  }
 
-  is-monic : terms words ≡ monic (start before-it .args .p) (rest (start before-it .args .k) (terms (start before-it .args .t .now)))
-  is-monic =
-      made-monic (start before-it .args .p) (l before-it) (copied before-it) made (start before-it .pre .0 .1 .prime) (fits before-it) (holds before-it) (c .before .before .monic .kept .1 .0) (c .before .before .monic .ensures)
-      ∙ ap (monic (start before-it .args .p)) (is-rest before-it)
+  is-monic : terms words ≡ monic (p before-it) (rest (k before-it) (terms (T before-it)))
+  is-monic = made-monic is-made ∙ ap (monic (p before-it)) (the-rest before-it .is)
 
-  is-sound : Sound (start before-it .args .p) words
-  is-sound = made-sound (start before-it .args .p) (l before-it) (copied before-it) made (start before-it .pre .0 .1 .prime) (fits before-it) (holds before-it) (c .before .before .monic .kept .1 .0) (c .before .before .monic .ensures) (λ i. c .slice-known4 .given i .fits)
+  is-sound : Sound (p before-it) words
+  is-sound = made-sound is-made (λ i. c .slice-known4 .given i .fits)
 
 sub-l : tie.Need-sub-l
 sub-l c = inside (c .before .before .before .before)
@@ -84,26 +84,29 @@ copy-requires : tie.Need-copy-requires
 copy-requires c κs = let s = c .before .before .before .before .before in (inside s, omega (arith, s .pre .0 .2, s .pre .1 .0 .0 .holds .few))
 
 slice-relend-prefix-monic : tie.Need-slice-relend-prefix-monic
-slice-relend-prefix-monic c = fits c
+slice-relend-prefix-monic c = the-rest c .inside
 
 slice-aggregate-monic : tie.Need-slice-aggregate-monic
-slice-aggregate-monic c = sym (length-take-le (l (c .before)) (copied (c .before)) (fits (c .before)))
+slice-aggregate-monic c = let a = c .before in sym (length-take-le (l a) (copied a) (the-rest a .inside))
 
 monic-requires : tie.Need-monic-requires
-monic-requires c κs = let m = start (c .before) .pre .0 .1 in ((m .prime, m .below), (holds (c .before) .pairs, holds (c .before) .canonical))
+monic-requires c κs =
+    let m = start (c .before) .pre .0 .1 in
+    let h = the-rest (c .before) .holds in
+    ((m .prime, m .below), (h .pairs, h .canonical))
 
 slice-reshare-prefix-split : tie.Need-slice-reshare-prefix-split
 slice-reshare-prefix-split c = search needs
 
 slice-aggregate-split : tie.Need-slice-aggregate-split
-slice-aggregate-split c = fills (c .before .before)
+slice-aggregate-split c = made-length (is-made (c .before .before))
 
 split-requires : tie.Need-split-requires
 split-requires c κs =
     let a = c .before .before in
     let s = start (before-it a) in
-    let word = s .pre .0 .1 .below in
-    (s .pre .0 .0, (s .pre .1 .1 .1, (sound-storable (s .args .p) (omega (arith, word)) _ (s .pre .1 .0 .0), (sound-storable (s .args .p) (omega (arith, word)) _ (s .pre .1 .1 .0 .0), sound-storable (s .args .p) (omega (arith, word)) (words a) (is-sound a)))))
+    let storable : (f : List ℕ) → Sound (s .args .p) f → Storable f = sound-storable (s .args .p) (omega (arith, s .pre .0 .1 .below)) in
+    (s .pre .0 .0, (s .pre .1 .1 .1, (storable _ (s .pre .1 .0 .0), (storable _ (s .pre .1 .1 .0 .0), storable (words a) (is-sound a)))))
 
 same-length : tie.Need-same-length
 same-length c = search needs

@@ -8,40 +8,49 @@ use lib.ListN.{length, take, drop}
 use lib.Seq.{length-take-le}
 use Rattle.polynomials.specs.Poly.{monic}
 use Rattle.polynomials.specs.Packed.{terms}
+use Rattle.stored.specs.Stored.{Storable}
 use Rattle.representation.specs.Represent.{Sound}
 use Rattle.representation.specs.laws.Sounds.{sound-storable}
-use Rattle.steps.proofs.MadeLaws.{made-length, made-monic, made-sound}
+use Rattle.steps.proofs.MadeLaws.{Made, made-length, made-monic, made-sound}
 use Rattle.steps.proofs.TakeLaws.{behind, put-Q, put-P}
 use Rattle.steps.proofs.put_back.Statement.{statement}
 use Rattle.steps.proofs.put_back.Tie as tie
 
 -- The words that are put: n from the first of r, after `monic`.
-abbrev start : tie.After-slice-known3 → tie.Start
+abbrev Monic : Type 0
+Monic = tie.After-slice-known3
+
+abbrev start : Monic → tie.Start
 start c = c .before .before .before .before .before .before
 
-abbrev made : tie.After-slice-known3 → List ℕ
+abbrev given : Monic → List ℕ
+given c = take (start c .args .n) (start c .args .r .now)
+
+abbrev made : Monic → List ℕ
 made c = c .before .before .monic .last .1 .0
 
-abbrev words : tie.After-slice-known3 → List ℕ
+abbrev words : Monic → List ℕ
 words c = take (start c .args .n) (made c ++ drop (start c .args .n) (start c .args .r .now))
 
-fills : (c : tie.After-slice-known3) → start c .args .n ≡ length (words c)
-fills c =
+is-made : (c : Monic) → Made (start c .args .p) (start c .args .n) (start c .args .r .now) (made c)
+is-made c =
     let s = start c in
-    let q = s .pre .1 .1 in
-    made-length (s .args .p) (s .args .n) (s .args .r .now) (made c) (s .pre .0 .1 .prime) (q .0) (q .1) (c .before .before .monic .kept .1 .0) (c .before .before .monic .ensures)
+    record {
+      prime = s .pre .0 .1 .prime;
+      within = s .pre .1 .1 .0;
+      holds = s .pre .1 .1 .1;
+      kept = c .before .before .monic .kept .1 .0;
+      is = c .before .before .monic .ensures;
+    }
 
-monic-of : (c : tie.After-slice-known3) → terms (words c) ≡ monic (start c .args .p) (terms (take (start c .args .n) (start c .args .r .now)))
-monic-of c =
-    let s = start c in
-    let q = s .pre .1 .1 in
-    made-monic (s .args .p) (s .args .n) (s .args .r .now) (made c) (s .pre .0 .1 .prime) (q .0) (q .1) (c .before .before .monic .kept .1 .0) (c .before .before .monic .ensures)
+monic-of : (c : Monic) → terms (words c) ≡ monic (start c .args .p) (terms (given c))
+monic-of c = made-monic (is-made c)
 
-sound-of : (c : tie.After-slice-known3) → Sound (start c .args .p) (words c)
-sound-of c =
-    let s = start c in
-    let q = s .pre .1 .1 in
-    made-sound (s .args .p) (s .args .n) (s .args .r .now) (made c) (s .pre .0 .1 .prime) (q .0) (q .1) (c .before .before .monic .kept .1 .0) (c .before .before .monic .ensures) (λ i. c .slice-known3 .given i .fits)
+sound-of : (c : Monic) → Sound (start c .args .p) (words c)
+sound-of c = made-sound (is-made c) (λ i. c .slice-known3 .given i .fits)
+
+storable : (c : Monic) → Storable (words c)
+storable c = let s = start c in sound-storable (s .args .p) (omega (arith, s .pre .0 .1 .below)) (words c) (sound-of c)
 
 slice-relend-prefix-monic : tie.Need-slice-relend-prefix-monic
 slice-relend-prefix-monic c = search needs
@@ -56,13 +65,13 @@ slice-reshare-prefix-put-q : tie.Need-slice-reshare-prefix-put-q
 slice-reshare-prefix-put-q c = search needs
 
 slice-aggregate-put-q : tie.Need-slice-aggregate-put-q
-slice-aggregate-put-q c = fills (c .before .before .before)
+slice-aggregate-put-q c = made-length (is-made (c .before .before .before))
 
 put-q-requires : tie.Need-put-q-requires
 put-q-requires c κs =
     let a = c .before .before .before in
     let s = start a in
-    (s .pre .0 .0, ((λ b bs ss H. behind (s .args .left) b (c .before .before .if1 .taken) (s .pre .1 .0 b bs ss H)), sound-storable (s .args .p) (omega (arith, s .pre .0 .1 .below)) (words a) (sound-of a)))
+    (s .pre .0 .0, ((λ b bs ss H. behind (s .args .left) b (c .before .before .if1 .taken) (s .pre .1 .0 b bs ss H)), storable a))
 
 same-length : tie.Need-same-length
 same-length c = search needs
@@ -72,21 +81,20 @@ same-length-2 c = search needs
 
 returns : tie.Need-returns
 returns c = λ b bs ss H.
-    let a = c .before .before .before .before .before .before in
+    let e = c .before .before .before .before .before in
+    let a = e .before in
     let s = start a in
-    put-Q (s .args .left) b (s .args .p) (take (s .args .n) (s .args .r .now)) bs ss _ _ _ (words a) (sound-of a) (monic-of a) (c .before .before .before .before .before .if1 .taken) (c .before .before .put-q .ensures b bs ss H)
+    put-Q (s .args .left) b (s .args .p) (given a) bs ss _ _ _ (words a) (sound-of a) (monic-of a) (e .if1 .taken) (c .before .before .put-q .ensures b bs ss H)
 
 slice-reshare-prefix-put-p : tie.Need-slice-reshare-prefix-put-p
 slice-reshare-prefix-put-p c = search needs
 
 slice-aggregate-put-p : tie.Need-slice-aggregate-put-p
-slice-aggregate-put-p c = fills (c .before .before .before)
+slice-aggregate-put-p c = made-length (is-made (c .before .before .before))
 
 put-p-requires : tie.Need-put-p-requires
 put-p-requires c κs =
-    let a = c .before .before .before in
-    let s = start a in
-    (s .pre .0 .0, sound-storable (s .args .p) (omega (arith, s .pre .0 .1 .below)) (words a) (sound-of a))
+    let a = c .before .before .before in (start a .pre .0 .0, storable a)
 
 same-length-3 : tie.Need-same-length-3
 same-length-3 c = search needs
@@ -96,9 +104,10 @@ same-length-4 c = search needs
 
 returns-2 : tie.Need-returns-2
 returns-2 c = λ b bs ss H.
-    let a = c .before .before .before .before .before .before in
+    let e = c .before .before .before .before .before in
+    let a = e .before in
     let s = start a in
-    put-P (s .args .left) b (s .args .p) (take (s .args .n) (s .args .r .now)) bs ss _ _ _ (words a) (sound-of a) (monic-of a) (c .before .before .before .before .before .if1 .left) (c .before .before .put-p .ensures b bs ss H)
+    put-P (s .args .left) b (s .args .p) (given a) bs ss _ _ _ (words a) (sound-of a) (monic-of a) (e .if1 .left) (c .before .before .put-p .ensures b bs ss H)
 
 pub put-back-spec : {M : Type 1} → statement M
 put-back-spec =

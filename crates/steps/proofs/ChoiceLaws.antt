@@ -64,11 +64,18 @@ at-inside (suc i) f (g ∷ fs) a = omega (arith, at-inside i f fs a)
 no : {A : Type 0} → _≡_ {A = ℕ} 0 1 → A
 no z = absurd (omega arith)
 
+-- A branch that has 1 in P or 0 in Q is dropped.
+abbrev choice-if : Bool → Choice → Choice
+choice-if o q = elim o as (λ o. Choice) [ true ↦ Drop | false ↦ q ]
+
+abbrev rule-if : Bool → Rule → Rule
+rule-if o r = elim o as (λ o. Rule) [ true ↦ drop | false ↦ r ]
+
 pub chosen-drop : (b : Branch) → choice b ≡ Drop → rule-of b ≡ drop
 unfolding choice rule-of
 chosen-drop b e = go (some-one (b .P) || some-zero (b .Q)) (b .P) e
   where
-    go : (o : Bool) (P : List Poly) → (elim o as (λ o. Choice) [ true ↦ Drop | false ↦ choice-of-P P ]) ≡ Drop → (elim o as (λ o. Rule) [ true ↦ drop | false ↦ rule-of-P P b ]) ≡ drop
+    go : (o : Bool) (P : List Poly) → choice-if o (choice-of-P P) ≡ Drop → rule-if o (rule-of-P P b) ≡ drop
     go true P e = refl
     go false [] e = no cc
     go false (f ∷ fs) e = no cc
@@ -77,7 +84,7 @@ pub chosen-list : (b : Branch) → choice b ≡ Lists → (rule-of b ≡ list) �
 unfolding choice rule-of
 chosen-list b e = go (some-one (b .P) || some-zero (b .Q)) (b .P) e
   where
-    go : (o : Bool) (P : List Poly) → (elim o as (λ o. Choice) [ true ↦ Drop | false ↦ choice-of-P P ]) ≡ Lists → ((elim o as (λ o. Rule) [ true ↦ drop | false ↦ rule-of-P P b ]) ≡ list) × (P ≡ [])
+    go : (o : Bool) (P : List Poly) → choice-if o (choice-of-P P) ≡ Lists → (rule-if o (rule-of-P P b) ≡ list) × (P ≡ [])
     go true P e = no cc
     go false [] e = (refl, refl)
     go false (f ∷ fs) e = no cc
@@ -86,12 +93,12 @@ module _ (p k i : ℕ) where
   abbrev Chosen-pivot : Stored → Type 0
   Chosen-pivot b = (rule-of (branch-of b) ≡ rule-with k (chosen b i) (branch-of b)) × Leads k i b
 
-  pub chosen-pivot : (P Q T : List (List ℕ)) → All-sound p P → All-monic P → Each (λ f. f ≢ []) P → choice (branch-of (record { P = P; Q = Q; T = T })) ≡ Pivot k i
-      → Chosen-pivot (record { P = P; Q = Q; T = T })
+  pub chosen-pivot : (P Q T : List (List ℕ)) → All-sound p P → All-monic P → Each (λ f. f ≢ []) P
+      → choice (branch-of (record { P = P; Q = Q; T = T })) ≡ Pivot k i → Chosen-pivot (record { P = P; Q = Q; T = T })
   unfolding choice rule-of
   chosen-pivot [] Q T s m z e = no (go (some-one [] || some-zero (map terms Q)) e)
     where
-      go : (o : Bool) → (elim o as (λ o. Choice) [ true ↦ Drop | false ↦ Lists ]) ≡ Pivot k i → _≡_ {A = ℕ} 0 1
+      go : (o : Bool) → choice-if o Lists ≡ Pivot k i → _≡_ {A = ℕ} 0 1
       go true e = cc
       go false e = cc
   chosen-pivot (f ∷ fs) Q T s m z e = go (some-one (map terms (f ∷ fs)) || some-zero (map terms Q)) refl e
@@ -105,8 +112,12 @@ module _ (p k i : ℕ) where
       c : Chosen
       c = pivot (h - 1) (terms f) (map terms fs)
 
-      go : (o : Bool) → (some-one (map terms (f ∷ fs)) || some-zero (map terms Q)) ≡ o → (elim o as (λ o. Choice) [ true ↦ Drop | false ↦ Pivot (h - 1) (c .place) ]) ≡ Pivot k i
-          → ((elim o as (λ o. Rule) [ true ↦ drop | false ↦ rule-with (h - 1) c (branch-of b) ]) ≡ rule-with k (chosen b i) (branch-of b)) × Leads k i b
+      led : c .place ≡ i → c ≡ chosen b (c .place) → leader (terms (getD (f ∷ fs) i [])) ≡ h
+      led ei at =
+          ap (λ (i : ℕ). leader (terms (getD (f ∷ fs) i []))) (sym ei) ∙ ap (λ (d : Chosen). leader (d .poly)) (sym at) ∙ pivot-leads (terms f) (map terms fs)
+
+      go : (o : Bool) → (some-one (map terms (f ∷ fs)) || some-zero (map terms Q)) ≡ o → choice-if o (Pivot (h - 1) (c .place)) ≡ Pivot k i
+          → (rule-if o (rule-with (h - 1) c (branch-of b)) ≡ rule-with k (chosen b i) (branch-of b)) × Leads k i b
       go true q e = no cc
       go false q e =
           let ek : h - 1 ≡ k = cc in
@@ -116,8 +127,8 @@ module _ (p k i : ℕ) where
           let low = some-leader p f fs (s .0) (m .0) (z .0) (neither (some-one (map terms (f ∷ fs))) (some-zero (map terms Q)) q .0) in
           let high = leaders-at-most-8 (f ∷ fs) in
           let inside = at-inside (c .place) (c .poly) (f ∷ fs) stands in
-          let led : leader (terms (getD (f ∷ fs) i [])) ≡ h = ap (λ (i : ℕ). leader (terms (getD (f ∷ fs) i []))) (sym ei) ∙ ap (λ (d : Chosen). leader (d .poly)) (sym at) ∙ pivot-leads (terms f) (map terms fs) in
-          (ap (λ (d : Chosen). rule-with (h - 1) d (branch-of b)) at ∙ ap₂ (λ (k i : ℕ). rule-with k (chosen b i) (branch-of b)) ek ei, (omega (arith, ek, low, high), omega (arith, inside, ei), omega (arith, led, ek, low)))
+          let same = ap (λ (d : Chosen). rule-with (h - 1) d (branch-of b)) at ∙ ap₂ (λ (k i : ℕ). rule-with k (chosen b i) (branch-of b)) ek ei in
+          (same, (omega (arith, ek, low, high), omega (arith, inside, ei), omega (arith, led ei at, ek, low)))
 
 -- ── rules 1 and 2 ──
 module _ (l : Limits) (p : ℕ) (b : Stored) (bs ss : List Stored) where

@@ -19,7 +19,8 @@ module _ (s : Bounds) (p k d : ℕ) (T R : Poly) where
   remainder-done (suc n) h = ap (by-test n) (lt-leb d (degree k R) h)
 
   -- Another round.
-  pub remainder-again : (n : ℕ) → degree k R < n → d ≤ degree k R → (m : ℕ) × (n ≡ suc m) × (bounded-remainder s p k d T n R ≡ and-then (bounded-round s p k d T R) (bounded-remainder s p k d T m))
+  pub remainder-again : (n : ℕ) → degree k R < n → d ≤ degree k R
+      → (m : ℕ) × (n ≡ suc m) × (bounded-remainder s p k d T n R ≡ and-then (bounded-round s p k d T R) (bounded-remainder s p k d T m))
   unfolding bounded-remainder
   remainder-again zero l h = absurd (omega arith)
   remainder-again (suc n) l h = (n, refl, ap (by-test n) (le-leb d (degree k R) h))

@@ -47,8 +47,8 @@ pub record Pivot-in (p k place : ℕ) (b : Stored) (t : List ℕ) (n : ℕ) : Ty
   pub sound : Sound p (take n t)
   pub led : leader (terms (take n t)) ≡ k + 1
 
-pub pivot-in : (p k place : ℕ) (b : Stored) (bs ss : List Stored) (t : List ℕ) (n : ℕ) → Ready p (with-open b bs ss) → Leads k place b → length (getD (b .P) place []) ≤ length t
-    → (n ≡ length (getD (b .P) place [])) × (take n t ≡ getD (b .P) place []) → Pivot-in p k place b t n
+pub pivot-in : (p k place : ℕ) (b : Stored) (bs ss : List Stored) (t : List ℕ) (n : ℕ) → Ready p (with-open b bs ss) → Leads k place b
+    → length (getD (b .P) place []) ≤ length t → (n ≡ length (getD (b .P) place [])) × (take n t ≡ getD (b .P) place []) → Pivot-in p k place b t n
 pivot-in p k place b bs ss t n R L room e =
     let s = sound-at p place (b .P) (R .sound .branches .0 .in-P) in
     record {
@@ -68,11 +68,12 @@ pub initial-in : (p k : ℕ) (f i : List ℕ) (m : ℕ) → Sound p f → leader
     → ((j : ℕ) → getD i j 0 < 18446744073709551616) → Initial-in p k f i m
 initial-in p k f i m s led W small =
     let c = s .holds .canonical in
+    let few = initial-few p k (terms f) c (places-terms f) led in
     record {
       inside = W .within;
       is = W .holds;
       sound = record {
-        holds = written-holds p (initial k (terms f)) m i W (omega (arith, W .pairs, initial-few p k (terms f) c (places-terms f) led, length-terms f, s .holds .few)) (canonical-initial p k (terms f) c);
+        holds = written-holds p (initial k (terms f)) m i W (omega (arith, W .pairs, few, length-terms f, s .holds .few)) (canonical-initial p k (terms f) c);
         small = small-take m i 18446744073709551616 (omega arith) small;
       };
     }
@@ -167,11 +168,14 @@ module _ (l : Limits) (p k i : ℕ) (b : Stored) (bs ss : List Stored) where
       goes = divide-goes c (chosen-at b c (u .0)) (terms (take N t)) same;
     }
 
-    pub comes : (d : Division) → d ≡ D (other k i (branch-of b .P)) → Held v most (with-open (aimed (other k i (branch-of b .P)) i b) bs ss)
-        → rule-with k (chosen b i) (branch-of b) ≡ divide-or-close k (chosen b i) (other k i (branch-of b .P))
-        → Comes l p (apply l p (map branch-of bs) (reverse (map system-of ss)) (rule-with k (chosen b i) (branch-of b)) (branch-of b)) d t j v most (aimed (other k i (branch-of b .P)) i b) bs ss
+    abbrev O : Found
+    O = other k i (branch-of b .P)
+
+    abbrev pub Comes-by : Rule → Division → Type 0
+    Comes-by r d = Comes l p (apply l p (map branch-of bs) (reverse (map system-of ss)) r (branch-of b)) d t j v most (aimed (other k i (branch-of b .P)) i b) bs ss
+
+    pub comes : (d : Division) → d ≡ D O → Held v most (with-open (aimed O i b) bs ss)
+        → rule-with k (chosen b i) (branch-of b) ≡ divide-or-close k (chosen b i) O → Comes-by (rule-with k (chosen b i) (branch-of b)) d
     comes d e H q =
-        subst (λ (r : Rule). Comes l p (apply l p (map branch-of bs) (reverse (map system-of ss)) r (branch-of b)) d t j v most (aimed (other k i (branch-of b .P)) i b) bs ss) (sym q) (
-        subst (λ (d : Division). Comes l p (applied (other k i (branch-of b .P))) d t j v most (aimed (other k i (branch-of b .P)) i b) bs ss) (sym e)
-        (comes-from (other k i (branch-of b .P)) (other-is k i (branch-of b .P)) H)
-        )
+        let C : Comes-by (divide-or-close k (chosen b i) O) (D O) = comes-from O (other-is k i (branch-of b .P)) H in
+        subst (λ (r : Rule). Comes-by r d) (sym q) (subst (Comes-by (divide-or-close k (chosen b i) O)) (sym e) C)

@@ -35,20 +35,28 @@ put-P-nonzero (x ∷ f) fs h = each-put-P (λ g. g ≢ []) (x ∷ f) fs (λ e. l
 
 module _ (p k i : ℕ) (prime : Prime p) (b : Stored) (bs ss : List Stored) (R : Ready p (with-open b bs ss)) (L : Leads k i b) (ini rst : List ℕ) (s : Sound p ini)
     (of-ini : terms ini ≡ initial k (terms (getD (b .P) i []))) (u₀ : Sound p rst) (of-rst : terms rst ≡ monic p (rest k (terms (getD (b .P) i [])))) where
-  here : Sound p (getD (b .P) i [])
+  -- The pivot, and the members of P but it.
+  abbrev pivot : List ℕ
+  pivot = getD (b .P) i []
+
+  abbrev others : List (List ℕ)
+  others = remove i (b .P)
+
+  here : Sound p pivot
   here = sound-at p i (b .P) (R .sound .branches .0 .in-P)
 
   ini-monic : Monic (terms ini)
-  ini-monic = subst Monic (sym of-ini) (initial-monic p k 8 (terms (getD (b .P) i [])) (here .holds .canonical) (places-terms (getD (b .P) i [])) (L .2) (monic-at i (b .P) (R .monic .0)))
+  ini-monic =
+      subst Monic (sym of-ini) (initial-monic p k 8 (terms pivot) (here .holds .canonical) (places-terms pivot) (L .2) (monic-at i (b .P) (R .monic .0)))
 
   rst-monic : Monic (terms rst)
-  rst-monic = stored-monic p rst (rest k (terms (getD (b .P) i []))) prime (canonical-rest p k (terms (getD (b .P) i [])) (here .holds .canonical)) of-rst
+  rst-monic = stored-monic p rst (rest k (terms pivot)) prime (canonical-rest p k (terms pivot) (here .holds .canonical)) of-rst
 
   ready-split : Ready p (split-area i ini rst b bs ss)
   ready-split = record {
     sound = split-area-sound p b (R .sound .branches .0) i ini rst s u₀ bs ss (R .sound .branches .1) (R .sound .systems);
-    monic = (R .monic .0, (put-P-monic rst (put-P ini (remove i (b .P))) rst-monic (put-P-monic ini (remove i (b .P)) ini-monic (remove-monic i (b .P) (R .monic .0))), R .monic .1));
-    nonzero = (R .nonzero .0, (put-P-nonzero rst (put-P ini (remove i (b .P))) (put-P-nonzero ini (remove i (b .P)) (each-remove (λ f. f ≢ []) i (b .P) (R .nonzero .0))), R .nonzero .1));
+    monic = (R .monic .0, (put-P-monic rst (put-P ini others) rst-monic (put-P-monic ini others ini-monic (remove-monic i (b .P) (R .monic .0))), R .monic .1));
+    nonzero = (R .nonzero .0, (put-P-nonzero rst (put-P ini others) (put-P-nonzero ini others (each-remove (λ f. f ≢ []) i (b .P) (R .nonzero .0))), R .nonzero .1));
     listed = R .listed;
   }
 
@@ -57,14 +65,18 @@ module _ (p k i : ℕ) (prime : Prime p) (b : Stored) (bs ss : List Stored) (R :
     abbrev S : Stepped
     S = apply (limits-in most) p (map branch-of bs) (reverse (map system-of ss)) (rule-with k (chosen b i) (branch-of b)) (branch-of b)
 
-    splits : S ≡ if-fits q (next (state-of (split-area i ini rst b bs ss)))
+    abbrev if-so : Bool → Stepped
+    if-so o = if-fits o (next (state-of (split-area i ini rst b bs ss)))
+
+    splits : S ≡ if-so q
     splits =
+        let own = stored-initial-own p k pivot here (L .2) (monic-at i (b .P) (R .monic .0)) in
         ap (λ (r : Rule). apply (limits-in most) p (map branch-of bs) (reverse (map system-of ss)) r (branch-of b)) rule
-        ∙ apply-split (limits-in most) p b bs ss (R .sound .branches .0) k i ini rst s u₀ of-ini (stored-initial-own p k (getD (b .P) i []) here (L .2) (monic-at i (b .P) (R .monic .0))) of-rst most refl (omega (arith, H .fits)) (R .listed)
-        ∙ ap (λ (o : Bool). if-fits o (next (state-of (split-area i ini rst b bs ss)))) (sym (u .answer))
+        ∙ apply-split (limits-in most) p b bs ss (R .sound .branches .0) k i ini rst s u₀ of-ini own of-rst most refl (omega (arith, H .fits)) (R .listed)
+        ∙ ap if-so (sym (u .answer))
 
     pub split-next : q ≡ true → (a : Area) × (S ≡ next (state-of a)) × Held v most a × Ready p a
-    split-next e = (split-area i ini rst b bs ss, splits ∙ ap (λ (o : Bool). if-fits o (next (state-of (split-area i ini rst b bs ss)))) e, u .held e, ready-split)
+    split-next e = (split-area i ini rst b bs ss, splits ∙ ap if-so e, u .held e, ready-split)
 
     pub split-stop : q ≡ false → S ≡ stopped Room
-    split-stop e = splits ∙ ap (λ (o : Bool). if-fits o (next (state-of (split-area i ini rst b bs ss)))) e
+    split-stop e = splits ∙ ap if-so e

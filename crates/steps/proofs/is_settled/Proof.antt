@@ -26,7 +26,9 @@ find-q-requires c κs = search needs
 returns-2 : tie.Need-returns-2
 returns-2 c = λ b bs ss H.
     let f = c .before .before .before .before .args .f .now in
-    let n : is-one f ≡ false = ⊎-elim (λ w. not-one-by-monomial f (w .4 .left)) (⊎-elim (λ w. not-one-by-coefficient f (w .2 .left)) (λ w. not-one-by-length f (w .left))) (c .before .if1 .came) in
+    let n : is-one f ≡ false =
+    ⊎-elim (λ w. not-one-by-monomial f (w .4 .left))
+    (⊎-elim (λ w. not-one-by-coefficient f (w .2 .left)) (λ w. not-one-by-length f (w .left))) (c .before .if1 .came) in
     c .find-q .ensures b bs ss H ∙ sym (ap (λ (o : Bool). o || member f (b .Q)) n)
 
 pub is-settled-spec : {M : Type 1} → statement M

@@ -2,7 +2,7 @@
 -- is held in and gives it back, and its result is a machine value that is written out.
 use mathlib.Core.Path.{_≡_, refl, ap, subst, _∙_}
 use Prim.Native.Nat.{ℕ, _<_, _^_}
-use mathlib.Core.Bool.{true, false}
+use mathlib.Core.Bool.{Bool, true, false}
 use mathlib.Core.List.{List, [], _∷_}
 use native.Mathlib.Nat.{lt-trans}
 use lib.Dec.{T as Holds, eqb, lit<}
@@ -13,10 +13,12 @@ use mir.Val.{Val, WT, hasTy, vbool, vint}
 use base.Logic.{SProp, ent, sep, ex, guard, emp, via, assoc∗, assoc′, monoL, snd∗, exE, id⊢}
 use base.Fml.{Lft, Share, Fml, ftrue, flft}
 use prog.Memory.{Memory}
-use prog.Routine.{Routine}
+use prog.Routine.{Routine, Env as Bound}
+use prog.Model.{Model}
 use prog.Wp.{Heap, Env, Calls, Loops, Wp, afterSeq}
 use ghost.Atoms.{Atoms, sem}
 use contract.Monad.{Fun, fact}
+use contract.Running.{GhostRules, Running, tables}
 use types.Kit.{Given, Item, ‵, raw, _⊛_, given, some, later, mean, anyQ, Post, post, prop, lands, settles, runs, Seq, Step, step, _$_, _∵_, !, qed, by, move, keep, use1, use2, split, split3, join, learn, pick, regoal, fjoin, suffices, frame, await, updating, check, done}
 use types.Kit.{now as at-once}
 use types.Run.{Opd, Opds, first, branches, skips}
@@ -35,6 +37,7 @@ use denote.Triple.Call.{calls-from, calls-from-last}
 use denote.Triple.Entry.{Vals}
 use denote.Triple.Spec.{tripleOf}
 use denote.Triple.Clauses.{ensured, lasts}
+use denote.Triple.Table.{cited}
 use denote.Triple.Walked.{says, needs}
 use Rattle.readers.specs.declared.Reader.{Reader}
 use Rattle.tables.specs.Words.{word, records}
@@ -42,15 +45,23 @@ use Rattle.readers.specs.Reader.{reader-at}
 use Rattle.readers.proofs.Held.{B, D, L, token}
 use Rattle.readers.proofs.Reader.Laws as T′
 use Rattle.readers.proofs.new as new
+use Rattle.readers.proofs.new.Symbol as new-def
 use Rattle.readers.proofs.new.Symbol.{name as #new}
+use Rattle.readers.proofs.new.Met as new-thm
 use Rattle.readers.proofs.at as at
+use Rattle.readers.proofs.at.Symbol as at-def
 use Rattle.readers.proofs.at.Symbol.{name as #at}
+use Rattle.readers.proofs.at.Met as at-thm
 use Rattle.readers.proofs.is_over as is-over
+use Rattle.readers.proofs.is_over.Symbol as is-over-def
 use Rattle.readers.proofs.is_over.Symbol.{name as #is-over}
+use Rattle.readers.proofs.is_over.Met as is-over-thm
 use Rattle.readers.proofs.word as words
 use Rattle.readers.proofs.word.Symbol.{name as #word}
 use Rattle.readers.proofs.step as steps
+use Rattle.readers.proofs.step.Symbol as step-def
 use Rattle.readers.proofs.step.Symbol.{name as #step}
+use Rattle.readers.proofs.step.Met as step-thm
 
 -- ── a call that gives back what it asks for ──
 module _ {M : Type 1} (𝓤 : URA M) (H : Heap 𝓤) where
@@ -125,6 +136,17 @@ module _ {M : Type 1} (𝓤 : URA M) (H : Heap 𝓤) (A : Atoms 𝓤) (mem : Mem
     pub at : Triple 𝓤 (C #at) At
     pub is-over : Triple 𝓤 (C #is-over) IsOver
     pub step : Triple 𝓤 (C #step) Steps
+
+-- What the program knows of them, where a function's table of calls binds them.
+module _ {M : Type 1} (𝓤 : URA M) (H : Heap 𝓤) (𝓜 : Model 𝓤 H) (𝓖 : GhostRules 𝓤 H) (𝓡 : Running 𝓤 H 𝓜) (γ : Bound) where
+  pub knows : γ #new ≡ new-def.routine → γ #at ≡ at-def.routine → γ #is-over ≡ is-over-def.routine → γ #step ≡ step-def.routine
+      → Known 𝓤 H (𝓖 .A) (𝓜 .mem) (𝓡 .run) (tables 𝓤 H 𝓜 𝓡 γ .C)
+  knows is-new is-at is-is-over is-step = record {
+    new = cited 𝓤 H (New 𝓤 H (𝓖 .A) (𝓜 .mem) (𝓡 .run)) 𝓜 𝓡 γ #new new-def.routine is-new (new-thm.met 𝓤 H 𝓜 𝓖 𝓡);
+    at = cited 𝓤 H (At 𝓤 H (𝓖 .A) (𝓜 .mem) (𝓡 .run)) 𝓜 𝓡 γ #at at-def.routine is-at (at-thm.met 𝓤 H 𝓜 𝓖 𝓡);
+    is-over = cited 𝓤 H (IsOver 𝓤 H (𝓖 .A) (𝓜 .mem) (𝓡 .run)) 𝓜 𝓡 γ #is-over is-over-def.routine is-is-over (is-over-thm.met 𝓤 H 𝓜 𝓖 𝓡);
+    step = cited 𝓤 H (Steps 𝓤 H (𝓖 .A) (𝓜 .mem) (𝓡 .run)) 𝓜 𝓡 γ #step step-def.routine is-step (step-thm.met 𝓤 H 𝓜 𝓖 𝓡);
+  }
 
 -- A slice that is lent at κ: its machine value, what is owned of it, and that with a share of the token.
 abbrev pub slice : RefT (List ℕ) → Val
@@ -240,6 +262,67 @@ module _ {M : Type 1} (𝓤 : URA M) (H : Heap 𝓤) (A : Atoms 𝓤) (W : Given
           (λ w. id⊢ 𝓤 _) (λ r. exE 𝓤 _ (λ ws. snd∗ 𝓤 (sem 𝓤 H A (lasts steps.ended (κ, tt) (reader-at t i, (j, tt)) ws)) (fact 𝓤 (r ≡ reader-at t found))))
           (λ w r e is. (told r w is ∙ ap T′.lowered e, subst (λ (r : Reader). r .at < 2 ^ 64) e (is .1 .1 .1 .0 .1))) asked had
 
+-- ── a reader of a held table, in a walk ──
+abbrev pub onward : RefT (List ℕ) → ℕ → ℕ → ℕ
+onward t i j = word (now t) i j
+
+-- What is known of the calls by which each walk begins and goes on.
+module _ {M : Type 1} {𝓤 : URA M} {H : Heap 𝓤} {A : Atoms 𝓤} (W : Given 𝓤 H A) (C : Calls 𝓤 H) (κ : Lft) (q : Share) (t : RefT (List ℕ)) where
+  -- f returns v at vs, and φ holds; the table is held again.
+  abbrev Gives : Name → List Val → Val → Type 0 → Type 1
+  Gives f vs v φ = ent 𝓤 (mean 𝓤 H A (Held 𝓤 κ q t)) (C f vs (Returned 𝓤 H v φ (mean 𝓤 H A (Held 𝓤 κ q t))))
+
+  pub record Reading : Type 2 where
+    pub fm : FmC 𝓤 H (W .laws) C
+    pub new : (i : ℕ) → i < 2 ^ 64 → Gives #new (slice t ∷ vint w64 i ∷ []) (reader t i) (Unit {0})
+    pub at : (i : ℕ) → i < 2 ^ 64 → Gives #at (reader t i ∷ []) (vint w64 i) (Unit {0})
+    pub is-over : (i : ℕ) → i < 2 ^ 64 → Gives #is-over (reader t i ∷ []) (vbool (eqb i 0)) (Unit {0})
+    pub step : (i : ℕ) → i < 2 ^ 64 → (j : ℕ) → i < records (now t) → j < 4
+        → Gives #step (reader t i ∷ vint w64 j ∷ []) (reader t (onward t i j)) (onward t i j < 2 ^ 64)
+
+module _ {M : Type 1} {𝓤 : URA M} {H : Heap 𝓤} {A : Atoms 𝓤} {W : Given 𝓤 H A} {C : Calls 𝓤 H} {κ : Lft} {q : Share} {t : RefT (List ℕ)}
+    {K : Type 0} {Γ : List (Item 𝓤)} {E : Env 𝓤 H} {Λ : Loops 𝓤 H} {post : Post 𝓤 H} {d : Place} {xs : List Operand} where
+  -- A reader is made.
+  pub makes-reader : K → Reading W C κ q t → (i : ℕ) → i < 2 ^ 64 → {rest : Body}
+      → Opds K W (Held 𝓤 κ q t ∷ Γ) E xs (slice t ∷ vint w64 i ∷ [])
+      → Step K W (Held 𝓤 κ q t ∷ Γ) (lands C Λ E d (reader t i) rest post) (Held 𝓤 κ q t ∷ Γ) (runs C Λ E (seq (call #new xs d) rest) post)
+  makes-reader k by i fits os = step (λ s. calls-held k (by .fm) (reader t i) (Unit {0}) (by .new i fits) os (λ _. s))
+
+  -- The number of the record reached is asked for.
+  pub asks-at : K → Reading W C κ q t → (i : ℕ) → i < 2 ^ 64 → {rest : Body} → Opds K W (Held 𝓤 κ q t ∷ Γ) E xs (reader t i ∷ [])
+      → Step K W (Held 𝓤 κ q t ∷ Γ) (lands C Λ E d (vint w64 i) rest post) (Held 𝓤 κ q t ∷ Γ) (runs C Λ E (seq (call #at xs d) rest) post)
+  asks-at k by i fits os = step (λ s. calls-held k (by .fm) (vint w64 i) (Unit {0}) (by .at i fits) os (λ _. s))
+
+  -- It is asked whether the chain is over, where the answer b is known.
+  pub asks-over : K → Reading W C κ q t → (i : ℕ) → i < 2 ^ 64 → {b : Bool} → eqb i 0 ≡ b → {rest : Body}
+      → Opds K W (Held 𝓤 κ q t ∷ Γ) E xs (reader t i ∷ [])
+      → Step K W (Held 𝓤 κ q t ∷ Γ) (lands C Λ E d (vbool b) rest post) (Held 𝓤 κ q t ∷ Γ) (runs C Λ E (seq (call #is-over xs d) rest) post)
+  asks-over k by i fits e {rest} os = step (λ s.
+      calls-held k (by .fm) (vbool (eqb i 0)) (Unit {0}) (by .is-over i fits) os (λ _.
+      regoal k (λ (b : Bool). lands C Λ E d (vbool b) rest post) e refl $ s))
+
+  -- It goes on along word j: more statements follow, or none.
+  module _ (k : K) (by : Reading W C κ q t) (i : ℕ) (fits : i < 2 ^ 64) (j : ℕ) (inside : i < records (now t)) (word-j : j < 4)
+      (os : Opds K W (Held 𝓤 κ q t ∷ Γ) E xs (reader t i ∷ vint w64 j ∷ [])) where
+    pub goes-on : {rest : Body} → (onward t i j < 2 ^ 64 → Seq K W (Held 𝓤 κ q t ∷ Γ) (lands C Λ E d (reader t (onward t i j)) rest post))
+        → Seq K W (Held 𝓤 κ q t ∷ Γ) (runs C Λ E (seq (call #step xs d) rest) post)
+    goes-on s = calls-held k (by .fm) (reader t (onward t i j)) (onward t i j < 2 ^ 64) (by .step i fits j inside word-j) os s
+
+    pub goes-on-last : (onward t i j < 2 ^ 64 → Seq K W (Held 𝓤 κ q t ∷ Γ) (settles E d (reader t (onward t i j)) post))
+        → Seq K W (Held 𝓤 κ q t ∷ Γ) (runs C Λ E (call #step xs d) post)
+    goes-on-last s = calls-held-last k (by .fm) (reader t (onward t i j)) (onward t i j < 2 ^ 64) (by .step i fits j inside word-j) os s
+
+module _ {M : Type 1} (𝓤 : URA M) (H : Heap 𝓤) (A : Atoms 𝓤) (W : Given 𝓤 H A) (mem : Memory → SProp 𝓤) (run : Routine → Fun 𝓤) (C : Calls 𝓤 H)
+    (fm : FmC 𝓤 H (W .laws) C) (κ : Lft) (q : Share) (t : RefT (List ℕ)) where
+  pub reads : Known 𝓤 H A mem run C → Reading W C κ q t
+  reads known = record {
+    fm = fm;
+    new = new-called 𝓤 H A W mem run C fm κ q t (known .new);
+    at = λ i fits. at-called 𝓤 H A W mem run C fm κ q t i fits (known .at);
+    is-over = λ i fits. is-over-called 𝓤 H A W mem run C fm κ q t i fits (known .is-over);
+    step = λ i fits j inside word-j. step-called 𝓤 H A W mem run C fm κ q t i fits j inside word-j (known .step);
+  }
+
 -- ── two slices, lent at two lifetimes: a table and a point ──
 abbrev pub Both : {M : Type 1} (𝓤 : URA M) → Lft → Lft → Share → Share → RefT (List ℕ) → RefT (List ℕ) → Item 𝓤
 Both 𝓤 κ κ′ q q′ t x = Held 𝓤 κ q t ⊛ Held 𝓤 κ′ q′ x
@@ -265,3 +348,15 @@ module _ {M : Type 1} (𝓤 : URA M) (H : Heap 𝓤) (A : Atoms 𝓤) (W : Given
   -- what is had at exit: the tokens, and what each slice owns
   pub at-exit : ent 𝓤 (mean 𝓤 H A (Both 𝓤 κ κ′ q q′ t x)) (sep 𝓤 (mean 𝓤 H A (tokens 𝓤 κ κ′ q q′)) (mean 𝓤 H A (‵ (Own κ′ x) ⊛ ‵ (Own κ t))))
   at-exit = qed W (Both 𝓤 κ κ′ q q′ t x ∷ []) ∵ split ! $ split ! $ move ! (2 ∷ []) $ split ! $ nothing ! $ move ! (1 ∷ 0 ∷ []) $ join ! $ move ! (2 ∷ 0 ∷ []) $ join ! $ frame ! $ done !
+
+  -- a call of a function of both, which gives back the tokens
+  pub called-at-both : (C : Calls 𝓤 H) → FmC 𝓤 H (W .laws) C → {f : Name} (c : Contract 𝓤) → Triple 𝓤 (C f) c
+      → (x′ : c .Ghost) (R : RattleType) (E : R .Denot → SProp 𝓤) (ψ : R .Denot → Type 0) (v : Val) (φ : Type 0)
+      → ((w : Val) → ent 𝓤 (c .post x′ w) (H .⇛ (ex 𝓤 (λ (r : R .Denot).
+      sep 𝓤 (sep 𝓤 (mean 𝓤 H A (tokens 𝓤 κ κ′ q q′)) (sem 𝓤 H A (R .own r (w ∷ [])))) (E r)))))
+      → ((r : R .Denot) → ent 𝓤 (E r) (fact 𝓤 (ψ r))) → ((w : Val) (r : R .Denot) → ψ r → Is R r (w ∷ []) → (w ≡ v) × φ)
+      → ent 𝓤 (mean 𝓤 H A (Both 𝓤 κ κ′ q q′ t x)) (sep 𝓤 (c .pre x′) (mean 𝓤 H A (Owns 𝓤 κ κ′ t x)))
+      → ent 𝓤 (mean 𝓤 H A (Both 𝓤 κ κ′ q q′ t x)) (C f (c .args x′) (Returned 𝓤 H v φ (mean 𝓤 H A (Both 𝓤 κ κ′ q q′ t x))))
+  called-at-both C fm c met x′ R E ψ v φ post said so asked =
+      called 𝓤 H A W C fm c met x′ (mean 𝓤 H A (Both 𝓤 κ κ′ q q′ t x)) (mean 𝓤 H A (tokens 𝓤 κ κ′ q q′)) (mean 𝓤 H A (Owns 𝓤 κ κ′ t x))
+      R E ψ v φ post said so asked back

@@ -126,7 +126,7 @@ fn run_long(work: &mut [u32], p: u64, limit: u32, from: u32) -> Answer
 }
 
 // Eliminates the table: on success the list of systems stands in the first words of the output. The work area may hold anything, and is zero
-// afterwards. Stack: about 8 KiB for a small job, and 50 KiB in long scratch; 1.1 MiB more where a product gathers over 1,024 words.
+// afterwards. Stack: about 90 KiB, of which a small job clears 6; 1.1 MiB more where a product gathers over 1,024 words.
 pub fn eliminate(table: &[u32], work: &mut [u32], output: &mut [u32], limit: u32) -> Answer
     ensures { λ r. ⌜ r ≡ answer-of (eliminated (now (table .entry)) (length (now (work .entry))) (length (now (output .entry))) limit) ⌝ }
     ensures { λ _. ⌜ now (output .exit) ≡ output-after (eliminated (now (table .entry)) (length (now (work .entry))) (length (now (output .entry))) limit) (now (output .entry)) ⌝ }

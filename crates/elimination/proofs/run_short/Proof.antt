@@ -67,7 +67,7 @@ run-long-requires c κs =
     let m = paused c in
     let s = entry m .pre in
     let e = c .before .enum-told .given .1 in
-    (s .0, pause-within (stretch m) e (s .1), pause-holds (stretch m) e (s .1))
+    (s .0, omega (arith, pause-within (stretch m) e (s .1)), pause-holds (stretch m) e (s .1))
 
 same-length-3 : tie.Need-same-length-3
 same-length-3 c = search needs

@@ -51,7 +51,8 @@ module _ (a b : ℕ) where
   row-lent x h k l = omega (arith, mul-le-mul-right b h)
 
   -- Buffers too short for the gathering have 1,024 words.
-  pub short-lent : (f : Poly) (r : Gathered) (x z : List ℕ) → Gathers f (room-for a b) r x z → r ≡ ended.Short → (lent-for-product a b ≤ length x) × (lent-for-product a b ≤ length z) → 512 ≤ length x
+  pub short-lent : (f : Poly) (r : Gathered) (x z : List ℕ) → Gathers f (room-for a b) r x z → r ≡ ended.Short
+      → (lent-for-product a b ≤ length x) × (lent-for-product a b ≤ length z) → 512 ≤ length x
   short-lent f r x z w e l = ⊎-elim (λ (h : length x < room-for a b). omega (arith, l)) (λ (h : length z < room-for a b). omega (arith, l)) (subst (λ r. Gathers f (room-for a b) r x z) e w)
 
 -- ── what a buffer was formed in, and its copy ──
@@ -121,8 +122,8 @@ module _ (p : ℕ) (f g : List ℕ) (pg : Pairs g) where
   -- The row of that term.
   module _ (i j k : ℕ) (at : Place f i j k) (n : ℕ) (x : List ℕ) (so-far : RowsFrom p f g k n x) where
     -- What adding it asks.
-    pub row-asks : (room : ℕ) → (1 ≤ p) × (p < 2147483648) → Canonical p (terms f) → Canonical p (terms g) → degrees-over (at-most 255) (terms f) (terms g) ≡ false → n + length g ≤ room →
-        Adds p (getD f i 0) (getD f j 0) g (take n x) room
+    pub row-asks : (room : ℕ) → (1 ≤ p) × (p < 2147483648) → Canonical p (terms f) → Canonical p (terms g)
+        → degrees-over (at-most 255) (terms f) (terms g) ≡ false → n + length g ≤ room → Adds p (getD f i 0) (getD f j 0) g (take n x) room
     row-asks room hp cf cg h r = (
       (coefficient-below f i (at .even) (at .inside) p cf, hp .1),
       (
@@ -140,7 +141,8 @@ module _ (p : ℕ) (f g : List ℕ) (pg : Pairs g) where
     module _ (m : ℕ) (z : List ℕ) (w : Written (row p f g i j (take n x)) m z) where
       pub row-words : m ≤ n + length g
       row-words =
-          omega (arith, so-far .written .pairs, w .pairs, words-of-terms g pg, ap length (so-far .written .holds), add-multiple-length p (getD f i 0) (bytes 8 (getD f j 0)) (terms g) (terms (take n x)) .1)
+          let brought = add-multiple-length p (getD f i 0) (bytes 8 (getD f j 0)) (terms g) (terms (take n x)) .1 in
+          omega (arith, so-far .written .pairs, w .pairs, words-of-terms g pg, ap length (so-far .written .holds), brought)
 
       pub row-gathered : RowsFrom p f g i m z
       row-gathered = record {
@@ -157,7 +159,9 @@ module _ (p : ℕ) (f g : List ℕ) (pg : Pairs g) where
   -- Where what is gathered can't come back to 256 terms, the product has more.
   pub cannot-return : (i n : ℕ) (x : List ℕ) → i % 2 ≡ 0 → RowsFrom p f g i n x → 512 + i / 2 * length g < n → 256 < length (product p (terms f) (terms g))
   cannot-return i n x even so-far many =
-      omega (arith, so-far .written .pairs, words-of-terms g pg, rows-left p (i / 2) (terms f) (terms g), ap (λ s. length (product p s (terms g))) (terms-drop i f even), ap (λ (k : ℕ). i / 2 * k) (words-of-terms g pg))
+      let behind = ap (λ s. length (product p s (terms g))) (terms-drop i f even) in
+      let words = words-of-terms g pg in
+      omega (arith, so-far .written .pairs, words, rows-left p (i / 2) (terms f) (terms g), behind, ap (λ (k : ℕ). i / 2 * k) words)
 
 -- ── the loop that gathers ──
 pub record Gathering (p : ℕ) (f g x₀ z₀ x z : List ℕ) (i n : ℕ) : Type 0 where
@@ -176,6 +180,19 @@ module _ (p : ℕ) (f g : List ℕ) {D : Type 0} (asked : Factors p f g D) where
   right-pairs : Pairs g
   right-pairs = asked .1 .1 .0 .0 .pairs
 
+  -- The row of a term, over what is gathered behind it.
+  module _ {i j k : ℕ} (at : Place f i j k) {n : ℕ} {x : List ℕ} (so-far : RowsFrom p f g k n x) where
+    asks-row : (r : ℕ) → n + length g ≤ r → Adds p (getD f i 0) (getD f j 0) g (take n x) r
+    asks-row r h =
+        row-asks p f g right-pairs i j k at n x so-far r (asked .0) (asked .1 .0 .0 .canonical) (asked .1 .1 .0 .0 .canonical) (asked .1 .1 .0 .1) h
+
+    module _ {m : ℕ} {z : List ℕ} (w : Written (row p f g i j (take n x)) m z) where
+      few-with : m ≤ n + length g
+      few-with = row-words p f g right-pairs i j k at n x so-far m z w
+
+      rows-with : RowsFrom p f g i m z
+      rows-with = row-gathered p f g right-pairs i j k at n x so-far m z w
+
   empty : RowsFrom p f g (length f) 0 f
   empty = none-gathered p f g right-pairs f
 
@@ -188,15 +205,15 @@ module _ (p : ℕ) (f g : List ℕ) {D : Type 0} (asked : Factors p f g D) where
   -- Before the loop: the last row where the number of rows is odd, else nothing.
   pub first-asks : length f % 4 ≡ 2 → (r : ℕ) → length g ≤ r →
       Adds p (getD f (length f - 2) 0) (getD f (length f - 2 + 1) 0) g [] r
-  first-asks q r h =
-      row-asks p f g right-pairs (length f - 2) (length f - 2 + 1) (length f) (last-place q) 0 f empty r (asked .0) (asked .1 .0 .0 .canonical) (asked .1 .1 .0 .0 .canonical) (asked .1 .1 .0 .1) (omega arith)
+  first-asks q r h = asks-row (last-place q) empty r (omega arith)
 
-  pub first-gathering : (x z : List ℕ) (n : ℕ) → length f % 4 ≡ 2 → Written (row p f g (length f - 2) (length f - 2 + 1) []) n x → Gathering p f g x z x z (length f - 2) n
+  pub first-gathering : (x z : List ℕ) (n : ℕ) → length f % 4 ≡ 2 → Written (row p f g (length f - 2) (length f - 2 + 1) []) n x
+      → Gathering p f g x z x z (length f - 2) n
   first-gathering x z n q w = record {
     four = omega arith;
     inside = omega arith;
-    rows = row-gathered p f g right-pairs (length f - 2) (length f - 2 + 1) (length f) (last-place q) 0 f empty n x w;
-    few = omega (arith, asked .1 .1 .0 .0 .few, row-words p f g right-pairs (length f - 2) (length f - 2 + 1) (length f) (last-place q) 0 f empty n x w);
+    rows = rows-with (last-place q) empty w;
+    few = omega (arith, asked .1 .1 .0 .0 .few, few-with (last-place q) empty w);
     same-x = refl;
     same-z = refl;
   }
@@ -207,13 +224,12 @@ module _ (p : ℕ) (f g : List ℕ) {D : Type 0} (asked : Factors p f g D) where
   -- A single row is the product.
   pub single-asks : length f ≡ 2 → (r : ℕ) → length g ≤ r →
       Adds p (getD f 0 0) (getD f 1 0) g [] r
-  single-asks q r h =
-      row-asks p f g right-pairs 0 1 (length f) (only-place q) 0 f empty r (asked .0) (asked .1 .0 .0 .canonical) (asked .1 .1 .0 .0 .canonical) (asked .1 .1 .0 .1) (omega arith)
+  single-asks q r h = asks-row (only-place q) empty r (omega arith)
 
   pub single-formed : length f ≡ 2 → (x : List ℕ) (n : ℕ) → Written (row p f g 0 1 []) n x → Forms (tested standard (product p (terms f) (terms g))) (Words n) x
   single-formed q x n w =
-      formed (product p (terms f) (terms g)) n x (row-gathered p f g right-pairs 0 1 (length f) (only-place q) 0 f empty n x w .written)
-      (omega (arith, asked .1 .1 .0 .0 .few, row-words p f g right-pairs 0 1 (length f) (only-place q) 0 f empty n x w))
+      formed (product p (terms f) (terms g)) n x (rows-with (only-place q) empty w .written)
+      (omega (arith, asked .1 .1 .0 .0 .few, few-with (only-place q) empty w))
 
   -- One turn: the rows at the words i - 2 and i - 4.
   module _ (x₀ z₀ x z : List ℕ) (i n : ℕ) (v : Gathering p f g x₀ z₀ x z i n) (more : 0 < i) where
@@ -239,25 +255,23 @@ module _ (p : ℕ) (f g : List ℕ) {D : Type 0} (asked : Factors p f g D) where
     -- the row at i - 2, into z
     pub upper-asks : (r : ℕ) → n + length g ≤ r →
         Adds p (getD f (i - 4 + 2) 0) (getD f (i - 4 + 3) 0) g (take n x) r
-    upper-asks r h =
-        row-asks p f g right-pairs (i - 4 + 2) (i - 4 + 3) i upper-place n x (v .rows) r (asked .0) (asked .1 .0 .0 .canonical) (asked .1 .1 .0 .0 .canonical) (asked .1 .1 .0 .1) h
+    upper-asks r h = asks-row upper-place (v .rows) r h
 
     module _ (m : ℕ) (z′ : List ℕ) (w : Written (row p f g (i - 4 + 2) (i - 4 + 3) (take n x)) m z′) where
       pub upper-words : m ≤ n + length g
-      upper-words = row-words p f g right-pairs (i - 4 + 2) (i - 4 + 3) i upper-place n x (v .rows) m z′ w
+      upper-words = few-with upper-place (v .rows) w
 
       upper-gathered : RowsFrom p f g (i - 4 + 2) m z′
-      upper-gathered = row-gathered p f g right-pairs (i - 4 + 2) (i - 4 + 3) i upper-place n x (v .rows) m z′ w
+      upper-gathered = rows-with upper-place (v .rows) w
 
       -- the row at i - 4, into x
       pub lower-asks : (r : ℕ) → m + length g ≤ r →
           Adds p (getD f (i - 4) 0) (getD f (i - 4 + 1) 0) g (take m z′) r
-      lower-asks r h =
-          row-asks p f g right-pairs (i - 4) (i - 4 + 1) (i - 4 + 2) lower-place m z′ upper-gathered r (asked .0) (asked .1 .0 .0 .canonical) (asked .1 .1 .0 .0 .canonical) (asked .1 .1 .0 .1) h
+      lower-asks r h = asks-row lower-place upper-gathered r h
 
       module _ (n′ : ℕ) (x′ : List ℕ) (w′ : Written (row p f g (i - 4) (i - 4 + 1) (take m z′)) n′ x′) where
         lower-gathered : RowsFrom p f g (i - 4) n′ x′
-        lower-gathered = row-gathered p f g right-pairs (i - 4) (i - 4 + 1) (i - 4 + 2) lower-place m z′ upper-gathered n′ x′ w′
+        lower-gathered = rows-with lower-place upper-gathered w′
 
         pub again : n′ ≤ 512 + (i - 4) / 2 * length g → length x′ ≡ length x → length z′ ≡ length z → Gathering p f g x₀ z₀ x′ z′ (i - 4) n′
         again few lx lz = record {
@@ -273,10 +287,13 @@ module _ (p : ℕ) (f g : List ℕ) {D : Type 0} (asked : Factors p f g D) where
         stopped many = refused (product p (terms f) (terms g)) x′ (cannot-return p f g right-pairs (i - 4) n′ x′ (omega (arith, even, full)) lower-gathered many)
 
   pub gathered : (x₀ z₀ x z : List ℕ) (i n : ℕ) → Gathering p f g x₀ z₀ x z i n → i ≤ 0 → Forms (tested standard (product p (terms f) (terms g))) (Words n) x
-  gathered x₀ z₀ x z i n v none = formed (product p (terms f) (terms g)) n x (subst (λ (i : ℕ). Written (product p (terms (drop i f)) (terms g)) n x) none′ (v .rows .written)) (omega (arith, v .few, ap (λ (i : ℕ). i / 2 * length g) none′))
+  gathered x₀ z₀ x z i n v none = formed (product p (terms f) (terms g)) n x whole (omega (arith, v .few, ap (λ (i : ℕ). i / 2 * length g) none′))
     where
       none′ : i ≡ 0
       none′ = omega arith
+
+      whole : Written (product p (terms f) (terms g)) n x
+      whole = subst (λ (i : ℕ). Written (product p (terms (drop i f)) (terms g)) n x) none′ (v .rows .written)
 
 -- Numbers of words of two factors: their product is small.
 pub small : (a b : ℕ) → a ≤ 512 → b ≤ 512 → a * b ≤ 262144

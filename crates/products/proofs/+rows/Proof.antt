@@ -44,7 +44,18 @@ rows-rows-requires : (t : ℕ) → rows-lts.Need-rows-requires (calls t) (rows-a
 rows-rows-requires t c κs =
     let s = c .before .before .before .before .before .before .before in
     let asked = s .pre .1 in
-    (omega (arith, s .pre .0, c .before .before .if1 .taken), (asked .0, ((asked .1 .1 .0 .0, asked .1 .1 .1 .0), ((asked .1 .0 .0, degrees-over-comm 255 _ _ ∙ asked .1 .1 .0 .1), (asked .1 .0 .1, (lent-exchanged _ _ _ (asked .1 .1 .1 .1 .0), lent-exchanged _ _ _ (asked .1 .1 .1 .1 .1)))))))
+    let left = asked .1 .0 in
+    let right = asked .1 .1 .0 in
+    let lent = asked .1 .1 .1 .1 in (
+      omega (arith, s .pre .0, c .before .before .if1 .taken),
+      (
+        asked .0,
+        (
+          (right .0, asked .1 .1 .1 .0),
+          ((left .0, degrees-over-comm 255 _ _ ∙ right .1), (left .1, (lent-exchanged _ _ _ (lent .0), lent-exchanged _ _ _ (lent .1)))),
+        ),
+      ),
+    )
 
 rows-same-length : (t : ℕ) → rows-lts.Need-same-length (calls t) (rows-at t) rows.Post
 rows-same-length t c = search needs
@@ -53,7 +64,10 @@ rows-same-length-2 : (t : ℕ) → rows-lts.Need-same-length-2 (calls t) (rows-a
 rows-same-length-2 t c = search needs
 
 rows-returns : (t : ℕ) → rows-lts.Need-returns (calls t) (rows-at t) rows.Post
-rows-returns t c = exchanged _ (c .before .before .before .before .before .before .before .before .before .before .before .before .pre .1 .0 .0) _ _ _ _ (c .before .before .before .before .rows .ensures)
+rows-returns t c =
+    let r = c .before .before .before .before in
+    let s = r .before .before .before .before .before .before .before .before in
+    exchanged _ (s .pre .1 .0 .0) _ _ _ _ (r .rows .ensures)
 
 rows-shared-slice-read-add-multiple : (t : ℕ) → rows-lts.Need-shared-slice-read-add-multiple (calls t) (rows-at t) rows.Post
 rows-shared-slice-read-add-multiple t c = search needs
@@ -74,7 +88,10 @@ rows-same-length-3 : (t : ℕ) → rows-lts.Need-same-length-3 (calls t) (rows-a
 rows-same-length-3 t c = search needs
 
 rows-returns-2 : (t : ℕ) → rows-lts.Need-returns-2 (calls t) (rows-at t) rows.Post
-rows-returns-2 t c = single-formed _ _ _ (c .before .before .before .before .before .before .before .before .before .before .before .before .before .pre .1) (c .before .before .before .before .before .before .before .if2 .taken) _ _ (c .before .before .add-multiple .ensures)
+rows-returns-2 t c =
+    let e = c .before .before .before .before .before .before .before in
+    let s = e .before .before .before .before .before .before in
+    single-formed _ _ _ (s .pre .1) (e .if2 .taken) _ _ (c .before .before .add-multiple .ensures)
 
 rows-gather-requires : (t : ℕ) → rows-lts.Need-gather-requires (calls t) (rows-at t) rows.Post
 rows-gather-requires t c κs =

@@ -4,7 +4,7 @@ use borrow.Author.Needs.{needs}
 use native.Mathlib.Omega.{arith}
 use mathlib.Core.Path.{_≡_, sym, _∙_, ap}
 use mathlib.Core.Logic.{⊎-elim, inl, inr}
-use Prim.Native.Nat.{_+_, _-_, _*_, _/_, _≤_}
+use Prim.Native.Nat.{ℕ, _+_, _-_, _*_, _/_, _≤_}
 use lib.ListN.{length}
 use lib.Seq.{length-take-le}
 use Rattle.products.proofs.ProductLaws.{Gathering, small, first-asks, first-gathering, none-gathering, no-room, upper-asks, upper-words, lower-asks, again, stopped, gathered}
@@ -17,24 +17,57 @@ Inv-loop p f g x₀ z₀ i₀ n₀ x z i n = Gathering p f g x₀ z₀ x z i n
 abbrev μ-loop : tie.MeasureT-loop
 μ-loop p f g x₀ z₀ i₀ n₀ x z i n = i
 
+-- ── the places, and the ways back from one to another ──
+abbrev Turn : Type 0
+Turn = tie.In-loop Inv-loop μ-loop
+
+abbrev entry : Turn → tie.Start Inv-loop μ-loop
+entry t = t .before .before .before .before .before .before .before
+
+-- The upper row of the turn is added, then the lower one.
+abbrev Upper : Type 0
+Upper = tie.After-add-multiple2 Inv-loop μ-loop
+
+abbrev turn : Upper → Turn
+turn u = u .before .before .before .before .before .before .before .before
+
+abbrev Lower : Type 0
+Lower = tie.After-add-multiple3 Inv-loop μ-loop
+
+abbrev upper : Lower → Upper
+upper l = l .before .before .before .before .before .before .before .before
+
+-- ── what is known there ──
+abbrev g : Turn → ℕ
+g t = length (entry t .args .g .now)
+
 -- x is as long as when it was lent.
 start-x : (c : tie.Joined1 Inv-loop μ-loop) → length (c .if1 .x) ≡ length (c .before .before .before .before .before .args .x .now)
 start-x c = ⊎-elim (λ w. ap length (w .8) ∙ w .5 .kept .1 .1 .1 .1 .1 .0) (λ w. ap length (w .1)) (c .if1 .came)
 
-same-x : (c : tie.In-loop Inv-loop μ-loop) → length (c .before .loop .x) ≡ length (c .before .before .before .before .before .before .before .args .x .now)
-same-x c = c .before .loop .inv .same-x ∙ start-x (c .before .before)
+same-x : (t : Turn) → length (t .before .loop .x) ≡ length (entry t .args .x .now)
+same-x t = t .before .loop .inv .same-x ∙ start-x (t .before .before)
 
 -- The sums fit.
-rows-small : (c : tie.In-loop Inv-loop μ-loop) → (c .before .loop .i - 4) / 2 * length (c .before .before .before .before .before .before .before .args .g .now) ≤ 262144
-rows-small c =
-    let s = c .before .before .before .before .before .before .before in
-    small ((c .before .loop .i - 4) / 2) (length (s .args .g .now)) (omega (arith, c .before .loop .inv .inside, s .pre .1 .0 .0 .few)) (s .pre .1 .1 .0 .0 .few)
+rows-small : (t : Turn) → (t .before .loop .i - 4) / 2 * g t ≤ 262144
+rows-small t =
+    let s = entry t in
+    let l = t .before .loop in
+    small ((l .i - 4) / 2) (g t) (omega (arith, l .inv .inside, s .pre .1 .0 .0 .few)) (s .pre .1 .1 .0 .0 .few)
 
-words-small : (c : tie.In-loop Inv-loop μ-loop) → c .before .loop .n + 2 * length (c .before .before .before .before .before .before .before .args .g .now) ≤ 263680
-words-small c =
-    let s = c .before .before .before .before .before .before .before in
-    let g = length (s .args .g .now) in
-    omega (arith, small (c .before .loop .i / 2) g (omega (arith, c .before .loop .inv .inside, s .pre .1 .0 .0 .few)) (s .pre .1 .1 .0 .0 .few), s .pre .1 .1 .0 .0 .few, c .before .loop .inv .few)
+words-small : (t : Turn) → t .before .loop .n + 2 * g t ≤ 263680
+words-small t =
+    let s = entry t in
+    let l = t .before .loop in
+    let few = s .pre .1 .1 .0 .0 .few in
+    let all = small (l .i / 2) (g t) (omega (arith, l .inv .inside, s .pre .1 .0 .0 .few)) few in
+    omega (arith, all, few, l .inv .few)
+
+-- The upper row brings at most the words of g.
+upper-few : (u : Upper) → u .add-multiple2 .result ≤ turn u .before .loop .n + g (turn u)
+upper-few u =
+    let t = turn u in
+    upper-words _ _ _ (entry t .pre) _ _ _ _ _ _ (t .before .loop .inv) (t .loop-test .taken) _ _ (u .add-multiple2 .ensures)
 
 sub-i : tie.Need-sub-i Inv-loop μ-loop
 sub-i c = search needs
@@ -83,7 +116,7 @@ same-length-2 c = search needs
 returns : tie.Need-returns Inv-loop μ-loop
 returns c =
     let t = c .before .before .before in
-    inr (no-room _ _ _ (t .before .before .before .before .before .before .before .pre) _ _ _ _ _ _ (t .before .loop .inv) (t .loop-test .taken) _ (omega (arith, c .if2 .taken)))
+    inr (no-room _ _ _ (entry t .pre) _ _ _ _ _ _ (t .before .loop .inv) (t .loop-test .taken) _ (omega (arith, c .if2 .taken)))
 
 add-add-multiple-2 : tie.Need-add-add-multiple-2 Inv-loop μ-loop
 add-add-multiple-2 c = search needs
@@ -111,24 +144,24 @@ slice-aggregate-add-multiple-2 c = sym (length-take-le _ _ (c .before .before .b
 
 add-multiple-requires-2 : tie.Need-add-multiple-requires-2 Inv-loop μ-loop
 add-multiple-requires-2 c κs =
-    let t = c .before .before .before .before .before .before .before in
-    upper-asks _ _ _ (t .before .before .before .before .before .before .before .pre) _ _ _ _ _ _ (t .before .loop .inv) (t .loop-test .taken) _ (omega (arith, c .before .before .before .before .if2 .left))
+    let e = c .before .before .before .before in
+    let t = e .before .before .before in
+    upper-asks _ _ _ (entry t .pre) _ _ _ _ _ _ (t .before .loop .inv) (t .loop-test .taken) _ (omega (arith, e .if2 .left))
 
 add-if3 : tie.Need-add-if3 Inv-loop μ-loop
-add-if3 c =
-    let t = c .before .before .before .before .before .before .before .before .before .before in
-    omega (arith, words-small t, upper-words _ _ _ (t .before .before .before .before .before .before .before .pre) _ _ _ _ _ _ (t .before .loop .inv) (t .loop-test .taken) _ _ (c .before .before .add-multiple2 .ensures))
+add-if3 c = let u = c .before .before in omega (arith, words-small (turn u), upper-few u)
 
 same-length-3 : tie.Need-same-length-3 Inv-loop μ-loop
-same-length-3 c = same-x (c .before .before .before .before .before .before .before .before .before .before .before)
+same-length-3 c = same-x (turn (c .before .before .before))
 
 same-length-4 : tie.Need-same-length-4 Inv-loop μ-loop
 same-length-4 c = search needs
 
 returns-2 : tie.Need-returns-2 Inv-loop μ-loop
 returns-2 c =
-    let t = c .before .before .before .before .before .before .before .before .before .before .before in
-    inl (no-room _ _ _ (t .before .before .before .before .before .before .before .pre) _ _ _ _ _ _ (t .before .loop .inv) (t .loop-test .taken) _ (omega (arith, c .if3 .taken, upper-words _ _ _ (t .before .before .before .before .before .before .before .pre) _ _ _ _ _ _ (t .before .loop .inv) (t .loop-test .taken) _ _ (c .before .before .before .add-multiple2 .ensures))))
+    let u = c .before .before .before in
+    let t = turn u in
+    inl (no-room _ _ _ (entry t .pre) _ _ _ _ _ _ (t .before .loop .inv) (t .loop-test .taken) _ (omega (arith, c .if3 .taken, upper-few u)))
 
 mul-add-multiple-5 : tie.Need-mul-add-multiple-5 Inv-loop μ-loop
 mul-add-multiple-5 c = search needs
@@ -153,35 +186,40 @@ slice-aggregate-add-multiple-3 c = sym (length-take-le _ _ (c .before .before .b
 
 add-multiple-requires-3 : tie.Need-add-multiple-requires-3 Inv-loop μ-loop
 add-multiple-requires-3 c κs =
-    let t = c .before .before .before .before .before .before .before .before .before .before .before .before .before .before .before in
-    lower-asks _ _ _ (t .before .before .before .before .before .before .before .pre) _ _ _ _ _ _ (t .before .loop .inv) (t .loop-test .taken) _ _ (c .before .before .before .before .before .before .before .add-multiple2 .ensures) _ (omega (arith, c .before .before .before .before .if3 .left))
+    let e = c .before .before .before .before in
+    let u = e .before .before .before in
+    let t = turn u in
+    lower-asks _ _ _ (entry t .pre) _ _ _ _ _ _ (t .before .loop .inv) (t .loop-test .taken) _ _ (u .add-multiple2 .ensures) _ (omega (arith, e .if3 .left))
 
 mul-if4 : tie.Need-mul-if4 Inv-loop μ-loop
-mul-if4 c = omega (arith, rows-small (c .before .before .before .before .before .before .before .before .before .before .before .before .before .before .before .before .before .before))
+mul-if4 c = omega (arith, rows-small (turn (upper (c .before .before))))
 
 add-if4 : tie.Need-add-if4 Inv-loop μ-loop
-add-if4 c = omega (arith, rows-small (c .before .before .before .before .before .before .before .before .before .before .before .before .before .before .before .before .before .before))
+add-if4 c = omega (arith, rows-small (turn (upper (c .before .before))))
 
 same-length-5 : tie.Need-same-length-5 Inv-loop μ-loop
-same-length-5 c = c .before .before .before .add-multiple3 .kept .1 .1 .1 .1 .1 .0 ∙ same-x (c .before .before .before .before .before .before .before .before .before .before .before .before .before .before .before .before .before .before .before)
+same-length-5 c = let l = c .before .before .before in l .add-multiple3 .kept .1 .1 .1 .1 .1 .0 ∙ same-x (turn (upper l))
 
 same-length-6 : tie.Need-same-length-6 Inv-loop μ-loop
 same-length-6 c = search needs
 
 returns-3 : tie.Need-returns-3 Inv-loop μ-loop
 returns-3 c =
-    let t = c .before .before .before .before .before .before .before .before .before .before .before .before .before .before .before .before .before .before .before in
-    stopped _ _ _ (t .before .before .before .before .before .before .before .pre) _ _ _ _ _ _ (t .before .loop .inv) (t .loop-test .taken) _ _ (c .before .before .before .before .before .before .before .before .before .before .before .add-multiple2 .ensures) _ _ (c .before .before .before .add-multiple3 .ensures) (c .if4 .taken)
+    let l = c .before .before .before in
+    let u = upper l in
+    let t = turn u in
+    stopped _ _ _ (entry t .pre) _ _ _ _ _ _ (t .before .loop .inv) (t .loop-test .taken) _ _ (u .add-multiple2 .ensures) _ _ (l .add-multiple3 .ensures) (c .if4 .taken)
 
 loop-less : tie.Need-loop-less Inv-loop μ-loop
 loop-less c = search needs
 
 loop-again : tie.Need-loop-again Inv-loop μ-loop
 loop-again c =
-    let t = c .before .before .before .before .before .before .before .before .before .before .before .before .before .before .before .before .before .before .before in
-    let upper = c .before .before .before .before .before .before .before .before .before .before .before .add-multiple2 in
-    let lower = c .before .before .before .add-multiple3 in
-    again _ _ _ (t .before .before .before .before .before .before .before .pre) _ _ _ _ _ _ (t .before .loop .inv) (t .loop-test .taken) _ _ (upper .ensures) _ _ (lower .ensures) (c .if4 .left) (lower .kept .1 .1 .1 .1 .1 .0) (upper .kept .1 .1 .1 .1 .1 .0)
+    let l = c .before .before .before in
+    let u = upper l in
+    let t = turn u in
+    again _ _ _ (entry t .pre) _ _ _ _ _ _ (t .before .loop .inv) (t .loop-test .taken) _ _ (u .add-multiple2 .ensures) _ _ (l .add-multiple3 .ensures)
+    (c .if4 .left) (l .add-multiple3 .kept .1 .1 .1 .1 .1 .0) (u .add-multiple2 .kept .1 .1 .1 .1 .1 .0)
 
 same-length-7 : tie.Need-same-length-7 Inv-loop μ-loop
 same-length-7 c = c .before .loop .inv .same-x ∙ start-x (c .before .before)

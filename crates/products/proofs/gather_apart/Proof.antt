@@ -7,6 +7,14 @@ use Rattle.products.proofs.ProductLaws.{formed, words-ended, over-terms
 use Rattle.products.proofs.gather_apart.Statement.{statement}
 use Rattle.products.proofs.gather_apart.Tie as tie
 
+-- ── the places ──
+abbrev entry : tie.After-gather → tie.Start
+entry c = c .before .before .before .before .before .before
+
+abbrev gathered : tie.After-ended → tie.After-gather
+gathered c = c .before .before .before .before
+
+-- ── the needs ──
 slice-aggregate-gather : tie.Need-slice-aggregate-gather
 slice-aggregate-gather c = search needs
 
@@ -23,18 +31,21 @@ enum-known-ended c = search needs
 
 array-share-prefix-a : tie.Need-array-share-prefix-a
 array-share-prefix-a c =
-    let w = words-formed _ _ _ (words-ended _ _ _ _ _ _ (c .before .before .before .before .before .gather .ensures) (c .before .ended .given .1)) in
+    let e = c .before in
+    let w = words-formed _ _ _ (words-ended _ _ _ _ _ _ (gathered e .gather .ensures) (e .ended .given .1)) in
     w .0 .within
 
 slice-aggregate-copy : tie.Need-slice-aggregate-copy
 slice-aggregate-copy c =
-    let w = words-formed _ _ _ (words-ended _ _ _ _ _ _ (c .before .before .before .before .before .before .gather .ensures) (c .before .before .ended .given .1)) in
+    let e = c .before .before in
+    let w = words-formed _ _ _ (words-ended _ _ _ _ _ _ (gathered e .gather .ensures) (e .ended .given .1)) in
     sym (length-take-le _ _ (w .0 .within))
 
 copy-requires : tie.Need-copy-requires
 copy-requires c κs =
-    let w = words-formed _ _ _ (words-ended _ _ _ _ _ _ (c .before .before .before .before .before .before .before .gather .ensures) (c .before .before .before .ended .given .1)) in
-    let s = c .before .before .before .before .before .before .before .before .before .before .before .before .before in
+    let e = c .before .before .before in
+    let w = words-formed _ _ _ (words-ended _ _ _ _ _ _ (gathered e .gather .ensures) (e .ended .given .1)) in
+    let s = entry (gathered e) in
     copy-asks _ _ _ (s .args .x .now) w (s .pre .1 .1 .1)
 
 enum-told : tie.Need-enum-told
@@ -51,8 +62,9 @@ same-length c = search needs
 
 returns : tie.Need-returns
 returns c =
-    let w = words-formed _ _ _ (words-ended _ _ _ _ _ _ (c .before .before .before .before .before .before .before .before .before .before .gather .ensures) (c .before .before .before .before .before .before .ended .given .1)) in
-    formed _ _ _ (copied _ _ _ _ w (c .before .before .before .before .before .before .before .before .before .before .before .before .before .before .before .before .pre .1 .1 .1) _ (c .before .before .copy .ensures)) (w .1)
+    let e = c .before .before .before .before .before .before in
+    let w = words-formed _ _ _ (words-ended _ _ _ _ _ _ (gathered e .gather .ensures) (e .ended .given .1)) in
+    formed _ _ _ (copied _ _ _ _ w (entry (gathered e) .pre .1 .1 .1) _ (c .before .before .copy .ensures)) (w .1)
 
 returns-2 : tie.Need-returns-2
 returns-2 c = over-terms-ended _ _ _ _ _ _ (c .before .before .before .before .gather .ensures) (c .enum-told .given .1)

@@ -34,9 +34,12 @@ same-length-2 c = search needs
 
 returns-4 : tie.Need-returns-4
 returns-4 c =
-    let s = c .before .before .before .before .before .before .before .before .before .before .before .before .before .before .before in
-    let e = sym (c .before .before .before .before .before .before .before .before .degrees-over .ensures) ∙ c .before .before .before .before .before .before .before .if3 .left in
-    by-rows _ _ _ (s .pre .1 .0) (s .pre .1 .1 .0) (c .before .before .before .before .before .before .before .before .before .before .if1 .left) (c .before .before .before .before .before .before .before .before .before .if2 .left) e _ _ (c .before .before .before .before .rows .ensures)
+    let r = c .before .before .before .before in
+    let e = r .before .before .before in
+    let d = e .before in
+    let u = d .before in
+    let s = u .before .before .before .before .before .before in
+    by-rows _ _ _ (s .pre .1 .0) (s .pre .1 .1 .0) (u .before .if1 .left) (u .if2 .left) (sym (d .degrees-over .ensures) ∙ e .if3 .left) _ _ (r .rows .ensures)
 
 pub product-spec : {M : Type 1} → statement M
 product-spec =

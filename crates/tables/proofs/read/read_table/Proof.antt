@@ -1,5 +1,7 @@
 -- The header, then P's chain, then Q's, as `read-table` does.
 use mathlib.Core.Path.{_≡_, sym, _∙_}
+use mathlib.Core.List.{List}
+use Prim.Native.Nat.{ℕ}
 use native.Mathlib.Omega.{arith}
 use Rattle.tables.specs.declared.Checked.the-variants.{Good}
 use Rattle.tables.specs.Words.{word}
@@ -12,6 +14,34 @@ use borrow.Author.Needs.{needs}
 use Rattle.tables.proofs.read.read_table.Statement.{statement}
 use Rattle.tables.proofs.read.read_table.Tie as tie
 
+-- ── the places, and the ways back from one to another ──
+abbrev entry : tie.After-check-header → tie.Start
+entry c = c .before .before
+
+-- The header is accepted, and P's chain is checked; that is accepted, and Q's is checked.
+abbrev header-checked : tie.After-enum-told → tie.After-check-header
+header-checked c = c .before .before
+
+abbrev header-good : tie.After-check-heads → tie.After-enum-told
+header-good c = c .before .before .before .before
+
+abbrev P-good : tie.After-check-heads2 → tie.After-enum-told2
+P-good c = c .before .before
+
+abbrev P-checked : tie.After-enum-told2 → tie.After-check-heads
+P-checked c = c .before .before
+
+-- ── what is known there ──
+abbrev table : tie.After-enum-told → List ℕ
+table c = entry (header-checked c) .args .table .now
+
+header : (c : tie.After-enum-told) → checked (read-header (table c) accepted) ≡ Good
+header c = sym (header-checked c .check-header .ensures) ∙ c .enum-told .given .1
+
+readable : (c : tie.After-enum-told) → Readable (table c) (word (table c) 0 0) (word (table c) 0 1)
+readable c = header-readable (table c) (header c)
+
+-- ── the needs ──
 check-header-requires : tie.Need-check-header-requires
 check-header-requires c κs = search needs
 
@@ -19,17 +49,10 @@ enum-known-why : tie.Need-enum-known-why
 enum-known-why c = search needs
 
 returns : tie.Need-returns
-returns c = table-refused (c .before .before .before .before .before .args .table .now) (sym (c .before .before .before .check-header .ensures) ∙ c .before .why .given .1)
+returns c = let h = c .before .before .before in table-refused (entry h .args .table .now) (sym (h .check-header .ensures) ∙ c .before .why .given .1)
 
 enum-told : tie.Need-enum-told
 enum-told c = search needs
-
--- The header is accepted.
-header : (c : tie.After-enum-told) → checked (read-header (c .before .before .before .before .args .table .now) accepted) ≡ Good
-header c = sym (c .before .before .check-header .ensures) ∙ c .enum-told .given .1
-
-readable : (c : tie.After-enum-told) → Readable (c .before .before .before .before .args .table .now) (word (c .before .before .before .before .args .table .now) 0 0) (word (c .before .before .before .before .args .table .now) 0 1)
-readable c = header-readable (c .before .before .before .before .args .table .now) (header c)
 
 shared-slice-read-p : tie.Need-shared-slice-read-p
 shared-slice-read-p c = omega (arith, readable-words (readable (c .before)))
@@ -47,32 +70,41 @@ enum-known-why-2 : tie.Need-enum-known-why-2
 enum-known-why-2 c = search needs
 
 returns-2 : tie.Need-returns-2
-returns-2 c = table-refused-P (c .before .before .before .before .before .before .before .before .before .before .before .args .table .now) (header (c .before .before .before .before .before .before .before)) (sym (c .before .before .before .check-heads .ensures) ∙ c .before .why2 .given .1)
+returns-2 c =
+    let k = c .before .before .before in
+    let h = header-good k in
+    table-refused-P (table h) (header h) (sym (k .check-heads .ensures) ∙ c .before .why2 .given .1)
 
 enum-told-2 : tie.Need-enum-told-2
 enum-told-2 c = search needs
 
 shared-slice-read-check-heads-2 : tie.Need-shared-slice-read-check-heads-2
-shared-slice-read-check-heads-2 c = omega (arith, readable-words (readable (c .before .before .before .before .before .before .before)))
+shared-slice-read-check-heads-2 c = omega (arith, readable-words (readable (header-good (P-checked (c .before)))))
 
 check-heads-requires-2 : tie.Need-check-heads-requires-2
-check-heads-requires-2 c κs = let r = readable (c .before .before .before .before .before .before .before) in (r, omega (arith, readable-words r))
+check-heads-requires-2 c κs = let r = readable (header-good (P-checked (c .before))) in (r, omega (arith, readable-words r))
 
 enum-known-why-3 : tie.Need-enum-known-why-3
 enum-known-why-3 c = search needs
 
 returns-3 : tie.Need-returns-3
 returns-3 c =
-    table-refused-Q (c .before .before .before .before .before .before .before .before .before .before .before .before .before .before .before .args .table .now) (header (c .before .before .before .before .before .before .before .before .before .before .before)) (sym (c .before .before .before .before .before .before .before .check-heads .ensures) ∙ c .before .before .before .before .before .enum-told2 .given .1)
-    (sym (c .before .before .before .check-heads2 .ensures) ∙ c .before .why3 .given .1)
+    let q = c .before .before .before in
+    let g = P-good q in
+    let k = P-checked g in
+    let h = header-good k in
+    table-refused-Q (table h) (header h) (sym (k .check-heads .ensures) ∙ g .enum-told2 .given .1) (sym (q .check-heads2 .ensures) ∙ c .before .why3 .given .1)
 
 enum-told-3 : tie.Need-enum-told-3
 enum-told-3 c = search needs
 
 returns-4 : tie.Need-returns-4
 returns-4 c =
-    table-accepted (c .before .before .before .before .before .before .before .before .before .before .before .before .before .before .args .table .now) (header (c .before .before .before .before .before .before .before .before .before .before)) (sym (c .before .before .before .before .before .before .check-heads .ensures) ∙ c .before .before .before .before .enum-told2 .given .1)
-    (sym (c .before .before .check-heads2 .ensures) ∙ c .enum-told3 .given .1)
+    let q = c .before .before in
+    let g = P-good q in
+    let k = P-checked g in
+    let h = header-good k in
+    table-accepted (table h) (header h) (sym (k .check-heads .ensures) ∙ g .enum-told2 .given .1) (sym (q .check-heads2 .ensures) ∙ c .enum-told3 .given .1)
 
 pub read-table-spec : {M : Type 1} → statement M
 read-table-spec =

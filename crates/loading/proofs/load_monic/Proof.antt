@@ -14,8 +14,12 @@ use Rattle.loading.proofs.load_monic.Tie as tie
 abbrev loaded : tie.After-load-head → List ℕ
 loaded c = c .load-head .last .1 .1 .1 .1 .0
 
-written : (c : tie.After-load-head) → Written (c .before .before .before .before .pre .0 .2 .0) (c .load-head .result) (loaded c) × Holds (c .before .before .before .before .args .p) (take (c .load-head .result) (loaded c))
-written c = let P = c .before .before .before .before .pre .0 in c .load-head .ensures (P .2 .0) (P .2 .1)
+abbrev entry : tie.After-load-head → tie.Start
+entry c = c .before .before .before .before
+
+written : (c : tie.After-load-head) → let n = c .load-head .result in
+    Written (entry c .pre .0 .2 .0) n (loaded c) × Holds (entry c .args .p) (take n (loaded c))
+written c = let P = entry c .pre .0 in c .load-head .ensures (P .2 .0) (P .2 .1)
 
 load-head-requires : tie.Need-load-head-requires
 load-head-requires c κs = search needs
@@ -29,7 +33,7 @@ slice-aggregate-monic c = let d = c .before .before .before in sym (length-take-
 monic-requires : tie.Need-monic-requires
 monic-requires c κs =
     let d = c .before .before .before in
-    let s = d .before .before .before .before in
+    let s = entry d in
     let P = s .pre .0 in
     let M = readable-modulus (P .0) in
     let h = written d .1 in
@@ -41,7 +45,7 @@ same-length c = search needs
 returns : tie.Need-returns
 returns c f e =
     let d = c .before .before .before .before .before .before in
-    let s = d .before .before .before .before in
+    let s = entry d in
     let P = s .pre .0 in
     loaded-monic (s .args .table .now) (s .args .p) (s .args .n) (s .args .head) f (P .0) (P .1) e (d .load-head .result) (loaded d) (c .before .before .monic .last .1 .0)
     (d .load-head .ensures f e .0) (d .load-head .ensures f e .1) (c .before .before .monic .kept .1 .0) (c .before .before .monic .ensures) (λ i. c .slice-known3 .given i .fits)

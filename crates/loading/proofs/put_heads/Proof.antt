@@ -41,7 +41,11 @@ loop-holds : tie.Need-loop-holds Inv-loop μ-loop
 loop-holds c =
     let s = c .before .before .before in
     let a = s .args in
-    (omega arith, omega arith, λ fs b e x. put-first (a .table .now) (a .p) (a .n) (a .in-q) (capacity (a .work .now)) (a .first) (view (a .work .now)) fs b (some-record (a .table .now) (s .pre .0 .0 .whole)) e x)
+    let some = some-record (a .table .now) (s .pre .0 .0 .whole) in (
+      omega arith,
+      omega arith,
+      λ fs b e x. put-first (a .table .now) (a .p) (a .n) (a .in-q) (capacity (a .work .now)) (a .first) (view (a .work .now)) fs b some e x,
+    )
 
 -- In a turn: the start, and what is left to put, for the chain and the branch that the contract's `requires` tells of.
 abbrev start : tie.In-loop Inv-loop μ-loop → tie.Start Inv-loop μ-loop

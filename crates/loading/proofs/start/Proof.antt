@@ -1,6 +1,7 @@
 -- `start` meets its contract: an empty branch, then P's chain, then Q's. All is said in the room that there was at entry.
 use mathlib.Core.Path.{_≡_, sym, _∙_, subst}
 use mathlib.Core.Bool.{Bool, true}
+use mathlib.Core.List.{List}
 use Prim.Native.Nat.{ℕ, _≤_}
 use native.Mathlib.Omega.{arith}
 use borrow.Author.Needs.{needs}
@@ -31,6 +32,9 @@ start c = c .before .before .before .before .before .before .before .before
 abbrev p : tie.Start → ℕ
 p s = word (s .args .table .now) 0 0
 
+abbrev most : tie.Start → ℕ
+most s = capacity (s .args .work .now)
+
 room : (c : tie.After-begin) → capacity (c .begin .last .0) ≡ capacity (start c .args .work .now)
 room c = same-capacity (c .begin .last .0) (start c .args .work .now) (c .begin .kept .0)
 
@@ -41,19 +45,36 @@ begun : (c : tie.After-begin) → Alone (p (start c)) (capacity (start c .args .
 begun c = alone-empty (c .begin .ensures)
 
 -- ── after P's chain ──
-put : (c : tie.After-put-heads) (t : Input) → read-table (start (c .before .before .before .before .before .before) .args .table .now) ≡ good t
-    → Filled (p (start (c .before .before .before .before .before .before))) (capacity (start (c .before .before .before .before .before .before) .args .work .now)) (with-zeros (p (start (c .before .before .before .before .before .before))) t) (c .put-heads .result) (view (c .put-heads .last .1 .1 .1 .1 .0))
+abbrev begun-by : tie.After-put-heads → tie.After-begin
+begun-by c = c .before .before .before .before .before .before
+
+abbrev entry : tie.After-put-heads → tie.Start
+entry c = start (begun-by c)
+
+abbrev work : tie.After-put-heads → List ℕ
+work c = c .put-heads .last .1 .1 .1 .1 .0
+
+put : (c : tie.After-put-heads) (t : Input) → let s = entry c in read-table (s .args .table .now) ≡ good t
+    → Filled (p s) (most s) (with-zeros (p s) t) (c .put-heads .result) (view (work c))
 put c t e =
-    let d = c .before .before .before .before .before .before in
+    let d = begun-by c in
     let s = start d in
-    subst (λ (m : ℕ). Alone (p s) m no-polynomial (view (d .begin .last .0)) → Filled (p s) m (with-zeros (p s) t) (c .put-heads .result) (view (c .put-heads .last .1 .1 .1 .1 .0)))
+    subst (λ (m : ℕ). Alone (p s) m no-polynomial (view (d .begin .last .0)) → Filled (p s) m (with-zeros (p s) t) (c .put-heads .result) (view (work c)))
     (room d) (c .put-heads .ensures (t .P) no-polynomial (chains (s .args .table .now) t e .zeros)) (begun d)
 
-room-2 : (c : tie.After-put-heads) → capacity (c .put-heads .last .1 .1 .1 .1 .0) ≡ capacity (start (c .before .before .before .before .before .before) .args .work .now)
-room-2 c =
-    let d = c .before .before .before .before .before .before in
-    same-capacity (c .put-heads .last .1 .1 .1 .1 .0) (start d .args .work .now) (c .put-heads .kept .1 .1 .1 .1 .0 ∙ d .begin .kept .0)
+room-2 : (c : tie.After-put-heads) → capacity (work c) ≡ most (entry c)
+room-2 c = same-capacity (work c) (entry c .args .work .now) (c .put-heads .kept .1 .1 .1 .1 .0 ∙ begun-by c .begin .kept .0)
 
+-- Where it found room.
+abbrev zeros-put : tie.Else2 → tie.After-put-heads
+zeros-put c = c .before .before .before .before .before
+
+zeros-in : (c : tie.Else2) (t : Input) → let k = zeros-put c in
+    let s = entry k in
+    read-table (s .args .table .now) ≡ good t → Alone (p s) (most s) (with-zeros (p s) t) (view (work k))
+zeros-in c t e = let k = zeros-put c in put k t e .alone (not-false (k .put-heads .result) (c .if2 .left))
+
+-- ── the needs ──
 returns : tie.Need-returns
 returns c t e =
     let a = c .before .before .before .before .args in
@@ -69,14 +90,15 @@ begin-requires : tie.Need-begin-requires
 begin-requires c κs = search needs
 
 shared-slice-read-put-heads : tie.Need-shared-slice-read-put-heads
-shared-slice-read-put-heads c = omega (arith, header (c .before .before .before .before .before .before .before .before .before .before .before))
+shared-slice-read-put-heads c = omega (arith, header (start (c .before .before .before)))
 
 put-heads-requires : tie.Need-put-heads-requires
 put-heads-requires c κs =
     let d = c .before .before .before .before .before in
     let s = start d in
     let t = s .pre .0 .0 in
-    ((told s .readable, (t .P, told s .zeros)), ((no-polynomial, subst (λ (m : ℕ). Alone (p s) m no-polynomial (view (d .begin .last .0))) (sym (room d)) (begun d)), s .pre .1))
+    let alone = subst (λ (m : ℕ). Alone (p s) m no-polynomial (view (d .begin .last .0))) (sym (room d)) (begun d) in
+    ((told s .readable, (t .P, told s .zeros)), ((no-polynomial, alone), s .pre .1))
 
 same-length : tie.Need-same-length
 same-length c = search needs
@@ -87,32 +109,21 @@ same-length-2 c = search needs
 returns-2 : tie.Need-returns-2
 returns-2 c t e =
     let k = c .before .before .before .before .before in
-    let d = k .before .before .before .before .before .before in
-    let s = start d in
-    let v = view (k .put-heads .last .1 .1 .1 .1 .0) in
-    start-fails t (capacity (s .args .work .now)) v (p s) (chains (s .args .table .now) t e .modulus) (some d)
-    (subst (λ (b : Bool). Filled (p s) (capacity (s .args .work .now)) (with-zeros (p s) t) b v) (not-true (k .put-heads .result) (c .if2 .taken)) (put k t e))
+    let s = entry k in
+    start-fails t (most s) (view (work k)) (p s) (chains (s .args .table .now) t e .modulus) (some (begun-by k))
+    (subst (λ (b : Bool). Filled (p s) (most s) (with-zeros (p s) t) b (view (work k))) (not-true (k .put-heads .result) (c .if2 .taken)) (put k t e))
 
 shared-slice-read-put-heads-2 : tie.Need-shared-slice-read-put-heads-2
-shared-slice-read-put-heads-2 c = omega (arith, header (c .before .before .before .before .before .before .before .before .before .before .before .before .before .before .before .before .before .before .before .before))
-
--- Where P's chain found room.
-zeros-in : (c : tie.Else2) (t : Input) → read-table (start (c .before .before .before .before .before .before .before .before .before .before .before) .args .table .now) ≡ good t
-    → Alone (p (start (c .before .before .before .before .before .before .before .before .before .before .before))) (capacity (start (c .before .before .before .before .before .before .before .before .before .before .before) .args .work .now)) (with-zeros (p (start (c .before .before .before .before .before .before .before .before .before .before .before))) t) (view (c .before .before .before .before .before .put-heads .last .1 .1 .1 .1 .0))
-zeros-in c t e = put (c .before .before .before .before .before) t e .alone (not-false (c .before .before .before .before .before .put-heads .result) (c .if2 .left))
+shared-slice-read-put-heads-2 c = omega (arith, header (entry (zeros-put (c .before))))
 
 put-heads-requires-2 : tie.Need-put-heads-requires-2
 put-heads-requires-2 c κs =
     let f = c .before .before .before in
-    let k = f .before .before .before .before .before in
-    let s = start (k .before .before .before .before .before .before) in
-    let t = s .pre .0 .0 in (
-      (told s .readable, (t .Q, told s .nonzeros)),
-      (
-        (with-zeros (p s) t, subst (λ (m : ℕ). Alone (p s) m (with-zeros (p s) t) (view (k .put-heads .last .1 .1 .1 .1 .0))) (sym (room-2 k)) (zeros-in f t (s .pre .0 .1))),
-        omega (arith, k .put-heads .kept .1 .1 .1 .1 .1 .0, s .pre .1),
-      ),
-    )
+    let k = zeros-put f in
+    let s = entry k in
+    let t = s .pre .0 .0 in
+    let alone = subst (λ (m : ℕ). Alone (p s) m (with-zeros (p s) t) (view (work k))) (sym (room-2 k)) (zeros-in f t (s .pre .0 .1)) in
+    ((told s .readable, (t .Q, told s .nonzeros)), ((with-zeros (p s) t, alone), omega (arith, k .put-heads .kept .1 .1 .1 .1 .1 .0, s .pre .1)))
 
 same-length-3 : tie.Need-same-length-3
 same-length-3 c = search needs
@@ -124,12 +135,13 @@ returns-3 : tie.Need-returns-3
 returns-3 c t e =
     let n = c .before .before .before .before in
     let f = n .before .before .before .before in
-    let k = f .before .before .before .before .before in
-    let s = start (k .before .before .before .before .before .before) in
+    let k = zeros-put f in
+    let s = entry k in
+    let b = with-zeros (p s) t in
     let v = view (n .put-heads2 .last .1 .1 .1 .1 .0) in
-    start-put t (capacity (s .args .work .now)) v (p s) (chains (s .args .table .now) t e .modulus) (some (k .before .before .before .before .before .before)) (n .put-heads2 .result)
-    (subst (λ (m : ℕ). Alone (p s) m (with-zeros (p s) t) (view (k .put-heads .last .1 .1 .1 .1 .0)) → Filled (p s) m (put-heads true (p s) (t .Q) (with-zeros (p s) t)) (n .put-heads2 .result) v)
-    (room-2 k) (n .put-heads2 .ensures (t .Q) (with-zeros (p s) t) (chains (s .args .table .now) t e .nonzeros)) (zeros-in f t e))
+    start-put t (most s) v (p s) (chains (s .args .table .now) t e .modulus) (some (begun-by k)) (n .put-heads2 .result)
+    (subst (λ (m : ℕ). Alone (p s) m b (view (work k)) → Filled (p s) m (put-heads true (p s) (t .Q) b) (n .put-heads2 .result) v)
+    (room-2 k) (n .put-heads2 .ensures (t .Q) b (chains (s .args .table .now) t e .nonzeros)) (zeros-in f t e))
 
 pub start-spec : {M : Type 1} → statement M
 start-spec =

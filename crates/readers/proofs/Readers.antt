@@ -27,11 +27,10 @@ use types.Run.{Opd, Opds, first, branches, skips, stays, leaves-loop}
 use sound.WpLaws.{FmC}
 use denote.RattleType.{RattleType, owns}
 use denote.Laws.{Is, shows}
-use denote.Plain.{uint-makes}
 use denote.Builtin.{bool, u32, usize}
 use denote.Ref.{RefT, now}
 use denote.Slice.{sliceVal, sliceTy, ShrSlice, shr-slice-copy, shr-slice-lawful}
-use denote.Steps.{only, owned, facts, heard, nothing}
+use denote.Steps.{only, facts, heard, nothing}
 use denote.Struct.Laws as LL
 use denote.Struct.Rest.{own-shut}
 use denote.Triple.Statement.{Contract, Triple}
@@ -45,6 +44,7 @@ use Rattle.readers.specs.declared.Reader.{Reader}
 use Rattle.tables.specs.Words.{word, records}
 use Rattle.readers.specs.Reader.{reader-at}
 use Rattle.readers.proofs.Held.{B, D, L, token}
+use Rattle.readers.proofs.Locals.{with-usize}
 use Rattle.readers.proofs.Reader.Laws as T′
 use Rattle.readers.proofs.new as new
 use Rattle.readers.proofs.new.Symbol as new-def
@@ -71,22 +71,31 @@ module _ {M : Type 1} (𝓤 : URA M) (H : Heap 𝓤) where
   abbrev pub Returned : Val → Type 0 → SProp 𝓤 → Val → SProp 𝓤
   Returned v φ P w = H .⇛ (guard 𝓤 ((w ≡ v) × φ) P)
 
-module _ {M : Type 1} {𝓤 : URA M} {H : Heap 𝓤} {A : Atoms 𝓤} {K : Type 0} {W : Given 𝓤 H A} {Γ : List (Item 𝓤)} {E : Env 𝓤 H} {C : Calls 𝓤 H} {f : Name} {xs : List Operand} {Λ : Loops 𝓤 H} {q : Post 𝓤 H} {d : Place} where
-  pub calls-held : K → FmC 𝓤 H (W .laws) C → {rest : Body} {i : Item 𝓤} {vs : List Val} (v : Val) (φ : Type 0) → ent 𝓤 (mean 𝓤 H A i) (C f vs (Returned 𝓤 H v φ (mean 𝓤 H A i)))
-      → Opds K W (i ∷ Γ) E xs vs → (φ → Seq K W (i ∷ Γ) (lands C Λ E d v rest q)) → Seq K W (i ∷ Γ) (runs C Λ E (seq (call f xs d) rest) q)
+module _ {M : Type 1} {𝓤 : URA M} {H : Heap 𝓤} {A : Atoms 𝓤} {K : Type 0} {W : Given 𝓤 H A} {Γ : List (Item 𝓤)} {E : Env 𝓤 H}
+    {C : Calls 𝓤 H} {f : Name} {xs : List Operand} {Λ : Loops 𝓤 H} {q : Post 𝓤 H} {d : Place} where
+  pub calls-held : K → FmC 𝓤 H (W .laws) C → {rest : Body} {i : Item 𝓤} {vs : List Val} (v : Val) (φ : Type 0)
+      → ent 𝓤 (mean 𝓤 H A i) (C f vs (Returned 𝓤 H v φ (mean 𝓤 H A i)))
+      → Opds K W (i ∷ Γ) E xs vs → (φ → Seq K W (i ∷ Γ) (lands C Λ E d v rest q))
+      → Seq K W (i ∷ Γ) (runs C Λ E (seq (call f xs d) rest) q)
   calls-held t fm {rest} {i} {vs} v φ met os k =
       calls-from t fm i vs (Returned 𝓤 H v φ (mean 𝓤 H A i)) met os (λ w.
-      use1 W (later (given ((w ≡ v) × φ) i)) (id⊢ 𝓤 _) $ await t tt $ learn t (λ e. regoal t (λ (u : Val). lands C Λ E d u rest q) (e .0) refl $ k (e .1)))
+      use1 W (later (given ((w ≡ v) × φ) i)) (id⊢ 𝓤 _) $ await t tt $ learn t (λ e.
+      regoal t (λ (u : Val). lands C Λ E d u rest q) (e .0) refl $ k (e .1)))
 
-  pub calls-held-last : K → FmC 𝓤 H (W .laws) C → {i : Item 𝓤} {vs : List Val} (v : Val) (φ : Type 0) → ent 𝓤 (mean 𝓤 H A i) (C f vs (Returned 𝓤 H v φ (mean 𝓤 H A i)))
+  pub calls-held-last : K → FmC 𝓤 H (W .laws) C → {i : Item 𝓤} {vs : List Val} (v : Val) (φ : Type 0)
+      → ent 𝓤 (mean 𝓤 H A i) (C f vs (Returned 𝓤 H v φ (mean 𝓤 H A i)))
       → Opds K W (i ∷ Γ) E xs vs → (φ → Seq K W (i ∷ Γ) (settles E d v q)) → Seq K W (i ∷ Γ) (runs C Λ E (call f xs d) q)
   calls-held-last t fm {i} {vs} v φ met os k =
       calls-from-last t fm i vs (Returned 𝓤 H v φ (mean 𝓤 H A i)) met os (λ w.
-      use1 W (later (given ((w ≡ v) × φ) i)) (id⊢ 𝓤 _) $ await t tt $ learn t (λ e. regoal t (λ (u : Val). settles E d u q) (e .0) refl $ k (e .1)))
+      use1 W (later (given ((w ≡ v) × φ) i)) (id⊢ 𝓤 _) $ await t tt $ learn t (λ e.
+      regoal t (λ (u : Val). settles E d u q) (e .0) refl $ k (e .1)))
 
 -- ── an `if` without `else`, where the test is known ──
-module _ {M : Type 1} {𝓤 : URA M} {H : Heap 𝓤} {A : Atoms 𝓤} {K : Type 0} {W : Given 𝓤 H A} {Γ : List (Item 𝓤)} {E : Env 𝓤 H} {C : Calls 𝓤 H} {Λ : Loops 𝓤 H} {q : Post 𝓤 H} {o : Operand} {a b : Body} where
-  pub takes-arm : K → Opd K W Γ E o (vbool true) → Step K W Γ (runs C Λ E a (anyQ (afterSeq 𝓤 H (Wp 𝓤 H C Λ E b (post 𝓤 H q)) (post 𝓤 H q)))) Γ (runs C Λ E (seq (cond o a skip) b) q)
+module _ {M : Type 1} {𝓤 : URA M} {H : Heap 𝓤} {A : Atoms 𝓤} {K : Type 0} {W : Given 𝓤 H A} {Γ : List (Item 𝓤)} {E : Env 𝓤 H}
+    {C : Calls 𝓤 H} {Λ : Loops 𝓤 H} {q : Post 𝓤 H} {o : Operand} {a b : Body} where
+  pub takes-arm : K → Opd K W Γ E o (vbool true)
+      → Step K W Γ (runs C Λ E a (anyQ (afterSeq 𝓤 H (Wp 𝓤 H C Λ E b (post 𝓤 H q)) (post 𝓤 H q)))) Γ
+      (runs C Λ E (seq (cond o a skip) b) q)
   takes-arm t d = step (λ s. first t $ branches t d (λ _. s) (λ z. absurd z))
 
   pub skips-arm : K → Opd K W Γ E o (vbool false) → Step K W Γ (runs C Λ E b q) Γ (runs C Λ E (seq (cond o a skip) b) q)
@@ -114,8 +123,10 @@ module _ {M : Type 1} {𝓤 : URA M} {H : Heap 𝓤} {A : Atoms 𝓤} {K : Type 
       go false e d′ = stays t d′ $ more (λ z. true≢false (ap (λ (k : ℕ). eqb k 0) (sym z) ∙ e))
 
 module _ {M : Type 1} (𝓤 : URA M) (H : Heap 𝓤) (A : Atoms 𝓤) (W : Given 𝓤 H A) (C : Calls 𝓤 H) (fm : FmC 𝓤 H (W .laws) C) where
-  -- A function that meets its contract c is called where I is had: I gives what c asks for, and what is had after the call, P, with what was kept, Q, gives I.
-  pub called : {f : Name} (c : Contract 𝓤) → Triple 𝓤 (C f) c → (x : c .Ghost) (I P Q : SProp 𝓤) (R : RattleType) (E : R .Denot → SProp 𝓤) (ψ : R .Denot → Type 0) (v : Val) (φ : Type 0)
+  -- A function that meets its contract c is called where I is had: I gives what c asks for, and what is had after the call, P, with what was kept, Q,
+  -- gives I.
+  pub called : {f : Name} (c : Contract 𝓤) → Triple 𝓤 (C f) c → (x : c .Ghost) (I P Q : SProp 𝓤)
+      (R : RattleType) (E : R .Denot → SProp 𝓤) (ψ : R .Denot → Type 0) (v : Val) (φ : Type 0)
       → ((w : Val) → ent 𝓤 (c .post x w) (H .⇛ (ex 𝓤 (λ (r : R .Denot). sep 𝓤 (sep 𝓤 P (sem 𝓤 H A (R .own r (w ∷ [])))) (E r)))))
       → ((r : R .Denot) → ent 𝓤 (E r) (fact 𝓤 (ψ r))) → ((w : Val) (r : R .Denot) → ψ r → Is R r (w ∷ []) → (w ≡ v) × φ)
       → ent 𝓤 I (sep 𝓤 (c .pre x) Q) → ent 𝓤 (sep 𝓤 P Q) I
@@ -126,15 +137,21 @@ module _ {M : Type 1} (𝓤 : URA M) (H : Heap 𝓤) (A : Atoms 𝓤) (W : Given
       (fm f (c .args x) (c .post x) (Returned 𝓤 H v φ I) Q (λ w.
       qed W (raw (c .post x w) ∷ raw Q ∷ []) ∵ updating ! $
       use1 W (later (some (λ (r : R .Denot). (raw P ⊛ ‵ (R .own r (w ∷ []))) ⊛ raw (E r)))) (post w) $ await ! tt $ pick ! (λ r.
-      split ! $ move ! (1 ∷ []) $ use1 W (raw (fact 𝓤 (ψ r))) (said r) $ heard ! (ψ r) (λ e. split ! $ move ! (1 ∷ []) $ facts ! R (Is R) (shows 𝓤 H A R) r (w ∷ []) (λ is.
+      split ! $ move ! (1 ∷ []) $ use1 W (raw (fact 𝓤 (ψ r))) (said r) $ heard ! (ψ r) (λ e.
+      split ! $ move ! (1 ∷ []) $ facts ! R (Is R) (shows 𝓤 H A R) r (w ∷ []) (λ is.
       at-once ! $ check ! (so w r e is) $ by ! back))))))
 
 -- ── two clauses ──
-pub says-both : {M : Type 1} {𝓤 : URA M} {H : Heap 𝓤} {A : Atoms 𝓤} {K : Type 0} {W : Given 𝓤 H A} {Γ : List (Item 𝓤)} → K → {φ ψ : Type 0} {P : SProp 𝓤} → φ → ψ → Step K W Γ (prop P) Γ (prop (sep 𝓤 P (sep 𝓤 (fact 𝓤 φ) (fact 𝓤 ψ))))
-says-both {𝓤 = 𝓤} t {φ} {ψ} {P} x y = step (λ s. suffices t (sep 𝓤 (sep 𝓤 P (fact 𝓤 φ)) (fact 𝓤 ψ)) (assoc∗ 𝓤 P (fact 𝓤 φ) (fact 𝓤 ψ)) $ says t y $ says t x $ s)
+pub says-both : {M : Type 1} {𝓤 : URA M} {H : Heap 𝓤} {A : Atoms 𝓤} {K : Type 0} {W : Given 𝓤 H A} {Γ : List (Item 𝓤)} → K
+    → {φ ψ : Type 0} {P : SProp 𝓤} → φ → ψ → Step K W Γ (prop P) Γ (prop (sep 𝓤 P (sep 𝓤 (fact 𝓤 φ) (fact 𝓤 ψ))))
+says-both {𝓤 = 𝓤} t {φ} {ψ} {P} x y = step (λ s.
+    suffices t (sep 𝓤 (sep 𝓤 P (fact 𝓤 φ)) (fact 𝓤 ψ)) (assoc∗ 𝓤 P (fact 𝓤 φ) (fact 𝓤 ψ)) $ says t y $ says t x $ s)
 
-pub needs-both : {M : Type 1} (𝓤 : URA M) (φ ψ : Type 0) (P : SProp 𝓤) {Q : SProp 𝓤} → (φ → ψ → ent 𝓤 P Q) → ent 𝓤 (sep 𝓤 P (sep 𝓤 (fact 𝓤 φ) (fact 𝓤 ψ))) Q
-needs-both 𝓤 φ ψ P h = via 𝓤 (sep 𝓤 (sep 𝓤 P (fact 𝓤 φ)) (fact 𝓤 ψ)) (assoc′ 𝓤 P (fact 𝓤 φ) (fact 𝓤 ψ)) (needs 𝓤 ψ (sep 𝓤 P (fact 𝓤 φ)) (λ y. needs 𝓤 φ P (λ x. h x y)))
+pub needs-both : {M : Type 1} (𝓤 : URA M) (φ ψ : Type 0) (P : SProp 𝓤) {Q : SProp 𝓤}
+    → (φ → ψ → ent 𝓤 P Q) → ent 𝓤 (sep 𝓤 P (sep 𝓤 (fact 𝓤 φ) (fact 𝓤 ψ))) Q
+needs-both 𝓤 φ ψ P h =
+    via 𝓤 (sep 𝓤 (sep 𝓤 P (fact 𝓤 φ)) (fact 𝓤 ψ)) (assoc′ 𝓤 P (fact 𝓤 φ) (fact 𝓤 ψ))
+    (needs 𝓤 ψ (sep 𝓤 P (fact 𝓤 φ)) (λ y. needs 𝓤 φ P (λ x. h x y)))
 
 -- ── the reader's functions ──
 module _ {M : Type 1} (𝓤 : URA M) (H : Heap 𝓤) (A : Atoms 𝓤) (mem : Memory → SProp 𝓤) (run : Routine → Fun 𝓤) where
@@ -192,13 +209,17 @@ reading = T′.mir erased
 abbrev pub reader : RefT (List ℕ) → ℕ → Val
 reader t i = T′.lowered (reader-at t i)
 
-pub reader-typed : {M : Type 1} (𝓤 : URA M) (H : Heap 𝓤) (A : Atoms 𝓤) → Given 𝓤 H A → (κ : Lft) (t : RefT (List ℕ)) → Is (ShrSlice (named 0) κ u32) t (slice t ∷ []) → (i : ℕ) → i < 2 ^ 64 → Holds (hasTy reading (reader t i)) × WT (reader t i)
-reader-typed 𝓤 H A W κ t is i fits = (tt, (shr-slice-lawful 𝓤 H A W (named 0) κ u32 .typed t (slice t ∷ []) is .0 .1, (record { fits = fits }, tt)))
+pub reader-typed : {M : Type 1} (𝓤 : URA M) (H : Heap 𝓤) (A : Atoms 𝓤) → Given 𝓤 H A → (κ : Lft) (t : RefT (List ℕ))
+    → Is (ShrSlice (named 0) κ u32) t (slice t ∷ []) → (i : ℕ) → i < 2 ^ 64 → Holds (hasTy reading (reader t i)) × WT (reader t i)
+reader-typed 𝓤 H A W κ t is i fits =
+    (tt, (shr-slice-lawful 𝓤 H A W (named 0) κ u32 .typed t (slice t ∷ []) is .0 .1, (record { fits = fits }, tt)))
 
-pub twice : {M : Type 1} (𝓤 : URA M) (H : Heap 𝓤) (A : Atoms 𝓤) → Given 𝓤 H A → (κ : Lft) (t : RefT (List ℕ)) → ent 𝓤 (sem 𝓤 H A (Own κ t)) (sep 𝓤 (sem 𝓤 H A (Own κ t)) (sem 𝓤 H A (Own κ t)))
+pub twice : {M : Type 1} (𝓤 : URA M) (H : Heap 𝓤) (A : Atoms 𝓤) → Given 𝓤 H A → (κ : Lft) (t : RefT (List ℕ))
+    → ent 𝓤 (sem 𝓤 H A (Own κ t)) (sep 𝓤 (sem 𝓤 H A (Own κ t)) (sem 𝓤 H A (Own κ t)))
 twice 𝓤 H A W κ t = shr-slice-copy 𝓤 H A W (named 0) κ u32 .twice t (slice t ∷ [])
 
-module _ {M : Type 1} (𝓤 : URA M) (H : Heap 𝓤) (A : Atoms 𝓤) (W : Given 𝓤 H A) (mem : Memory → SProp 𝓤) (run : Routine → Fun 𝓤) (C : Calls 𝓤 H) (fm : FmC 𝓤 H (W .laws) C) (κ : Lft) (q : Share) (t : RefT (List ℕ)) where
+module _ {M : Type 1} (𝓤 : URA M) (H : Heap 𝓤) (A : Atoms 𝓤) (W : Given 𝓤 H A) (mem : Memory → SProp 𝓤) (run : Routine → Fun 𝓤)
+    (C : Calls 𝓤 H) (fm : FmC 𝓤 H (W .laws) C) (κ : Lft) (q : Share) (t : RefT (List ℕ)) where
   abbrev own : Fml
   own = Own κ t
 
@@ -210,15 +231,21 @@ module _ {M : Type 1} (𝓤 : URA M) (H : Heap 𝓤) (A : Atoms 𝓤) (W : Given
 
   -- the reader at record i is owned where its table is
   made : (i : ℕ) → i < 2 ^ 64 → ent 𝓤 (sem 𝓤 H A own) (sem 𝓤 H A (B (κ, tt) .own (reader-at t i) (reader t i ∷ [])))
-  made i fits = qed W (‵ own ∷ []) ∵ nothing ! $ owned ! usize (Is usize) (uint-makes 𝓤 H A W w64) i _ (refl, fits) $ fjoin ! $ move ! (1 ∷ 0 ∷ []) $ fjoin ! $ by ! (own-shut 𝓤 H A W (D κ) (L κ) (t, (i, tt)))
+  made i fits =
+      qed W (‵ own ∷ []) ∵ nothing ! $ with-usize ! i fits $ move ! (1 ∷ 0 ∷ []) $ fjoin ! $ by ! (own-shut 𝓤 H A W (D κ) (L κ) (t, (i, tt)))
 
   told : (r : Reader) (w : Val) → Is (B (κ, tt)) r (w ∷ []) → w ≡ T′.lowered r
   told r w is = ap only (LL.tells (D κ) (L κ) r (w ∷ []) is)
 
-  pub new-called : Triple 𝓤 (C #new) (New 𝓤 H A mem run) → (i : ℕ) → i < 2 ^ 64 → ent 𝓤 held (C #new (slice t ∷ vint w64 i ∷ []) (Returned 𝓤 H (reader t i) (Unit {0}) held))
+  pub new-called : Triple 𝓤 (C #new) (New 𝓤 H A mem run) → (i : ℕ) → i < 2 ^ 64
+      → ent 𝓤 held (C #new (slice t ∷ vint w64 i ∷ []) (Returned 𝓤 H (reader t i) (Unit {0}) held))
   new-called met i fits =
-      called 𝓤 H A W C fm (New 𝓤 H A mem run) met x held (mean 𝓤 H A (token 𝓤 κ q)) (sem 𝓤 H A own) (B (κ, tt)) (ensured 𝓤 H A new.ended (new.clauses 𝓤 H A mem run) (κ, tt) (t, (i, tt)) tt) (λ r. r ≡ reader-at t i) (reader t i) (Unit {0})
-      (λ w. id⊢ 𝓤 _) (λ r. exE 𝓤 _ (λ ws. snd∗ 𝓤 (sem 𝓤 H A (lasts new.ended (κ, tt) (t, (i, tt)) ws)) (fact 𝓤 (r ≡ reader-at t i)))) (λ w r e is. (told r w is ∙ ap T′.lowered e, tt))
+      called 𝓤 H A W C fm (New 𝓤 H A mem run) met x held (mean 𝓤 H A (token 𝓤 κ q)) (sem 𝓤 H A own) (B (κ, tt))
+      (ensured 𝓤 H A new.ended (new.clauses 𝓤 H A mem run) (κ, tt) (t, (i, tt)) tt)
+      (λ r. r ≡ reader-at t i) (reader t i) (Unit {0})
+      (λ w. id⊢ 𝓤 _)
+      (λ r. exE 𝓤 _ (λ ws. snd∗ 𝓤 (sem 𝓤 H A (lasts new.ended (κ, tt) (t, (i, tt)) ws)) (fact 𝓤 (r ≡ reader-at t i))))
+      (λ w r e is. (told r w is ∙ ap T′.lowered e, tt))
       asked had
     where
       passed : Vals new.signature (κ, tt)
@@ -230,8 +257,9 @@ module _ {M : Type 1} (𝓤 : URA M) (H : Heap 𝓤) (A : Atoms 𝓤) (W : Given
       asked : ent 𝓤 held (sep 𝓤 (New 𝓤 H A mem run .pre x) (sem 𝓤 H A own))
       asked =
           qed W (‵ (flft κ q) ∷ ‵ own ∷ []) ∵ move ! (1 ∷ []) $ use1 W (‵ own ⊛ ‵ own) (twice 𝓤 H A W κ t) $ split ! $
-          nothing ! $ owned ! usize (Is usize) (uint-makes 𝓤 H A W w64) i _ (refl, fits) $ fjoin ! $ move ! (1 ∷ 0 ∷ []) $ fjoin ! $ nothing ! $ move ! (3 ∷ 0 ∷ []) $ join ! $
-          use2 W (raw (New 𝓤 H A mem run .pre x)) (qed W (token 𝓤 κ q ∷ ‵ (owns (ShrSlice (named 0) κ u32 ∷ usize ∷ []) (t, (i, tt)) passed) ∷ []) ∵ join ! $ frame ! $ done !) $ frame ! $ done !
+          nothing ! $ with-usize ! i fits $ move ! (1 ∷ 0 ∷ []) $ fjoin ! $ nothing ! $ move ! (3 ∷ 0 ∷ []) $ join ! $
+          use2 W (raw (New 𝓤 H A mem run .pre x))
+          (qed W (token 𝓤 κ q ∷ ‵ (owns (ShrSlice (named 0) κ u32 ∷ usize ∷ []) (t, (i, tt)) passed) ∷ []) ∵ join ! $ frame ! $ done !) $ frame ! $ done !
 
   -- a call at the reader alone
   module _ (i : ℕ) (fits : i < 2 ^ 64) where
@@ -241,19 +269,33 @@ module _ {M : Type 1} (𝓤 : URA M) (H : Heap 𝓤) (A : Atoms 𝓤) (W : Given
     lone : ent 𝓤 held (sep 𝓤 passes (sem 𝓤 H A own))
     lone =
         qed W (‵ (flft κ q) ∷ ‵ own ∷ []) ∵ move ! (1 ∷ []) $ use1 W (‵ own ⊛ ‵ own) (twice 𝓤 H A W κ t) $ split ! $
-        use1 W (‵ (B (κ, tt) .own (reader-at t i) (reader t i ∷ []))) (made i fits) $ nothing ! $ move ! (1 ∷ 0 ∷ []) $ fjoin ! $ nothing ! $ move ! (3 ∷ 0 ∷ []) $ join ! $
-        use2 W (raw passes) (qed W (token 𝓤 κ q ∷ ‵ (owns (B (κ, tt) ∷ []) (reader-at t i, tt) (reader t i ∷ [], tt)) ∷ []) ∵ join ! $ frame ! $ done !) $ frame ! $ done !
+        use1 W (‵ (B (κ, tt) .own (reader-at t i) (reader t i ∷ []))) (made i fits) $
+        nothing ! $ move ! (1 ∷ 0 ∷ []) $ fjoin ! $ nothing ! $ move ! (3 ∷ 0 ∷ []) $ join ! $
+        use2 W (raw passes)
+        (qed W (token 𝓤 κ q ∷ ‵ (owns (B (κ, tt) ∷ []) (reader-at t i, tt) (reader t i ∷ [], tt)) ∷ []) ∵ join ! $ frame ! $ done !) $ frame ! $ done !
 
-    pub at-called : Triple 𝓤 (C #at) (At 𝓤 H A mem run) → ent 𝓤 held (C #at (reader t i ∷ []) (Returned 𝓤 H (vint w64 i) (Unit {0}) held))
+    pub at-called : Triple 𝓤 (C #at) (At 𝓤 H A mem run)
+        → ent 𝓤 held (C #at (reader t i ∷ []) (Returned 𝓤 H (vint w64 i) (Unit {0}) held))
     at-called met =
-        called 𝓤 H A W C fm (At 𝓤 H A mem run) met (((κ, tt), (q, tt), tt, (reader-at t i, tt), (reader t i ∷ [], tt)), tt) held (mean 𝓤 H A (token 𝓤 κ q)) (sem 𝓤 H A own) usize (ensured 𝓤 H A at.ended (at.clauses 𝓤 H A mem run) (κ, tt) (reader-at t i, tt) tt) (λ r. r ≡ i) (vint w64 i) (Unit {0})
-        (λ w. id⊢ 𝓤 _) (λ r. exE 𝓤 _ (λ ws. snd∗ 𝓤 (sem 𝓤 H A (lasts at.ended (κ, tt) (reader-at t i, tt) ws)) (fact 𝓤 (r ≡ i)))) (λ w r e is. (ap only (is .0) ∙ ap (vint w64) e, tt))
+        called 𝓤 H A W C fm (At 𝓤 H A mem run) met (((κ, tt), (q, tt), tt, (reader-at t i, tt), (reader t i ∷ [], tt)), tt)
+        held (mean 𝓤 H A (token 𝓤 κ q)) (sem 𝓤 H A own) usize
+        (ensured 𝓤 H A at.ended (at.clauses 𝓤 H A mem run) (κ, tt) (reader-at t i, tt) tt)
+        (λ r. r ≡ i) (vint w64 i) (Unit {0})
+        (λ w. id⊢ 𝓤 _)
+        (λ r. exE 𝓤 _ (λ ws. snd∗ 𝓤 (sem 𝓤 H A (lasts at.ended (κ, tt) (reader-at t i, tt) ws)) (fact 𝓤 (r ≡ i))))
+        (λ w r e is. (ap only (is .0) ∙ ap (vint w64) e, tt))
         lone had
 
-    pub is-over-called : Triple 𝓤 (C #is-over) (IsOver 𝓤 H A mem run) → ent 𝓤 held (C #is-over (reader t i ∷ []) (Returned 𝓤 H (vbool (eqb i 0)) (Unit {0}) held))
+    pub is-over-called : Triple 𝓤 (C #is-over) (IsOver 𝓤 H A mem run)
+        → ent 𝓤 held (C #is-over (reader t i ∷ []) (Returned 𝓤 H (vbool (eqb i 0)) (Unit {0}) held))
     is-over-called met =
-        called 𝓤 H A W C fm (IsOver 𝓤 H A mem run) met (((κ, tt), (q, tt), tt, (reader-at t i, tt), (reader t i ∷ [], tt)), tt) held (mean 𝓤 H A (token 𝓤 κ q)) (sem 𝓤 H A own) bool (ensured 𝓤 H A is-over.ended (is-over.clauses 𝓤 H A mem run) (κ, tt) (reader-at t i, tt) tt) (λ r. r ≡ eqb i 0) (vbool (eqb i 0)) (Unit {0})
-        (λ w. id⊢ 𝓤 _) (λ r. exE 𝓤 _ (λ ws. snd∗ 𝓤 (sem 𝓤 H A (lasts is-over.ended (κ, tt) (reader-at t i, tt) ws)) (fact 𝓤 (r ≡ eqb i 0)))) (λ w r e is. (ap only is ∙ ap vbool e, tt))
+        called 𝓤 H A W C fm (IsOver 𝓤 H A mem run) met (((κ, tt), (q, tt), tt, (reader-at t i, tt), (reader t i ∷ [], tt)), tt)
+        held (mean 𝓤 H A (token 𝓤 κ q)) (sem 𝓤 H A own) bool
+        (ensured 𝓤 H A is-over.ended (is-over.clauses 𝓤 H A mem run) (κ, tt) (reader-at t i, tt) tt)
+        (λ r. r ≡ eqb i 0) (vbool (eqb i 0)) (Unit {0})
+        (λ w. id⊢ 𝓤 _)
+        (λ r. exE 𝓤 _ (λ ws. snd∗ 𝓤 (sem 𝓤 H A (lasts is-over.ended (κ, tt) (reader-at t i, tt) ws)) (fact 𝓤 (r ≡ eqb i 0))))
+        (λ w r e is. (ap only is ∙ ap vbool e, tt))
         lone had
 
     -- Word j of the record reached.
@@ -265,24 +307,39 @@ module _ {M : Type 1} (𝓤 : URA M) (H : Heap 𝓤) (A : Atoms 𝓤) (W : Given
       passed = (reader t i ∷ [], (vint w64 j ∷ [], tt))
 
       abbrev passes-j : SProp 𝓤
-      passes-j = sep 𝓤 (sep 𝓤 (mean 𝓤 H A (token 𝓤 κ q)) (sem 𝓤 H A (owns (B (κ, tt) ∷ usize ∷ []) (reader-at t i, (j, tt)) passed))) (fact 𝓤 ((i < records (now t)) × (j < 4)))
+      passes-j =
+          sep 𝓤 (sep 𝓤 (mean 𝓤 H A (token 𝓤 κ q)) (sem 𝓤 H A (owns (B (κ, tt) ∷ usize ∷ []) (reader-at t i, (j, tt)) passed)))
+          (fact 𝓤 ((i < records (now t)) × (j < 4)))
 
       asked : ent 𝓤 held (sep 𝓤 passes-j (sem 𝓤 H A own))
       asked =
           qed W (‵ (flft κ q) ∷ ‵ own ∷ []) ∵ move ! (1 ∷ []) $ use1 W (‵ own ⊛ ‵ own) (twice 𝓤 H A W κ t) $ split ! $
-          use1 W (‵ (B (κ, tt) .own (reader-at t i) (reader t i ∷ []))) (made i fits) $ nothing ! $ owned ! usize (Is usize) (uint-makes 𝓤 H A W w64) j _ (refl, lt-trans word-j (lit< tt)) $ fjoin ! $ move ! (1 ∷ 0 ∷ []) $ fjoin ! $ nothing ! $ move ! (3 ∷ 0 ∷ []) $ join ! $
-          use2 W (raw passes-j) (qed W (token 𝓤 κ q ∷ ‵ (owns (B (κ, tt) ∷ usize ∷ []) (reader-at t i, (j, tt)) passed) ∷ []) ∵ says ! (inside, word-j) $ frame ! $ done !) $ frame ! $ done !
+          use1 W (‵ (B (κ, tt) .own (reader-at t i) (reader t i ∷ []))) (made i fits) $
+          nothing ! $ with-usize ! j (lt-trans word-j (lit< tt)) $ move ! (1 ∷ 0 ∷ []) $ fjoin ! $ nothing ! $ move ! (3 ∷ 0 ∷ []) $ join ! $
+          use2 W (raw passes-j)
+          (qed W (token 𝓤 κ q ∷ ‵ (owns (B (κ, tt) ∷ usize ∷ []) (reader-at t i, (j, tt)) passed) ∷ []) ∵
+          says ! (inside, word-j) $ frame ! $ done !) $ frame ! $ done !
 
-      pub word-called : Triple 𝓤 (C #word) (Words 𝓤 H A mem run) → ent 𝓤 held (C #word (reader t i ∷ vint w64 j ∷ []) (Returned 𝓤 H (vint w32 found) (found < 2 ^ 32) held))
+      pub word-called : Triple 𝓤 (C #word) (Words 𝓤 H A mem run)
+          → ent 𝓤 held (C #word (reader t i ∷ vint w64 j ∷ []) (Returned 𝓤 H (vint w32 found) (found < 2 ^ 32) held))
       word-called met =
-          called 𝓤 H A W C fm (Words 𝓤 H A mem run) met (((κ, tt), (q, tt), tt, (reader-at t i, (j, tt)), passed), tt) held (mean 𝓤 H A (token 𝓤 κ q)) (sem 𝓤 H A own) u32 (ensured 𝓤 H A words.ended (words.clauses 𝓤 H A mem run) (κ, tt) (reader-at t i, (j, tt)) tt) (λ r. r ≡ found) (vint w32 found) (found < 2 ^ 32)
-          (λ w. id⊢ 𝓤 _) (λ r. exE 𝓤 _ (λ ws. snd∗ 𝓤 (sem 𝓤 H A (lasts words.ended (κ, tt) (reader-at t i, (j, tt)) ws)) (fact 𝓤 (r ≡ found))))
+          called 𝓤 H A W C fm (Words 𝓤 H A mem run) met (((κ, tt), (q, tt), tt, (reader-at t i, (j, tt)), passed), tt)
+          held (mean 𝓤 H A (token 𝓤 κ q)) (sem 𝓤 H A own) u32
+          (ensured 𝓤 H A words.ended (words.clauses 𝓤 H A mem run) (κ, tt) (reader-at t i, (j, tt)) tt)
+          (λ r. r ≡ found) (vint w32 found) (found < 2 ^ 32)
+          (λ w. id⊢ 𝓤 _)
+          (λ r. exE 𝓤 _ (λ ws. snd∗ 𝓤 (sem 𝓤 H A (lasts words.ended (κ, tt) (reader-at t i, (j, tt)) ws)) (fact 𝓤 (r ≡ found))))
           (λ w r e is. (ap only (is .0) ∙ ap (vint w32) e, subst (λ (z : ℕ). z < 2 ^ 32) e (is .1))) asked had
 
-      pub step-called : Triple 𝓤 (C #step) (Steps 𝓤 H A mem run) → ent 𝓤 held (C #step (reader t i ∷ vint w64 j ∷ []) (Returned 𝓤 H (reader t found) (found < 2 ^ 64) held))
+      pub step-called : Triple 𝓤 (C #step) (Steps 𝓤 H A mem run)
+          → ent 𝓤 held (C #step (reader t i ∷ vint w64 j ∷ []) (Returned 𝓤 H (reader t found) (found < 2 ^ 64) held))
       step-called met =
-          called 𝓤 H A W C fm (Steps 𝓤 H A mem run) met (((κ, tt), (q, tt), tt, (reader-at t i, (j, tt)), passed), tt) held (mean 𝓤 H A (token 𝓤 κ q)) (sem 𝓤 H A own) (B (κ, tt)) (ensured 𝓤 H A steps.ended (steps.clauses 𝓤 H A mem run) (κ, tt) (reader-at t i, (j, tt)) tt) (λ r. r ≡ reader-at t found) (reader t found) (found < 2 ^ 64)
-          (λ w. id⊢ 𝓤 _) (λ r. exE 𝓤 _ (λ ws. snd∗ 𝓤 (sem 𝓤 H A (lasts steps.ended (κ, tt) (reader-at t i, (j, tt)) ws)) (fact 𝓤 (r ≡ reader-at t found))))
+          called 𝓤 H A W C fm (Steps 𝓤 H A mem run) met (((κ, tt), (q, tt), tt, (reader-at t i, (j, tt)), passed), tt)
+          held (mean 𝓤 H A (token 𝓤 κ q)) (sem 𝓤 H A own) (B (κ, tt))
+          (ensured 𝓤 H A steps.ended (steps.clauses 𝓤 H A mem run) (κ, tt) (reader-at t i, (j, tt)) tt)
+          (λ r. r ≡ reader-at t found) (reader t found) (found < 2 ^ 64)
+          (λ w. id⊢ 𝓤 _)
+          (λ r. exE 𝓤 _ (λ ws. snd∗ 𝓤 (sem 𝓤 H A (lasts steps.ended (κ, tt) (reader-at t i, (j, tt)) ws)) (fact 𝓤 (r ≡ reader-at t found))))
           (λ w r e is. (told r w is ∙ ap T′.lowered e, subst (λ (r : Reader). r .at < 2 ^ 64) e (is .1 .1 .1 .0 .1))) asked had
 
 -- ── a reader of a held table, in a walk ──
@@ -360,8 +417,10 @@ module _ {M : Type 1} (𝓤 : URA M) (H : Heap 𝓤) (A : Atoms 𝓤) (W : Given
   -- what a callee of both asks for, and what is kept
   pub apart : ent 𝓤 (mean 𝓤 H A (Both 𝓤 κ κ′ q q′ t x)) (mean 𝓤 H A (‵ (Own κ′ x) ⊛ ‵ (Own κ t) ⊛ tokens 𝓤 κ κ′ q q′ ⊛ Owns 𝓤 κ κ′ t x))
   apart =
-      qed W (Both 𝓤 κ κ′ q q′ t x ∷ []) ∵ split ! $ split ! $ move ! (2 ∷ []) $ split ! $ move ! (1 ∷ []) $ use1 W (‵ (Own κ′ x) ⊛ ‵ (Own κ′ x)) (twice 𝓤 H A W κ′ x) $ split ! $
-      move ! (4 ∷ []) $ use1 W (‵ (Own κ t) ⊛ ‵ (Own κ t)) (twice 𝓤 H A W κ t) $ split ! $ nothing ! $ move ! (5 ∷ 0 ∷ []) $ join ! $ move ! (5 ∷ 0 ∷ []) $ join ! $
+      qed W (Both 𝓤 κ κ′ q q′ t x ∷ []) ∵ split ! $ split ! $ move ! (2 ∷ []) $ split ! $
+      move ! (1 ∷ []) $ use1 W (‵ (Own κ′ x) ⊛ ‵ (Own κ′ x)) (twice 𝓤 H A W κ′ x) $ split ! $
+      move ! (4 ∷ []) $ use1 W (‵ (Own κ t) ⊛ ‵ (Own κ t)) (twice 𝓤 H A W κ t) $ split ! $
+      nothing ! $ move ! (5 ∷ 0 ∷ []) $ join ! $ move ! (5 ∷ 0 ∷ []) $ join ! $
       -- [the tokens; what the table owns, twice; what the point owns, twice]
       move ! (3 ∷ 1 ∷ 0 ∷ 2 ∷ 4 ∷ []) $ frame ! $ frame ! $ frame ! $ done !
 
@@ -370,7 +429,9 @@ module _ {M : Type 1} (𝓤 : URA M) (H : Heap 𝓤) (A : Atoms 𝓤) (W : Given
 
   -- what is had at exit: the tokens, and what each slice owns
   pub at-exit : ent 𝓤 (mean 𝓤 H A (Both 𝓤 κ κ′ q q′ t x)) (sep 𝓤 (mean 𝓤 H A (tokens 𝓤 κ κ′ q q′)) (mean 𝓤 H A (‵ (Own κ′ x) ⊛ ‵ (Own κ t))))
-  at-exit = qed W (Both 𝓤 κ κ′ q q′ t x ∷ []) ∵ split ! $ split ! $ move ! (2 ∷ []) $ split ! $ nothing ! $ move ! (1 ∷ 0 ∷ []) $ join ! $ move ! (2 ∷ 0 ∷ []) $ join ! $ frame ! $ done !
+  at-exit =
+      qed W (Both 𝓤 κ κ′ q q′ t x ∷ []) ∵ split ! $ split ! $ move ! (2 ∷ []) $ split ! $
+      nothing ! $ move ! (1 ∷ 0 ∷ []) $ join ! $ move ! (2 ∷ 0 ∷ []) $ join ! $ frame ! $ done !
 
   -- a call of a function of both, which gives back the tokens
   pub called-at-both : (C : Calls 𝓤 H) → FmC 𝓤 H (W .laws) C → {f : Name} (c : Contract 𝓤) → Triple 𝓤 (C f) c

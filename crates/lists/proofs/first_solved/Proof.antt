@@ -257,7 +257,8 @@ module _ {M : Type 1} (𝓤 : URA M) (H : Heap 𝓤) (A : Atoms 𝓤) (W : Given
           free1 ! $ free-held ! $ free-held ! $ free-held ! $ free-held ! $ free-held ! $ free-held ! $ free1 ! $ free0 ! $
           by ! (exits (s .place) (place-fits s more) (λ ss h. placed-solved (now t) p n (s .inv) (system s more) d h)))
           -- place += 1; r = readers::step(r, 3)
-          (λ d. takes ! (bin ! (local ! 18 refl) (lit ! tt) (record { fits = plus-fits s more })) (store ! 18 refl (tt, record { fits = plus-fits s more })) $
+          (λ d. takes ! (bin ! (local ! 18 refl) (lit ! tt) (record { fits = plus-fits s more }))
+          (store ! 18 refl (tt, record { fits = plus-fits s more })) $
           takes ! (of-opd ! (local ! 20 refl)) (init ! 2 refl (typed (s .i) (s .fits))) $
           goes-on-last ! along (s .i) (s .fits) 3 (system s more .enough .inside) (lit< tt) (two ! (local ! 2 refl) (lit ! tt)) (λ fits.
           takes-last ! (store ! 20 refl (typed next fits)) $

@@ -1,3 +1,4 @@
 pub mod Held
 pub mod Locals
+pub mod Calls
 pub mod Readers

@@ -49,7 +49,8 @@ use Rattle.tables.specs.Walk.{Readable}
 use Rattle.tables.specs.laws.Chains.{whole-records, Opened, systems-chain}
 use Rattle.lists.proofs.ListLaws.{Placed, placed-first, placed-none, placed-some, placed-solved, placed-on}
 use Rattle.readers.proofs.Locals.{empty, holds, local, one, two, takes, takes-result, takes-last, last-first, free-held, with-u32, with-usize}
-use Rattle.readers.proofs.Readers.{Returned, calls-held, forks, while-more, says-both, needs-both, Known, knows}
+use Rattle.readers.proofs.Calls.{Returned, calls-held, forks, while-more, says-both, needs-both}
+use Rattle.readers.proofs.Readers.{Known, knows}
 use Rattle.readers.proofs.Readers.{slice, Own, Held, lent, reading, reader, reader-typed, Both, tokens, Owns, apart, at-exit, called-at-both}
 use Rattle.readers.proofs.Readers.{Reading, reads, makes-reader, asks-over, asks-at, goes-on, goes-on-last}
 use Rattle.lists.proofs.is_solved as is-solved

@@ -51,7 +51,8 @@ use Rattle.tables.specs.Read.{good, read-head}
 use Rattle.tables.specs.Walk.{Readable}
 use Rattle.lists.proofs.ListLaws.{leader-none, first-inside, leader-some}
 use Rattle.readers.proofs.Locals.{local, one, two, takes, takes-result, last-first, free-held, with-u32, with-usize, with-u64}
-use Rattle.readers.proofs.Readers.{Returned, called, calls-held, forks, New, IsOver, Words, Steps, slice, Held, reading, reader, reader-typed}
+use Rattle.readers.proofs.Calls.{Returned, called, calls-held, forks}
+use Rattle.readers.proofs.Readers.{New, IsOver, Words, Steps, slice, Held, reading, reader, reader-typed}
 use Rattle.readers.proofs.Readers.{new-called, is-over-called, word-called, step-called}
 use Rattle.readers.proofs.new.Symbol as new-def
 use Rattle.readers.proofs.new.Symbol.{name as #new}

@@ -51,7 +51,8 @@ use Rattle.tables.specs.laws.Linked.{good-same, left}
 use Rattle.points.proofs.PointLaws.{MatchLeft, match-start, match-end, match-inside, match-read, match-less, match-on, match-fails}
 use Rattle.points.proofs.PointLaws.{differ, agree}
 use Rattle.readers.proofs.Locals.{empty, holds, local, one, two, takes, takes-result, takes-last, last-first, free-held, with-u32, with-usize}
-use Rattle.readers.proofs.Readers.{Returned, calls-held, forks, while-more, says-both, needs-both, Known, knows}
+use Rattle.readers.proofs.Calls.{Returned, calls-held, forks, while-more, says-both, needs-both}
+use Rattle.readers.proofs.Readers.{Known, knows}
 use Rattle.readers.proofs.Readers.{slice, Own, Held, lent, reading, reader, reader-typed, Both, tokens, Owns, apart, at-exit, called-at-both}
 use Rattle.readers.proofs.Readers.{Reading, reads, makes-reader, asks-over, asks-at, goes-on-last}
 use Rattle.points.proofs.value_at as value-at

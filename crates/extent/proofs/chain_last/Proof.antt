@@ -1,7 +1,8 @@
 -- `chain_last` meets its contract. The invariant: what is left of the chain ends where the whole does. The measure is the number of
 -- records behind `at`.
 use mathlib.Core.Path.{_≡_, sym, _∙_}
-use Prim.Native.Nat.{_-_, _<_}
+use mathlib.Core.List.{List}
+use Prim.Native.Nat.{ℕ, _-_, _<_}
 use native.Mathlib.Omega.{arith}
 use borrow.Author.Needs.{needs}
 use Rattle.tables.specs.Words.{word, records, follow}
@@ -19,13 +20,31 @@ Inv-loop list i j at₀ index₀ at index = Walking list (chain-last list i j) a
 abbrev μ-loop : tie.MeasureT-loop
 μ-loop list i j at₀ index₀ at index = records list - at
 
--- The index leads to record k.
-followed : (c : tie.After-known-told Inv-loop μ-loop) → next (follow (c .before .before .before .before .before .before .before .args .list .now) (c .before .before .before .before .loop .at) (c .before .before .before .before .loop .index)) ≡ To (c .before .k .given .0 .0)
-followed c = sym (c .before .before .before .follow .ensures) ∙ c .before .k .given .1
+-- ── the places ──
+-- The index at the loop's head is followed, and leads to record k.
+abbrev Followed : Type 0
+Followed = tie.After-follow Inv-loop μ-loop
 
-inside : (c : tie.After-known-told Inv-loop μ-loop) → (c .before .before .before .before .loop .at < c .before .k .given .0 .0) × (c .before .k .given .0 .0 < records (c .before .before .before .before .before .before .before .args .list .now))
-inside c = next-inside (c .before .before .before .before .before .before .before .args .list .now) (c .before .before .before .before .loop .at) (c .before .before .before .before .loop .index) (c .before .k .given .0 .0) (followed c)
+abbrev list : Followed → List ℕ
+list c = c .before .before .before .before .args .list .now
 
+abbrev Found : Type 0
+Found = tie.After-k Inv-loop μ-loop
+
+abbrev followed : Found → Followed
+followed c = c .before .before
+
+abbrev k : Found → ℕ
+k c = c .k .given .0 .0
+
+-- ── what is known there ──
+leads-on : (c : Found) → let f = followed c in next (follow (list f) (f .before .loop .at) (f .before .loop .index)) ≡ To (k c)
+leads-on c = sym (followed c .follow .ensures) ∙ c .k .given .1
+
+inside : (c : Found) → let f = followed c in (f .before .loop .at < k c) × (k c < records (list f))
+inside c = let f = followed c in next-inside (list f) (f .before .loop .at) (f .before .loop .index) (k c) (leads-on c)
+
+-- ── the needs ──
 word-requires : tie.Need-word-requires Inv-loop μ-loop
 word-requires c κs = search needs
 
@@ -41,29 +60,34 @@ enum-known-k : tie.Need-enum-known-k Inv-loop μ-loop
 enum-known-k c = search needs
 
 word-requires-2 : tie.Need-word-requires-2 Inv-loop μ-loop
-word-requires-2 c κs = (inside c .1, omega arith)
+word-requires-2 c κs = (inside (c .before) .1, omega arith)
 
 loop-less : tie.Need-loop-less Inv-loop μ-loop
-loop-less c = omega (arith, inside (c .before) .0, inside (c .before) .1)
+loop-less c = let h = inside (c .before .before) in omega (arith, h .0, h .1)
 
 loop-again : tie.Need-loop-again Inv-loop μ-loop
 loop-again c =
-    let w = c .before .before .before .before .before .before .before .before .args .list .now in
-    rw (c .word2 .ensures) (walking-on w (c .before .before .before .before .before .loop .at) (c .before .before .before .before .before .loop .index) (c .before .before .k .given .0 .0) (c .before .before .before .before .before .loop .inv) (followed (c .before)))
+    let d = c .before .before in
+    let l = followed d .before .loop in
+    rw (c .word2 .ensures) (walking-on (list (followed d)) (l .at) (l .index) (k d) (l .inv) (leads-on d))
 
 enum-told : tie.Need-enum-told Inv-loop μ-loop
 enum-told c = search needs
 
 returns : tie.Need-returns Inv-loop μ-loop
 returns c =
-    (walking-end (c .before .before .before .before .before .before .args .list .now) (c .before .before .before .loop .at) (c .before .before .before .loop .index) (c .before .before .before .loop .inv) (sym (c .before .before .follow .ensures) ∙ c .enum-told .given .1), c .before .before .before .loop .inv .inside)
+    let f = c .before .before in
+    let l = f .before .loop in
+    (walking-end (list f) (l .at) (l .index) (l .inv) (sym (f .follow .ensures) ∙ c .enum-told .given .1), l .inv .inside)
 
 enum-told-2 : tie.Need-enum-told-2 Inv-loop μ-loop
 enum-told-2 c = search needs
 
 returns-2 : tie.Need-returns-2 Inv-loop μ-loop
 returns-2 c =
-    (walking-astray (c .before .before .before .before .before .before .args .list .now) (c .before .before .before .loop .at) (c .before .before .before .loop .index) (c .before .before .before .loop .inv) (sym (c .before .before .follow .ensures) ∙ c .enum-told2 .given .1), c .before .before .before .loop .inv .inside)
+    let f = c .before .before in
+    let l = f .before .loop in
+    (walking-astray (list f) (l .at) (l .index) (l .inv) (sym (f .follow .ensures) ∙ c .enum-told2 .given .1), l .inv .inside)
 
 pub chain-last-spec : {M : Type 1} → statement M
 chain-last-spec =

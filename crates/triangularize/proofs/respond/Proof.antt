@@ -9,6 +9,18 @@ use Rattle.triangularize.proofs.ResponseLaws.{too-long, broken, answere
 use Rattle.triangularize.proofs.respond.Statement.{statement}
 use Rattle.triangularize.proofs.respond.Tie as tie
 
+-- ── the places, and the ways back from one to another ──
+-- The bytes are whole words, which are decoded; then the elimination runs.
+abbrev entry : tie.Else2 → tie.Start
+entry c = c .before .before .before .before .before .before .before
+
+abbrev whole-words : tie.After-decode → tie.Else2
+whole-words c = c .before .before
+
+abbrev decoded : tie.After-eliminate → tie.After-decode
+decoded c = c .before .before .before .before .before .before
+
+-- ── the needs ──
 slice-aggregate-print-line : tie.Need-slice-aggregate-print-line
 slice-aggregate-print-line c = search needs
 
@@ -21,7 +33,9 @@ same-length c = search needs
 returns : tie.Need-returns
 returns c =
     let e = c .before .before .print-line .ensures in
-    (e .0, too-long (c .before .before .before .before .before .before .before .before .before .before .before .args .bytes .now) (omega (arith, c .before .before .before .before .before .if1 .taken)) (e .1 (omega arith) .is))
+    let i = c .before .before .before .before .before in
+    let b = i .before .before .before .before .before .before .args .bytes .now in
+    (e .0, too-long b (omega (arith, i .if1 .taken)) (e .1 (omega arith) .is))
 
 slice-aggregate-print-line-2 : tie.Need-slice-aggregate-print-line-2
 slice-aggregate-print-line-2 c = search needs
@@ -35,7 +49,9 @@ same-length-2 c = search needs
 returns-2 : tie.Need-returns-2
 returns-2 c =
     let e = c .before .before .print-line2 .ensures in
-    (e .0, broken (c .before .before .before .before .before .before .before .before .before .before .before .before .args .bytes .now) (λ z. c .before .before .before .before .before .if2 .taken (omega (arith, z))) (e .1 (omega arith) .is))
+    let i = c .before .before .before .before .before in
+    let b = i .before .before .before .before .before .before .before .args .bytes .now in
+    (e .0, broken b (λ z. i .if2 .taken (omega (arith, z))) (e .1 (omega arith) .is))
 
 decode-requires : tie.Need-decode-requires
 decode-requires c κs = search needs
@@ -69,14 +85,17 @@ same-length-6 c = search needs
 
 returns-3 : tie.Need-returns-3
 returns-3 c =
-    let a = c .before .before .before .before .before .before .before .before .before .before .before .before .before .before .before .before .before .before .before .before .before .before .before .before .args in
+    let d = decoded (c .before .before .before .before .before .before .before .before .before) in
+    let i = whole-words d in
+    let s = entry i in
+    let a = s .args in
     let b = a .bytes .now in
+    let w = take (length b / 4) (d .decode .last .1 .0) in
     let e = c .before .before .before .before .before .before .before .before .before .eliminate .ensures in
-    let l = c .before .before .before .before .before .before .before .before .before .before .before .before .before .before .before .before .before .before .before .before .before .before .before .before .pre in
     let p = c .before .before .put-answer .ensures in (
       p .0,
-      answered b (take (length b / 4) (c .before .before .before .before .before .before .before .before .before .before .before .before .before .before .before .decode .last .1 .0)) (a .output .now) (length (a .work .now)) (length (a .output .now)) (omega (arith, c .before .before .before .before .before .before .before .before .before .before .before .before .before .before .before .before .before .before .if1 .left)) (omega (arith, c .before .before .before .before .before .before .before .before .before .before .before .before .before .before .before .before .before .if2 .left)) (c .before .before .before .before .before .before .before .before .before .before .before .before .before .before .before .decode .ensures .0)
-          (sym (l .1)) (sym (l .2)) (e .0) (e .1 .0) (p .1),
+      answered b w (a .output .now) (length (a .work .now)) (length (a .output .now)) (omega (arith, i .before .if1 .left)) (omega (arith, i .if2 .left))
+          (d .decode .ensures .0) (sym (s .pre .1)) (sym (s .pre .2)) (e .0) (e .1 .0) (p .1),
     )
 
 pub respond-spec : {M : Type 1} → statement M

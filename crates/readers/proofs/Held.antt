@@ -57,15 +57,22 @@ module _ {M : Type 1} (𝓤 : URA M) (H : Heap 𝓤) (A : Atoms 𝓤) (W : Given
     table = sliceVal (d .table .ptr) (length (d .table .now))
 
     abbrev pub Passed : Item 𝓤
-    Passed = token 𝓤 κ q ⊛ ‵ (owns (ShrSlice (named 0) κ u32 ∷ usize ∷ usize ∷ []) (d .table, (d .at, (j, tt))) (table ∷ [], (vint w64 (d .at) ∷ [], (vint w64 j ∷ [], tt))))
+    Passed =
+        token 𝓤 κ q ⊛ ‵ (owns (ShrSlice (named 0) κ u32 ∷ usize ∷ usize ∷ []) (d .table, (d .at, (j, tt)))
+        (table ∷ [], (vint w64 (d .at) ∷ [], (vint w64 j ∷ [], tt))))
 
     -- The reader is kept.
-    pub taken-apart : ent 𝓤 (mean 𝓤 H A (token 𝓤 κ q ⊛ ‵ (owns (B (κ, tt) ∷ usize ∷ []) (d, (j, tt)) (T′.lowered d ∷ [], (vint w64 j ∷ [], tt))))) (mean 𝓤 H A (Passed ⊛ ‵ (Own κ d)))
+    pub taken-apart :
+        ent 𝓤 (mean 𝓤 H A (token 𝓤 κ q ⊛ ‵ (owns (B (κ, tt) ∷ usize ∷ []) (d, (j, tt)) (T′.lowered d ∷ [], (vint w64 j ∷ [], tt)))))
+        (mean 𝓤 H A (Passed ⊛ ‵ (Own κ d)))
     taken-apart =
         qed W (token 𝓤 κ q ∷ ‵ (owns (B (κ, tt) ∷ usize ∷ []) (d, (j, tt)) (T′.lowered d ∷ [], (vint w64 j ∷ [], tt))) ∷ []) ∵
         move ! (1 ∷ []) $ fsplit ! $ move ! (1 ∷ []) $ drop ! $ use1 W (‵ (Own κ d) ⊛ ‵ (Own κ d)) twice $ split ! $
-        use1 W (given (T′.lowered d ∷ [] ≡ T′.lowered d ∷ []) (‵ (all-own (D κ .parts) (L κ) (parts κ d)))) (own-open 𝓤 H A W (D κ) (L κ) (parts κ d) (T′.lowered d)) $ learn ! (λ _.
-        use1 W (‵ (ownAt (D κ .parts) (L κ) 0 (d .table)) ⊛ ‵ (rest (D κ .parts) (L κ) 0 (parts κ d))) (own-out 𝓤 H A W (D κ .parts) (L κ) 0 (parts κ d)) $ split ! $
+        use1 W (given (T′.lowered d ∷ [] ≡ T′.lowered d ∷ []) (‵ (all-own (D κ .parts) (L κ) (parts κ d))))
+        (own-open 𝓤 H A W (D κ) (L κ) (parts κ d) (T′.lowered d)) $ learn ! (λ _.
+        use1 W (‵ (ownAt (D κ .parts) (L κ) 0 (d .table)) ⊛ ‵ (rest (D κ .parts) (L κ) 0 (parts κ d)))
+        (own-out 𝓤 H A W (D κ .parts) (L κ) 0 (parts κ d)) $ split ! $
         -- [what the table owns; what the number owns; what the reader owns; the token]
-        move ! (1 ∷ []) $ drop ! $ nothing ! $ owned ! usize (Is usize) (uint-makes 𝓤 H A W w64) j _ (refl, j-fits) $ fjoin ! $ owned ! usize (Is usize) (uint-makes 𝓤 H A W w64) (d .at) _ (refl, fits) $ fjoin ! $ move ! (1 ∷ 0 ∷ []) $ fjoin ! $
+        move ! (1 ∷ []) $ drop ! $ nothing ! $ owned ! usize (Is usize) (uint-makes 𝓤 H A W w64) j _ (refl, j-fits) $ fjoin ! $
+        owned ! usize (Is usize) (uint-makes 𝓤 H A W w64) (d .at) _ (refl, fits) $ fjoin ! $ move ! (1 ∷ 0 ∷ []) $ fjoin ! $
         move ! (2 ∷ 0 ∷ []) $ join ! $ frame ! $ done !)

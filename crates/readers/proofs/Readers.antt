@@ -1,5 +1,5 @@
--- The calls of the reader's functions in a walk of code by hand. A lent slice, with a share of its lifetime's token, is held over a call: each function asks for
--- the table that it is held in and gives it back, and its result is a machine value that is written out. Then what the walks along a chain share.
+-- The calls of the reader's functions in a walk of code by hand. A lent slice, with a share of its lifetime's token, is held over a call: each function asks
+-- for the table that it is held in and gives it back, and its result is a machine value that is written out. Then what the walks along a chain share.
 use mathlib.Core.Path.{_≡_, refl, ap, subst, _∙_}
 use Prim.Native.Nat.{ℕ, _<_, _^_}
 use mathlib.Core.Bool.{Bool}

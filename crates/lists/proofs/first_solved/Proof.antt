@@ -270,7 +270,8 @@ module _ {M : Type 1} (𝓤 : URA M) (H : Heap 𝓤) (A : Atoms 𝓤) (W : Given
           -- the chain is over: no system is solved
           (λ over. exec ! (𝓣 .C) (𝓣 .Λ) En body.t-5 (atRet En Post) $
           takes ! (of-opd ! (lit ! tt)) (init ! 30 refl (tt, record { fits = lit< tt })) $
-          returns ! (look ! 30 refl) $ move ! (last-first 2 15) $ free-held ! $ free-held ! $ free-held ! $ free-held ! $ free-held ! $ free-held ! $ free-held ! $
+          returns ! (look ! 30 refl) $
+          move ! (last-first 2 15) $ free-held ! $ free-held ! $ free-held ! $ free-held ! $ free-held ! $ free-held ! $ free-held ! $
           free1 ! $ free-held ! $ free-held ! $ free-held ! $ free1 ! $ free1 ! $ free1 ! $ free1 ! $ free0 ! $
           by ! (exits 0 (lit< tt) (λ ss h. placed-none (now t) p n (s .inv) over h)))
 

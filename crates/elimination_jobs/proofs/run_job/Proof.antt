@@ -2,11 +2,26 @@
 use mathlib.Core.Path.{sym}
 use native.Mathlib.Omega.{arith}
 use borrow.Author.Needs.{needs}
-use lib.ListN.{length-take}
+use mathlib.Core.List.{List}
+use Prim.Native.Nat.{ℕ, _≤_}
+use lib.ListN.{length, length-take}
 use lib.Seq.{length-take-le}
 use Rattle.elimination_jobs.proofs.HeadingLaws.{shaped}
 use Rattle.elimination_jobs.proofs.run_job.Statement.{statement}
 use Rattle.elimination_jobs.proofs.run_job.Tie as tie
+
+-- The places: the job is read, and its shape is known.
+abbrev entry : tie.After-read → tie.Start
+entry c = c .before .before .before .before .before .before .before .before
+
+abbrev line-read : tie.After-shape → tie.After-read
+line-read c = c .before .before .before .before .before .before
+
+abbrev table : tie.After-shape → List ℕ
+table c = line-read c .read .last .1 .1 .0
+
+table-inside : (c : tie.After-shape) → c .shape .given .0 .0 .table ≤ length (table c)
+table-inside c = shaped (table c) (line-read c .read .ensures) (c .shape .given .1)
 
 read-requires : tie.Need-read-requires
 read-requires c κs = search needs
@@ -45,22 +60,26 @@ returns-3 : tie.Need-returns-3
 returns-3 c = search needs
 
 slice-reshare-prefix-answer : tie.Need-slice-reshare-prefix-answer
-slice-reshare-prefix-answer c = shaped (c .before .before .before .before .before .before .before .before .before .before .read .last .1 .1 .0) (c .before .before .before .before .before .before .before .before .before .before .read .ensures) (c .before .before .before .before .shape .given .1)
+slice-reshare-prefix-answer c = table-inside (c .before .before .before .before)
 
 slice-aggregate-answer : tie.Need-slice-aggregate-answer
-slice-aggregate-answer c = sym (length-take-le (c .before .before .before .before .before .shape .given .0 .0 .table) (c .before .before .before .before .before .before .before .before .before .before .before .read .last .1 .1 .0) (shaped (c .before .before .before .before .before .before .before .before .before .before .before .read .last .1 .1 .0) (c .before .before .before .before .before .before .before .before .before .before .before .read .ensures) (c .before .before .before .before .before .shape .given .1)))
+slice-aggregate-answer c = let d = c .before .before .before .before .before in sym (length-take-le (d .shape .given .0 .0 .table) (table d) (table-inside d))
 
 slice-relend-prefix-answer : tie.Need-slice-relend-prefix-answer
 slice-relend-prefix-answer c = search needs
 
 slice-aggregate-answer-2 : tie.Need-slice-aggregate-answer-2
-slice-aggregate-answer-2 c = sym (length-take-le (c .before .before .before .before .before .before .shape .given .0 .0 .work) (c .before .before .before .before .before .before .before .before .before .before .before .before .before .before .before .before .before .before .before .before .args .work .now) (c .before .before .before .before .if1 .left))
+slice-aggregate-answer-2 c =
+    let d = c .before .before .before .before .before .before in
+    sym (length-take-le (d .shape .given .0 .0 .work) (entry (line-read d) .args .work .now) (c .before .before .before .before .if1 .left))
 
 slice-relend-prefix-answer-2 : tie.Need-slice-relend-prefix-answer-2
 slice-relend-prefix-answer-2 c = search needs
 
 slice-aggregate-answer-3 : tie.Need-slice-aggregate-answer-3
-slice-aggregate-answer-3 c = sym (length-take-le (c .before .before .before .before .before .before .before .shape .given .0 .0 .output) (c .before .before .before .before .before .before .before .before .before .before .before .before .before .before .before .before .before .before .before .before .before .args .output .now) (c .before .before .before .before .if2 .left))
+slice-aggregate-answer-3 c =
+    let d = c .before .before .before .before .before .before .before in
+    sym (length-take-le (d .shape .given .0 .0 .output) (entry (line-read d) .args .output .now) (c .before .before .before .before .if2 .left))
 
 answer-requires : tie.Need-answer-requires
 answer-requires c κs =

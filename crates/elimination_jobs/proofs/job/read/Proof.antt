@@ -89,7 +89,10 @@ same-length-7 : tie.Need-same-length-7
 same-length-7 c = search needs
 
 returns-4 : tie.Need-returns-4
-returns-4 c = within (c .before .before .before .before .before .before .before .before .before .before .before .before .before .before .before .before .before .counted .last .1 .1 .0) (c .before .before .before .before .before .before .before .before .before .before .before .before .before .before .before .before .before .counted .ensures) (c .before .before .before .before .before .before .before .before .before .before .before .n .given .1)
+returns-4 c =
+    let n = c .before .before .before .before .before .before .before .before .before .before .before in
+    let d = n .before .before .before .before .before .before in
+    within (d .counted .last .1 .1 .0) (d .counted .ensures) (n .n .given .1)
 
 pub read-spec : {M : Type 1} → statement M
 read-spec =

@@ -5,6 +5,16 @@ use Rattle.lines.proofs.InputLaws.{within, within-take}
 use Rattle.table_jobs.proofs.run_job.Statement.{statement}
 use Rattle.table_jobs.proofs.run_job.Tie as tie
 
+-- The places: the table is read and its length known, then the numbers.
+abbrev table-read : tie.After-n → tie.After-counted
+table-read c = c .before .before .before .before .before .before
+
+abbrev numbers-read : tie.After-m → tie.After-counted2
+numbers-read c = c .before .before .before .before .before .before
+
+abbrev table-known : tie.After-m → tie.After-n
+table-known c = c .before .before .before .before .before .before .before .before .before .before
+
 next-requires : tie.Need-next-requires
 next-requires c κs = search needs
 
@@ -60,16 +70,28 @@ returns-3 : tie.Need-returns-3
 returns-3 c = search needs
 
 slice-reshare-prefix-answer : tie.Need-slice-reshare-prefix-answer
-slice-reshare-prefix-answer c = within (c .before .before .before .before .before .before .before .before .before .before .before .before .before .before .before .before .before .counted .last .1 .1 .0) (c .before .before .before .before .before .before .before .before .before .before .before .before .before .before .before .before .before .counted .ensures) (c .before .before .before .before .before .before .before .before .before .before .before .n .given .1)
+slice-reshare-prefix-answer c =
+    let n = table-known (c .before) in
+    let d = table-read n in
+    within (d .counted .last .1 .1 .0) (d .counted .ensures) (n .n .given .1)
 
 slice-aggregate-answer : tie.Need-slice-aggregate-answer
-slice-aggregate-answer c = within-take (c .before .before .before .before .before .before .before .before .before .before .before .before .before .before .before .before .before .before .counted .last .1 .1 .0) (c .before .before .before .before .before .before .before .before .before .before .before .before .before .before .before .before .before .before .counted .ensures) (c .before .before .before .before .before .before .before .before .before .before .before .before .n .given .1)
+slice-aggregate-answer c =
+    let n = table-known (c .before .before) in
+    let d = table-read n in
+    within-take (d .counted .last .1 .1 .0) (d .counted .ensures) (n .n .given .1)
 
 slice-reshare-prefix-answer-2 : tie.Need-slice-reshare-prefix-answer-2
-slice-reshare-prefix-answer-2 c = within (c .before .before .before .before .before .before .before .before .counted2 .last .1 .1 .0) (c .before .before .before .before .before .before .before .before .counted2 .ensures) (c .before .before .m .given .1)
+slice-reshare-prefix-answer-2 c =
+    let m = c .before .before in
+    let d = numbers-read m in
+    within (d .counted2 .last .1 .1 .0) (d .counted2 .ensures) (m .m .given .1)
 
 slice-aggregate-answer-2 : tie.Need-slice-aggregate-answer-2
-slice-aggregate-answer-2 c = within-take (c .before .before .before .before .before .before .before .before .before .counted2 .last .1 .1 .0) (c .before .before .before .before .before .before .before .before .before .counted2 .ensures) (c .before .before .before .m .given .1)
+slice-aggregate-answer-2 c =
+    let m = c .before .before .before in
+    let d = numbers-read m in
+    within-take (d .counted2 .last .1 .1 .0) (d .counted2 .ensures) (m .m .given .1)
 
 answer-requires : tie.Need-answer-requires
 answer-requires c κs = search needs
@@ -78,7 +100,10 @@ print-requires : tie.Need-print-requires
 print-requires c κs = c .before .before .before .before .before .before .before .before .before .before .before .before .before .before .before .before .before .before .before .before .before .before .before .before .before .before .before .before .before .before .before .before .before .before .before .pre
 
 same-length-7 : tie.Need-same-length-7
-same-length-7 c = c .before .before .before .before .before .before .before .before .before .before .before .before .before .before .counted2 .kept .0 ∙ c .before .before .before .before .before .before .before .before .before .before .before .before .before .before .before .before .before .before .before .before .before .before .before .before .counted .kept .0 ∙ c .before .before .before .before .before .before .before .before .before .before .before .before .before .before .before .before .before .before .before .before .before .before .before .before .before .before .before .before .before .before .before .before .next .kept .0
+same-length-7 c =
+    let m = c .before .before .before .before .before .before .before .before in
+    let d = table-read (table-known m) in
+    numbers-read m .counted2 .kept .0 ∙ d .counted .kept .0 ∙ d .before .before .before .before .before .before .before .before .next .kept .0
 
 same-length-8 : tie.Need-same-length-8
 same-length-8 c = search needs

@@ -8,7 +8,9 @@ use Rattle.table_jobs.proofs.run_jobs.Statement.{statement}
 use Rattle.table_jobs.proofs.run_jobs.Tie as tie
 
 abbrev Inv-loop : tie.InvT-loop
-Inv-loop bytes₀ table₀ numbers₀ text₀ rest₀ end₀ turns₀ bytes table numbers text rest end turns = (length bytes ≡ length bytes₀) × (length table ≡ length table₀) × (length numbers ≡ length numbers₀) × (length text ≡ length text₀) × (end ≤ length text)
+Inv-loop bytes₀ table₀ numbers₀ text₀ rest₀ end₀ turns₀ bytes table numbers text rest end turns =
+    (length bytes ≡ length bytes₀) × (length table ≡ length table₀) × (length numbers ≡ length numbers₀)
+    × (length text ≡ length text₀) × (end ≤ length text)
 
 abbrev μ-loop : tie.MeasureT-loop
 μ-loop bytes₀ table₀ numbers₀ text₀ rest₀ end₀ turns₀ bytes table numbers text rest end turns = turns

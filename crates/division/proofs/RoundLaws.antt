@@ -85,7 +85,8 @@ pub product-difference-lent : (a b l m r : ℕ) → a ≤ 512 → b ≤ 512 → 
 product-difference-lent a b l m r ha hb few h = omega arith
 
 -- A product has no more words than all term products.
-pub product-words : (p : ℕ) (f g : List ℕ) (l m : ℕ) → Pairs f → Pairs g → length f ≡ l → length g ≡ m → (n : ℕ) (s : List ℕ) → Answered p (bounded-product standard p (terms f) (terms g)) n s → n ≤ l * m / 2
+pub product-words : (p : ℕ) (f g : List ℕ) (l m : ℕ) → Pairs f → Pairs g → length f ≡ l → length g ≡ m
+    → (n : ℕ) (s : List ℕ) → Answered p (bounded-product standard p (terms f) (terms g)) n s → n ≤ l * m / 2
 product-words p f g l m pf pg hl hm n s A =
     let is-product = product-formed standard p (terms f) (terms g) (terms (take n s)) (A .is) .same in
     let words = ap₂ _*_ (sym hl ∙ words-of-terms f pf) (sym hm ∙ words-of-terms g pg) in
@@ -122,7 +123,9 @@ module _ (p : ℕ) (h : 1 ≤ p) where
 
   times-one : (s : List ℕ) → Holds p s → bounded-product standard p (term 1 0 ∷ []) (terms s) ≡ within (terms s)
   unfolding degree
-  times-one s H = product-within standard p (term 1 0 ∷ []) (terms s) degrees (ap (λ f. over (at-most 256) (length f)) same ∙ at-most-over 256 (length (terms s)) (omega (arith, H .few, length-terms s))) ∙ ap within same
+  times-one s H =
+      product-within standard p (term 1 0 ∷ []) (terms s) degrees
+      (ap (λ f. over (at-most 256) (length f)) same ∙ at-most-over 256 (length (terms s)) (omega (arith, H .few, length-terms s))) ∙ ap within same
     where
       same : product p (term 1 0 ∷ []) (terms s) ≡ terms s
       same = one-times s (H .canonical)
@@ -135,7 +138,8 @@ module _ (p : ℕ) (h : 1 ≤ p) where
         subtracted p (term c m ∷ []) (terms t) (terms a) ≡ tested standard (add-multiple p (p - c) (bytes 8 m) (terms t) (terms a))
     unfolding bounded-difference
     row-tested a l H K d =
-        ap (λ x. and-then x (bounded-difference standard p (terms a))) (product-within standard p (term c m ∷ []) (terms t) d few) ∙ ap (tested standard) (difference-row (term c m) (terms t) (terms a) l K)
+        ap (λ x. and-then x (bounded-difference standard p (terms a))) (product-within standard p (term c m ∷ []) (terms t) d few)
+        ∙ ap (tested standard) (difference-row (term c m) (terms t) (terms a) l K)
       where
         few : over (at-most 256) (length (product p (term c m ∷ []) (terms t))) ≡ false
         few = at-most-over 256 _ (omega (arith, product-length p (term c m ∷ []) (terms t), H .few, length-terms t))
@@ -177,7 +181,9 @@ single (c ∷ (m ∷ (x ∷ s))) e = absurd (omega arith)
 module _ (p : ℕ) (h : 1 ≤ p) (i f x y : List ℕ) (words : length i ≡ 2) (one : getD i 0 0 ≡ 1) (none : getD i 1 0 ≡ 0) (H : Holds p f) (room : length f ≤ length x)
     (copied : y ≡ paste x 0 (drop 0 f) (length f - 0)) where
   first : take (length f) y ≡ f
-  first = ap (take (length f)) copied ∙ ap (λ (n : ℕ). take n (paste x 0 f (length f - 0))) len ∙ take-paste x 0 f (length f - 0) (omega arith) (omega arith) ∙ take-all (length f - 0) f (omega arith)
+  first =
+      ap (take (length f)) copied ∙ ap (λ (n : ℕ). take n (paste x 0 f (length f - 0))) len
+      ∙ take-paste x 0 f (length f - 0) (omega arith) (omega arith) ∙ take-all (length f - 0) f (omega arith)
     where
       len : length f ≡ 0 + (length f - 0)
       len = omega arith
@@ -212,7 +218,8 @@ module _ (p : ℕ) (h : 1 ≤ p) (r t : List ℕ) (room : 2 ≤ length r) (K : H
   pub factor-fits : degrees-over (at-most 255) (terms (take 2 r)) (terms t) ≡ false → AllFit m t
   factor-fits d = subst (λ m. AllFit m t) (getD-take 2 r 1 0 (omega arith)) (row-fits (take 2 r) 0 refl (omega (arith, two)) t d)
 
-  pub row-refused : (s : List ℕ) (k : Poly → Bounded) → degrees-over (at-most 255) (terms (take 2 r)) (terms t) ≡ true → Forms (and-then (bounded-product standard p (terms (take 2 r)) (terms t)) k) OverDegree s
+  pub row-refused : (s : List ℕ) (k : Poly → Bounded) → degrees-over (at-most 255) (terms (take 2 r)) (terms t) ≡ true
+      → Forms (and-then (bounded-product standard p (terms (take 2 r)) (terms t)) k) OverDegree s
   row-refused s k d = subst (λ x. Forms (and-then x k) OverDegree s) (sym passed) refl
     where
       passed : bounded-product standard p (terms (take 2 r)) (terms t) ≡ degree-passed

@@ -117,7 +117,8 @@ returns c =
     let l = c .before .before .before .before .before .before .before .before .before .before .before .before .before in
     let a = l .before .before .before in
     let s = start (called a) in
-    round-formed (s .args .p) (s .args .k) (s .args .d) (terms (s .args .t .now)) (terms (R s)) (terms (s .args .i .now)) (s .pre .1 .1 .0 .1) _ _ (X (called a)) _ _ (answer a) (l .factor .ensures .0 .holds)
+    round-formed (s .args .p) (s .args .k) (s .args .d) (terms (s .args .t .now)) (terms (R s)) (terms (s .args .i .now)) (s .pre .1 .1 .0 .1)
+    _ _ (X (called a)) _ _ (answer a) (l .factor .ensures .0 .holds)
     (c .before .before .before .before .before .before .subtract-product .ensures)
 
 same-length-5 : tie.Need-same-length-5
@@ -133,7 +134,8 @@ returns-2 : tie.Need-returns-2
 returns-2 c =
     let u = c .before .before .before .before .before .before in
     let s = start u in
-    round-degree (s .args .p) (s .args .k) (s .args .d) (terms (s .args .t .now)) (terms (R s)) (terms (s .args .i .now)) (s .pre .1 .1 .0 .1) _ (u .times-initial .result) (X u) (c .enum-told .given .1) (u .times-initial .ensures)
+    round-degree (s .args .p) (s .args .k) (s .args .d) (terms (s .args .t .now)) (terms (R s)) (terms (s .args .i .now)) (s .pre .1 .1 .0 .1)
+    _ (u .times-initial .result) (X u) (c .enum-told .given .1) (u .times-initial .ensures)
 
 same-length-8 : tie.Need-same-length-8
 same-length-8 c = search needs
@@ -148,7 +150,8 @@ returns-3 : tie.Need-returns-3
 returns-3 c =
     let u = c .before .before .before .before .before .before in
     let s = start u in
-    round-terms (s .args .p) (s .args .k) (s .args .d) (terms (s .args .t .now)) (terms (R s)) (terms (s .args .i .now)) (s .pre .1 .1 .0 .1) _ (u .times-initial .result) (X u) (c .enum-told2 .given .1) (u .times-initial .ensures)
+    round-terms (s .args .p) (s .args .k) (s .args .d) (terms (s .args .t .now)) (terms (R s)) (terms (s .args .i .now)) (s .pre .1 .1 .0 .1)
+    _ (u .times-initial .result) (X u) (c .enum-told2 .given .1) (u .times-initial .ensures)
 
 pub round-spec : {M : Type 1} → statement M
 round-spec =

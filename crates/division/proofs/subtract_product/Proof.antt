@@ -60,7 +60,11 @@ same-length c = search needs
 returns : tie.Need-returns
 returns c =
     let s = c .before .before .before .before .before .before .before .before .before .before in
-    subst (λ (l : ℕ). Forms (and-then (bounded-product standard (s .args .p) (terms (take l (s .args .r .now))) (terms (s .args .t .now))) (bounded-difference standard (s .args .p) (terms (s .args .a .now)))) (c .before .before .subtract-row .result) (c .before .before .subtract-row .last .1 .1 .0))
+    let p = s .args .p in
+    let t = terms (s .args .t .now) in
+    let less = bounded-difference standard p (terms (s .args .a .now)) in
+    let u = c .before .before .subtract-row in
+    subst (λ (l : ℕ). Forms (and-then (bounded-product standard p (terms (take l (s .args .r .now))) t) less) (u .result) (u .last .1 .1 .0))
     (sym (c .before .before .before .before .if1 .taken)) (c .before .before .subtract-row .ensures)
 
 slice-reshare-prefix-product : tie.Need-slice-reshare-prefix-product

@@ -1,1 +1,2 @@
+pub mod RemainderLaws
 pub mod RoundLaws

@@ -14,7 +14,7 @@ use Rattle.polynomials.specs.laws.Answers.{Answered}
 use Rattle.polynomials.specs.laws.Bounded.{round-formed}
 use Rattle.polynomials.specs.laws.Degree.{round-lowers}
 use Rattle.residues.specs.Prime.{Prime}
-use Rattle.steps.proofs.DivisionLaws.{remainder-done, remainder-again}
+use Rattle.division.proofs.RemainderLaws.{remainder-done, remainder-again}
 use Rattle.tables.specs.declared.Reason.the-variants.{Steps}
 use Rattle.rules.specs.Room.{Limits}
 use Rattle.rules.specs.Step.{Stepped, remainder-by, step}

@@ -4,11 +4,10 @@ ghost use mathlib.Core.Bool.{true};
 ghost use Prim.Native.Nat.{_+_, _≤_, _<_};
 ghost use lib.ListN.{length, take};
 ghost use Rattle.residues.specs.Prime.{Prime};
-ghost use Rattle.polynomials.specs.Bounds.{standard, bounded-round};
+ghost use Rattle.polynomials.specs.Bounds.{standard, bounded-round, bounded-remainder};
 ghost use Rattle.polynomials.specs.Division.{degree, leader, initial, coefficient};
 ghost use Rattle.polynomials.specs.Packed.{terms};
 ghost use Rattle.polynomials.specs.Working.{Holds, Forms};
-ghost use Rattle.polynomial_jobs.specs.Answers.{Inside};
 use crate::operands;
 use crate::print;
 use polynomials::Formed;
@@ -151,7 +150,7 @@ fn remainder(p: u64, k: u32, i: &[u64], t: &[u64], r: &mut [u64], m: usize) -> D
     requires { ⌜ Holds p (now t) × (leader (terms (now t)) ≡ k + 1) ⌝ }
     requires { ⌜ Holds p (now i) × (terms (now i) ≡ initial k (terms (now t))) ⌝ }
     requires { ⌜ (m ≤ length (now r)) × (1024 ≤ length (now r)) × Holds p (take m (now r)) ⌝ }
-    ensures { λ x. ⌜ Inside (x .answer) (now (r .exit)) ⌝ }
+    ensures { λ x. ⌜ Forms (bounded-remainder standard p k (degree k (terms (now (t .entry)))) (terms (now (t .entry))) 256 (terms (take m (now (r .entry))))) (x .answer) (now (r .exit)) ⌝ }
 {
     let d = parts::degree(t, k);
     let mut n = m;

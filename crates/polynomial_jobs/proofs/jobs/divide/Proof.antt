@@ -1,12 +1,17 @@
 -- `divide`: what `remainder` asks of the initial and of the copy of f.
 use mathlib.Core.Path.{sym, subst}
+use Prim.Native.Nat.{_-_}
 use native.Mathlib.Omega.{arith}
+use lib.ListN.{take}
 use lib.Seq.{length-take-le}
+use Rattle.polynomials.specs.Bounds.{standard, bounded-remainder}
+use Rattle.polynomials.specs.Division.{degree}
 use Rattle.polynomials.specs.Packed.{terms}
 use Rattle.polynomials.specs.Working.{Holds}
 use Rattle.polynomials.specs.laws.Answers.{written-holds}
 use Rattle.polynomials.specs.laws.Parts.{canonical-initial}
 use borrow.Author.Needs.{needs}
+use Rattle.polynomial_jobs.proofs.Laws.{inside}
 use Rattle.polynomial_jobs.proofs.jobs.divide.Statement.{statement}
 use Rattle.polynomial_jobs.proofs.jobs.divide.Tie as tie
 
@@ -77,7 +82,12 @@ slice-aggregate-formed-2 : tie.Need-slice-aggregate-formed-2
 slice-aggregate-formed-2 c = search needs
 
 formed-requires : tie.Need-formed-requires
-formed-requires c κs = search needs
+formed-requires c κs =
+    let m = c .before .before .before .before .before in
+    let a = m .before .before .before .before .before .before .before .before .before .before .before .before .before .args in
+    let k = m .before .before .before .before .before .before .before .before .before .before .leader .result - 1 in
+    let f = m .before .before .before .before .copy in
+    inside (bounded-remainder standard (a .p) k (degree k (terms (a .t .now))) (terms (a .t .now)) 256 (terms (take (f .result) (f .last .1 .0)))) _ _ (m .remainder .ensures)
 
 returns-2 : tie.Need-returns-2
 returns-2 c = search needs

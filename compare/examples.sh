@@ -9,4 +9,15 @@ shown() {
 }
 shown arm README.md
 shown four-bar docs/TABLES.md
+
+# A point solves the arm's table exactly when it solves the one listed system: 1 for yes, and 1 for its place; 0 for no, and for none.
+tried() {
+    local answer=$1
+    shift
+    [ "$(examples/point "$@" <examples/arm.txt | target/bin/table_jobs)" = "0 $answer" ]
+    [ "$(tail -n +2 examples/arm.out | examples/point -l "$@" | target/bin/table_jobs)" = "0 $answer" ]
+}
+tried 1 1 0 0 1
+tried 1 25603 12802 12802 6400
+tried 0 0 1 0 1
 echo "examples: they print what README and docs/TABLES.md show"

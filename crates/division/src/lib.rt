@@ -11,7 +11,6 @@ ghost use Rattle.polynomials.specs.Working.{Pairs, Holds, Written, Forms};
 ghost use Rattle.products.specs.Lent.{lent-for-product};
 ghost use Rattle.division.specs.Lent.{lent-for-difference, lent-for-round};
 use polynomials::Formed;
-use terms::parts;
 
 // R, the first n words of r, becomes what one round leaves. i is T's initial, t is T; x, y and z are lent besides. Stack: that of `product`,
 // so none to speak of in buffers below 1,024 words.
@@ -190,7 +189,7 @@ fn subtract_row(p: u64, t: &[u64], r: &mut [u64], a: &[u64]) -> Formed
 {
     let c = r[0];
     let m = r[1];
-    if parts::degrees_over(&r[..2], t) {
+    if degrees::degrees_over(&r[..2], t) {
         return Formed::OverDegree;
     }
     let n = sums::add_multiple(p, p - c, m, t, a, r);

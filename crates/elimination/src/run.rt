@@ -15,7 +15,6 @@ use branches::turn;
 use polynomials::Formed;
 use steps::Prepared;
 use tables::Reason;
-use terms::parts;
 
 // How a stretch of the run ends: with the run's outcome, or with a pause between two steps, where the lent scratch is too short.
 pub enum Ending {
@@ -83,7 +82,7 @@ pub fn run(
                 'members: while 0 < left {
                     let mut n = steps::take(w, closing, place, left, r);
                     'division: loop {
-                        let e = parts::degree(&r[..n], k);
+                        let e = degrees::degree(&r[..n], k);
                         if e < degree {
                             break 'division;
                         }

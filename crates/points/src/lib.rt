@@ -15,7 +15,6 @@ use tables::Trial;
 use tables::TrialOutcome;
 use tables::read;
 use tables::words;
-use terms::value;
 
 // Whether the numbers are n residues modulo p.
 pub fn is_point(p: u32, n: u32, point: &[u32]) -> bool
@@ -41,7 +40,7 @@ fn add_term(table: &[u32], p: u32, i: usize, v: u64, point: &[u32]) -> u64
     ensures { λ r. ⌜ r ≡ plus-term (now (table .entry)) p (now (point .entry)) i v ⌝ }
 {
     let m = monomials::packed(words::word(table, i, 1), words::word(table, i, 2));
-    let t = value::term_value(p as u64, words::word(table, i, 0) as u64, m, point);
+    let t = values::term_value(p as u64, words::word(table, i, 0) as u64, m, point);
     residues::add(p as u64, v, t)
 }
 

@@ -11,8 +11,6 @@ ghost use Rattle.polynomials.specs.Working.{Holds, Forms};
 use crate::operands;
 use crate::print;
 use polynomials::Formed;
-use terms::parts;
-use terms::value;
 
 // All jobs on f and g, where p is a prime and they hold polynomials.
 pub fn run(p: u32, f: &[u64], g: &[u64]) {
@@ -28,8 +26,8 @@ fn are_operands(p: u32, f: &[u64], g: &[u64]) -> bool
     ensures { λ r. ⌜ (r ≡ true → Prime p × (p < 2147483648) × Holds p (now (f .entry)) × Holds p (now (g .entry))) ⌝ }
 {
     if primes::is_prime(p) {
-        if parts::is_polynomial(p as u64, f) {
-            return parts::is_polynomial(p as u64, g);
+        if terms::is_polynomial(p as u64, f) {
+            return terms::is_polynomial(p as u64, g);
         }
     }
     false
@@ -44,7 +42,7 @@ fn all(p: u64, f: &[u64], g: &[u64])
     print::polynomial(b"g", g);
     product(p, f, g);
     difference(p, f, g);
-    print::truth(b"equal", parts::equal(f, g));
+    print::truth(b"equal", terms::equal(f, g));
     monic(p, f);
     split(p, f);
     divide(p, f, g);
@@ -90,7 +88,7 @@ fn make_monic(p: u64, f: &[u64], x: &mut [u64])
 {
     sums::monic(p, x);
     print::polynomial(b"monic", x);
-    print::truth(b"equal", parts::equal(x, f));
+    print::truth(b"equal", terms::equal(x, f));
 }
 
 // Copies f to the first words of x; how many.
@@ -106,15 +104,15 @@ fn copy(f: &[u64], x: &mut [u64]) -> usize
 fn split(p: u64, f: &[u64])
     requires { ⌜ Holds p (now f) ⌝ }
 {
-    let lead = parts::leader(f);
+    let lead = terms::leader(f);
     print::number(b"leader", lead as u64);
     if lead == 0 {
         return;
     }
     let mut x = [0u64; 512];
-    let n = parts::initial(f, lead - 1, &mut x);
+    let n = terms::initial(f, lead - 1, &mut x);
     print::polynomial(b"initial", &x[..n]);
-    print::polynomial(b"rest", parts::rest(f, lead - 1));
+    print::polynomial(b"rest", terms::rest(f, lead - 1));
 }
 
 // The division of f by t in the leading variable of t.
@@ -123,13 +121,13 @@ fn divide(p: u64, f: &[u64], t: &[u64])
     requires { ⌜ Holds p (now f) ⌝ }
     requires { ⌜ Holds p (now t) ⌝ }
 {
-    let lead = parts::leader(t);
+    let lead = terms::leader(t);
     if lead == 0 {
         print::line(b"no divisor");
         return;
     }
     let mut i = [0u64; 512];
-    let m = parts::initial(t, lead - 1, &mut i);
+    let m = terms::initial(t, lead - 1, &mut i);
     let mut r = [0u64; 1024];
     let n = copy(f, &mut r);
     let divided = remainder(p, lead - 1, &i[..m], t, &mut r, n);
@@ -152,10 +150,10 @@ fn remainder(p: u64, k: u32, i: &[u64], t: &[u64], r: &mut [u64], m: usize) -> D
     requires { ⌜ (m ≤ length (now r)) × (1024 ≤ length (now r)) × Holds p (take m (now r)) ⌝ }
     ensures { λ x. ⌜ Forms (bounded-remainder standard p k (degree k (terms (now (t .entry)))) (terms (now (t .entry))) 256 (terms (take m (now (r .entry))))) (x .answer) (now (r .exit)) ⌝ }
 {
-    let d = parts::degree(t, k);
+    let d = degrees::degree(t, k);
     let mut n = m;
     let mut rounds: u64 = 0;
-    while rounds < 256 && d <= parts::degree(&r[..n], k) {
+    while rounds < 256 && d <= degrees::degree(&r[..n], k) {
         match round(p, k, d, i, t, r, n) {
             Formed::Words(left) => n = left,
             Formed::OverDegree => {
@@ -190,7 +188,7 @@ fn round(p: u64, k: u32, d: u64, i: &[u64], t: &[u64], r: &mut [u64], n: usize) 
     let mut x = [0u64; 1024];
     let mut y = [0u64; 1024];
     let mut z = [0u64; 1024];
-    let e = parts::degree(&r[..n], k);
+    let e = degrees::degree(&r[..n], k);
     division::round(p, k, d, e, i, t, r, n, &mut x, &mut y, &mut z)
 }
 
@@ -201,6 +199,6 @@ fn values(p: u64, f: &[u64])
 {
     let origin = [0u32; 8];
     let x = operands::point(p, 1 + (f.len() / 2) as u64);
-    print::number(b"value", value::value(p, f, &origin));
-    print::number(b"value", value::value(p, f, &x));
+    print::number(b"value", values::value(p, f, &origin));
+    print::number(b"value", values::value(p, f, &x));
 }

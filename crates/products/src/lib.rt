@@ -14,7 +14,6 @@ ghost use Rattle.polynomials.specs.Working.{Holds, Forms};
 ghost use Rattle.products.specs.Gathers.{Gathers, room-for};
 ghost use Rattle.products.specs.Lent.{lent-for-product};
 use polynomials::Formed;
-use terms::parts;
 
 // How a gathering ends: with so many words, with more than 256 terms certain, or where the lent buffers are too short.
 pub enum Gathered {
@@ -38,7 +37,7 @@ pub fn product(p: u64, f: &[u64], g: &[u64], x: &mut [u64], z: &mut [u64]) -> Fo
     if g.len() == 0 {
         return Formed::Words(0);
     }
-    if parts::degrees_over(f, g) {
+    if degrees::degrees_over(f, g) {
         return Formed::OverDegree;
     }
     rows(p, f, g, x, z)

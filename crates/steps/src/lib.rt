@@ -26,7 +26,6 @@ use branches::turn;
 use survey::Choice;
 use survey::Other;
 use tables::Reason;
-use terms::parts;
 
 // What a rule leaves to be divided by the pivot, whose words and whose initial's are so many: at rule 5 the last `left` members of Q, and at rule 4
 // the member of P at `place`, with `left` 1.
@@ -102,7 +101,7 @@ fn prepare_division(w: &mut [u32], k: u32, place: usize, t: &[u64], initial: usi
         → (d ≡ division-of (other k place (branch-of b .P)) k (degree k (terms (now (t .entry)))) (length (now (t .entry))) initial b)
         × Held (view (now (w .exit))) (capacity (now (w .entry))) (with-open (aimed (other k place (branch-of b .P)) place b) bs ss)) ⌝ }
 {
-    let degree = parts::degree(t, k);
+    let degree = degrees::degree(t, k);
     let pivot = t.len();
     match survey::find_other(w, k, place) {
         Other::At(j) => {
@@ -195,7 +194,7 @@ fn with_pivot(
         return Prepared::Crowded;
     }
     let n = open::load_p(w, place, t);
-    let m = parts::initial(&t[..n], k, i);
+    let m = terms::initial(&t[..n], k, i);
     if is_settled(w, &i[..m]) {
         let d = prepare_division(w, k, place, &t[..n], m);
         return Prepared::Members(d);

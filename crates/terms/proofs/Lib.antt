@@ -1,4 +1,2 @@
-pub mod DegreeLaws
 pub mod PartLaws
-pub mod ValueLaws
 pub mod HeldLaws

@@ -4,19 +4,19 @@ use Prim.Native.Nat.{ℕ, _+_, _-_, _≤_, _<_}
 use native.Mathlib.Omega.{arith}
 use borrow.Author.Needs.{needs}
 use borrow.Author.Count.{below-more}
-use borrow.Author.Tests.{not-true}
+use borrow.Author.Tests.{not-true, ltb-true, ltb-false}
 use Rattle.polynomials.specs.Packed.{terms}
 use Rattle.polynomials.specs.Division.{degree}
-use Rattle.polynomials.specs.laws.Bounds.{degrees-over-at, degree-small}
+use Rattle.polynomials.specs.laws.Bounds.{degrees-over-at}
 use Rattle.degrees.proofs.DegreeLaws.{unions-within, degrees-within}
 use Rattle.degrees.proofs.degrees_over.Statement.{statement}
 use Rattle.degrees.proofs.degrees_over.Tie as tie
 
 abbrev Inv-loop : tie.InvT-loop
-Inv-loop f g k₀ k = (j : ℕ) → j < k → degree j (terms f) + degree j (terms g) ≤ 255
+Inv-loop f g u v k₀ k = (j : ℕ) → j < k → degree j (terms f) + degree j (terms g) ≤ 255
 
 abbrev μ-loop : tie.MeasureT-loop
-μ-loop f g k₀ k = 8 - k
+μ-loop f g u v k₀ k = 8 - k
 
 union-requires : tie.Need-union-requires Inv-loop μ-loop
 union-requires c κs = search needs
@@ -37,22 +37,20 @@ returns c =
 loop-holds : tie.Need-loop-holds Inv-loop μ-loop
 loop-holds c = search needs
 
-degree-requires : tie.Need-degree-requires Inv-loop μ-loop
-degree-requires c κs = search needs
-
-degree-requires-2 : tie.Need-degree-requires-2 Inv-loop μ-loop
-degree-requires-2 c κs = search needs
-
-add-if2 : tie.Need-add-if2 Inv-loop μ-loop
-add-if2 c =
-    let start = c .before .before .before .before .before .before .before .before .before .before in
-    let k = c .before .before .before .loop .k in
-    record { fits = omega (arith, degree-small k (start .args .f .now), degree-small k (start .args .g .now)) }
+sum-over-requires : tie.Need-sum-over-requires Inv-loop μ-loop
+sum-over-requires c κs =
+    let start = c .before .before .before .before .before .before .before .before in
+    let k = c .before .loop .k in
+    let u = c .before .before .before .before .before .union in
+    let v = c .before .before .before .before .union2 in
+    ((omega arith, start .pre .0, u .ensures k), (start .pre .1, v .ensures k))
 
 returns-2 : tie.Need-returns-2 Inv-loop μ-loop
 returns-2 c =
-    let start = c .before .before .before .before .before .before .before .before .before .before .before in
-    sym (degrees-over-at 255 (c .before .before .before .before .loop .k) (terms (start .args .f .now)) (terms (start .args .g .now)) (omega arith))
+    let start = c .before .before .before .before .before .before .before .before .before .before in
+    let k = c .before .before .before .loop .k in
+    sym (degrees-over-at 255 k (terms (start .args .f .now)) (terms (start .args .g .now))
+    (ltb-true 255 (degree k (terms (start .args .f .now)) + degree k (terms (start .args .g .now))) (sym (c .before .sum-over .ensures) ∙ c .if2 .taken)))
 
 add-k : tie.Need-add-k Inv-loop μ-loop
 add-k c = search needs
@@ -61,7 +59,12 @@ loop-less : tie.Need-loop-less Inv-loop μ-loop
 loop-less c = search needs
 
 loop-again : tie.Need-loop-again Inv-loop μ-loop
-loop-again c = below-more _ _ (c .before .before .before .before .loop .inv) (omega arith)
+loop-again c =
+    let start = c .before .before .before .before .before .before .before .before .before .before in
+    let k = c .before .before .before .loop .k in
+    let sum = degree k (terms (start .args .f .now)) + degree k (terms (start .args .g .now)) in
+    let small : sum ≤ 255 = ltb-false 255 sum (sym (c .before .sum-over .ensures) ∙ c .if2 .left) in
+    below-more _ _ (c .before .before .before .loop .inv) (omega (arith, small))
 
 returns-3 : tie.Need-returns-3 Inv-loop μ-loop
 returns-3 c =
@@ -79,9 +82,7 @@ degrees-over-spec =
     passes-requires
     returns
     loop-holds
-    degree-requires
-    degree-requires-2
-    add-if2
+    sum-over-requires
     returns-2
     add-k
     loop-less

@@ -6,7 +6,6 @@ source compare/compared
 
 begin elimination_jobs
 stored
-cp "$room/stored" "$room/all"
 compare() {
     alike "$@"
     cat "$room/jobs" >>"$room/all"
@@ -23,4 +22,4 @@ done
 
 "$rust" census <"$room/all" >"$room/census"
 cat "$room/census"
-echo "elimination_jobs: the Rust side agrees on $(head -n 1 "$room/census" | cut -d ' ' -f 1) jobs"
+echo "elimination_jobs: the Rust side agrees on the stored jobs and on $(head -n 1 "$room/census" | cut -d ' ' -f 1) more"

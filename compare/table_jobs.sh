@@ -10,4 +10,4 @@ alike large
 for seed in 2 3 4 5; do
     alike random "$seed" 3000
 done
-echo "table_jobs: the Rust side agrees"
+echo "table_jobs: the Rust side agrees on the stored jobs and on $lines more"

@@ -1,5 +1,6 @@
-//! The solver once more, written from document 01 alone and for speed (`field`, `poly`, `table`, `run`): it shares nothing with the proved
-//! code, and the two are compared on many jobs. What makes the jobs stands beside it.
+//! The solver once more, written from document 01 and for speed (`field`, `poly`, `table`, `run`): it shares no code with the proved one, and
+//! two ideas only, the prime test's wheel of 30 and the or-ed monomials before the exact test of degrees. The two are compared on many jobs.
+//! What makes the jobs stands beside it.
 
 pub mod field;
 pub mod jobs;

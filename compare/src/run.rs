@@ -118,7 +118,7 @@ impl From<Over> for u32 {
     }
 }
 
-/// Errors are the numbers of refusals.
+/// A run under way. Errors of its functions are the numbers of refusals.
 struct Run {
     store: Store,
     /// The last one is open.

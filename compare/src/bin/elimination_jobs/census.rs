@@ -73,12 +73,15 @@ impl Census {
         }
     }
 
-    /// What did not occur.
+    /// What did not occur. Lists with heads or terms that break a rule are the jobs of `table_jobs`.
     pub fn missing(&self) -> Vec<String> {
-        let refusals = (1..16).filter(|&i| self.refusals[i] == [0; 3]).map(|i| format!("refused by {i}"));
+        let never = |column: usize, number: usize| self.refusals[number][column] == 0;
+        let runs = (1..14).filter(|&i| never(0, i)).map(|i| format!("an elimination refused by {i}"));
+        let tables = (1..10).chain([14]).filter(|&i| never(1, i)).map(|i| format!("a point against a table refused by {i}"));
+        let lists = (1..5).chain([14, 15]).filter(|&i| never(2, i)).map(|i| format!("a point against a list refused by {i}"));
         let variables = (1..9).filter(|&n| self.accepted[n] == 0).map(|n| format!("accepted with {n} variables"));
         let kinds = KINDS.iter().zip(self.kinds).filter(|&(_, count)| count == 0).map(|((name, _), _)| name.to_string());
-        refusals.chain(variables).chain(kinds).collect()
+        runs.chain(tables).chain(lists).chain(variables).chain(kinds).collect()
     }
 
     pub fn print(&self) {

@@ -8,7 +8,6 @@ use native.Mathlib.Nat.{zero-add}
 use native.Mathlib.Numerals.{add-one}
 use native.Mathlib.Omega.{arith}
 use borrow.Author.Tests.{le-leb, lt-leb, eq-eqb, ne-eqb}
-use lib.Dec.{leb}
 use lib.ListN.{length}
 use Rattle.polynomials.specs.Poly.{Term, Poly}
 use Rattle.polynomials.specs.Division.{degrees, highest, leader}
@@ -22,11 +21,12 @@ use Rattle.lists.specs.declared.Counted.the-variants.{Systems, Refused}
 use Rattle.tables.specs.Words.{word, records, follow, Followed, end, to, astray, term-at}
 use Rattle.tables.specs.Read.{Read, good, refused, then, first, System, Listing, read-header, read-head, read-heads, read-triangle, read-system, read-systems, read-list}
 use Rattle.tables.specs.Solve.{checked, is-point, all-zero, none-zero, solves, first-solved, try-systems}
-use Rattle.tables.specs.Walk.{Readable, accepted, next}
+use Rattle.tables.specs.Walk.{accepted, next}
 use Rattle.lists.specs.Count.{counted}
 use Rattle.tables.specs.Admissible.{Admissible}
-use Rattle.tables.specs.laws.Chains.{unless-good, then-good, header-passes, header-refuses, next-end, next-to, next-astray, along, cons, Enough, whole-chain, ends, strays, leads, opens, closes, Opened, read-led, heads-chain, triangle-chain, systems-chain, term-read}
-use Rattle.tables.specs.laws.Linked.{good-same, linked-member, linked-end, terms-linked}
+use Rattle.tables.specs.laws.Chains.{then-good, header-passes, header-refuses, next-end, next-to, next-astray, term-read}
+use Rattle.tables.specs.laws.Chains.{along, cons, Enough, whole-chain, ends, strays, leads, read-led, heads-chain, triangle-chain, systems-chain}
+use Rattle.tables.specs.laws.Linked.{good-same, linked-member, linked-end, terms-linked, led-parts, SystemChain, SystemMember, next-system, systems-linked}
 use Rattle.tables.specs.laws.Accepted.{head-admissible, list-read}
 
 -- As `counted`, with k systems before.
@@ -87,11 +87,6 @@ module _ (w : List ℕ) (p n : ℕ) where
   pub led-good : (last j : ℕ) {f : Poly} → read-head w p n j ≡ good f → last < leader f → read-led w p n last j ≡ good f
   led-good last j {f} e h = rw (e, lt-leb (leader f) last h)
 
-  led-head : (last j : ℕ) {f : Poly} → read-led w p n last j ≡ good f → read-head w p n j ≡ good f
-  led-head last j e =
-      let h = then-good (read-head w p n j) _ e in
-      h .1 ∙ unless-good (leb (leader (h .0)) last) Broken j (good (h .0)) (h .2) .1
-
   -- A T chain that was read is a chain of heads.
   pub triangle-heads : (fuel last at i : ℕ) {fs : List Poly} → read-triangle w p n fuel last at i ≡ good fs → read-heads w p n fuel at i ≡ good fs
   triangle-heads zero last at i e = heads-chain w p n .none tt at i ∙ sym (triangle-chain w p n .none last at i) ∙ e
@@ -106,7 +101,7 @@ module _ (w : List ℕ) (p n : ℕ) where
       go ih (to j) e =
           let l = then-good (read-led w p n last j) _ e in
           let r = then-good (read-triangle w p n fuel (leader (l .0)) j (word w j 3)) _ (l .2) in
-          rw (led-head last j (l .1), ih (leader (l .0)) j (word w j 3) (r .0) (r .1)) (r .2)
+          rw (led-parts w p n last j (l .0) (l .1) .0, ih (leader (l .0)) j (word w j 3) (r .0) (r .1)) (r .2)
       go ih astray e = e
 
   -- ── a system ──
@@ -167,22 +162,18 @@ module _ (w : List ℕ) (p n : ℕ) where
   -- The systems from index i on, with `place` for the first of them, decide the place of the first solved.
   pub record Placed (x : List ℕ) (i place : ℕ) : Type 0 where
     pub at : ℕ
-    pub fuel : ℕ
-    pub enough : Enough w at fuel
     pub few : place ≤ at + 1
     pub left : List System
-    pub read : read-systems w p n fuel at i ≡ good left
+    pub linked : SystemChain w p n at i left
     pub same : (ss : List System) → read-systems w p n (records w) 0 (word w 0 2) ≡ good ss → first-solved p x place left ≡ first-solved p x 1 ss
 
   pub placed-first : (x : List ℕ) {ss : List System} → 0 < records w → read-systems w p n (records w) 0 (word w 0 2) ≡ good ss → Placed x (word w 0 2) 1
   placed-first x {ss} h e =
       record {
         at = 0;
-        fuel = records w;
-        enough = whole-chain w 0 h;
         few = omega arith;
         left = ss;
-        read = e;
+        linked = systems-linked w p n 0 (word w 0 2) ss h e;
         same = λ ts q. ap (first-solved p x 1) (good-same (sym e ∙ q));
       }
 
@@ -190,26 +181,25 @@ module _ (w : List ℕ) (p n : ℕ) where
     pub placed-none : i ≡ 0 → {ss : List System} → read-systems w p n (records w) 0 (word w 0 2) ≡ good ss → 0 ≡ first-solved p x 1 ss
     unfolding first-solved
     placed-none z e =
-        let q : c .left ≡ [] = closes (systems-chain w p n) (c .fuel) tt (c .at) i (c .read) z in
+        let q : c .left ≡ [] = linked-end w _ _ tt (c .at) i (c .left) z (c .linked) in
         sym (ap (first-solved p x place) q) ∙ c .same _ e
 
-    pub placed-some : i ≢ 0 → Opened (systems-chain w p n) tt (c .at) i (c .left)
-    placed-some z = opens (systems-chain w p n) (c .enough) (c .read) z
+    pub placed-some : i ≢ 0 → SystemMember w p n (c .at) i (c .left)
+    placed-some more = next-system w p n more (c .linked)
 
-    module _ (o : Opened (systems-chain w p n) tt (c .at) i (c .left)) where
-      pub placed-solved : solves p x (o .member .T) (o .member .U) ≡ true → {ss : List System} → read-systems w p n (records w) 0 (word w 0 2) ≡ good ss → place ≡ first-solved p x 1 ss
-      placed-solved h e = sym (ap (first-solved p x place) (o .split) ∙ first-here p x place (o .member) (o .others) h) ∙ c .same _ e
+    module _ (o : SystemMember w p n (c .at) i (c .left)) where
+      pub placed-solved : solves p x (o .member .T) (o .member .U) ≡ true
+          → {ss : List System} → read-systems w p n (records w) 0 (word w 0 2) ≡ good ss → place ≡ first-solved p x 1 ss
+      placed-solved h e = sym (ap (first-solved p x place) (o .parts) ∙ first-here p x place (o .member) (o .behind) h) ∙ c .same _ e
 
       pub placed-on : solves p x (o .member .T) (o .member .U) ≡ false → Placed x (word w i 3) (place + 1)
       placed-on h =
           record {
             at = i;
-            fuel = o .fuel;
-            enough = o .enough;
-            few = omega (arith, c .few, o .above);
-            left = o .others;
-            read = o .rest;
-            same = λ ss e. sym (ap (first-solved p x place) (o .split) ∙ first-later p x place (o .member) (o .others) h) ∙ c .same ss e;
+            few = omega (arith, c .few, o .higher);
+            left = o .behind;
+            linked = o .linked;
+            same = λ ss e. sym (ap (first-solved p x place) (o .parts) ∙ first-later p x place (o .member) (o .behind) h) ∙ c .same ss e;
           }
 
 -- ── a list ──
@@ -255,9 +245,3 @@ module _ (w : List ℕ) where
     pub try-answers : (l : Listing) → read-list w ≡ good l → is-point (word w 0 0) (word w 0 1) x ≡ true → try-systems w x ≡ good (first-solved (word w 0 0) x 1 (l .systems))
     unfolding try-systems
     try-answers l e h = let r = list-read w l e in rw (e, r .modulus, r .variables, h)
-
-  pub list-header : (l : Listing) → read-list w ≡ good l → Readable w (word w 0 0) (word w 0 1)
-  list-header l e = let r = list-read w l e in rw (r .modulus, r .variables) at (r .readable)
-
-  pub list-systems : (l : Listing) → read-list w ≡ good l → listed ≡ good (l .systems)
-  list-systems l e = let r = list-read w l e in rw (r .modulus, r .variables) at (r .systems)

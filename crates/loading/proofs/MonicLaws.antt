@@ -3,21 +3,20 @@ use mathlib.Core.Path.{_≡_, ap, _∙_}
 use mathlib.Core.List.{List, _++_}
 use Prim.Native.Nat.{ℕ, _<_}
 use lib.ListN.{length, getD, take, drop}
-use Rattle.residues.specs.laws.Prime.{modulus-prime}
 use Rattle.polynomials.specs.Poly.{Poly, monic}
 use Rattle.polynomials.specs.Packed.{terms}
 use Rattle.polynomials.specs.Working.{Holds, Written}
 use Rattle.tables.specs.Words.{records}
 use Rattle.tables.specs.Read.{good, read-head}
 use Rattle.tables.specs.Walk.{Readable}
-use Rattle.tables.specs.laws.Accepted.{head-admissible}
+use Rattle.tables.specs.laws.Accepted.{readable-numbers, head-admissible}
 use Rattle.representation.specs.laws.Monics.{stored-monic}
 use Rattle.steps.specs.Ready.{Modulus}
 use Rattle.steps.proofs.MadeLaws.{Made, made-within, made-monic, made-sound}
 use Rattle.loading.specs.Started.{Loaded}
 
 pub readable-modulus : {w : List ℕ} {p n : ℕ} → Readable w p n → Modulus p
-readable-modulus {p = p} r = let k = modulus-prime p (r .prime) in record { prime = k .0; below = k .1 }
+readable-modulus r = let k = readable-numbers _ _ _ r in record { prime = k .prime; below = k .below }
 
 -- The polynomial with its head in record `head`.
 module _ (w : List ℕ) (p n head : ℕ) (f : Poly) (readable : Readable w p n) (inside : head < records w) (is-read : read-head w p n head ≡ good f) where

@@ -7,10 +7,7 @@ use native.Mathlib.Omega.{arith}
 use borrow.Author.Tests.{lt-ltb}
 use lib.ListN.{length}
 use Rattle.polynomials.specs.Bounds.{at-most, over}
-use Rattle.tables.specs.Words.{word, records}
-use Rattle.tables.specs.Read.{Input, good, read-heads, read-table}
-use Rattle.tables.specs.Walk.{Readable}
-use Rattle.tables.specs.laws.Accepted.{table-read}
+use Rattle.tables.specs.Read.{Input}
 use Rattle.tables.specs.declared.Reason.the-variants.{Room}
 use Rattle.rules.specs.Branch.{Branch, put-P, put-Q, put-all}
 use Rattle.rules.specs.Room.{State, branch-size, branches-size, systems-size, live}
@@ -24,23 +21,6 @@ use Rattle.representation.specs.laws.Sizes.{room-of-count}
 use Rattle.steps.specs.Ready.{limits-in}
 use Rattle.loading.specs.Started.{put-heads, Alone, Filled, Started}
 use Rattle.loading.proofs.FillLaws.{size-put-heads, filled-not}
-
--- The chains of an accepted table, by the first words of the table.
-pub record Chains (w : List ℕ) (t : Input) : Type 0 where
-  pub modulus : t .modulus ≡ word w 0 0
-  pub readable : Readable w (word w 0 0) (word w 0 1)
-  pub zeros : read-heads w (word w 0 0) (word w 0 1) (records w) 0 (word w 0 2) ≡ good (t .P)
-  pub nonzeros : read-heads w (word w 0 0) (word w 0 1) (records w) 0 (word w 0 3) ≡ good (t .Q)
-
-pub chains : (w : List ℕ) (t : Input) → read-table w ≡ good t → Chains w t
-chains w t e =
-    let k = table-read w t e in
-    record {
-      modulus = k .modulus;
-      readable = rw (k .modulus, k .variables) at (k .readable);
-      zeros = rw (k .modulus, k .variables) at (k .zeros);
-      nonzeros = rw (k .modulus, k .variables) at (k .nonzeros);
-    }
 
 -- ── the branch ──
 abbrev pub no-polynomial : Branch

@@ -3,7 +3,7 @@ use mathlib.Core.Path.{_≡_, refl, sym, _∙_, ap, subst}
 use mathlib.Core.Logic.{_≢_}
 use mathlib.Core.Bool.{Bool, true, false, not, _&&_, Bool·beq, true≢false, false≢true}
 use mathlib.Core.List.{List, [], _∷_}
-use Prim.Native.Nat.{ℕ, _+_, _*_, _%_, _≤_, _<_}
+use Prim.Native.Nat.{ℕ, _+_, _*_, _%_, _<_}
 use native.Mathlib.Nat.{mod-lt, zero-add, add-zero, add-mod-mod, mod-add-mod, mod-eq-of-lt}
 use native.Mathlib.Omega.{arith}
 use lib.Dec.{eqb}
@@ -19,12 +19,11 @@ use Rattle.tables.specs.declared.ReadOutcome.the-variants.{Accepted, Refused as
 use Rattle.tables.specs.declared.TrialOutcome.the-variants.{Yes, No, Refused as TrialRefused}
 use Rattle.tables.specs.Read.{good, refused, unless, Input, Before, first, read-head, read-heads, read-table}
 use Rattle.tables.specs.Solve.{is-point, is-root, all-zero, none-zero, solves, reading, yes-or-no, trial, try-input}
-use Rattle.tables.specs.Walk.{Readable}
 use Rattle.points.specs.Walks.{all-match}
 use Rattle.tables.specs.laws.Chains.{reading-good, reading-refused, term-read}
-use Rattle.tables.specs.laws.Linked.{good-same, left, linked-end, member-less, TermChain, TermMember, next-term, terms-linked, HeadChain, HeadMember, next-head, heads-linked}
-use Rattle.residues.specs.laws.Prime.{modulus-prime}
-use Rattle.tables.specs.laws.Accepted.{some-record, table-read}
+use Rattle.tables.specs.laws.Linked.{good-same, left, linked-end, member-less}
+use Rattle.tables.specs.laws.Linked.{TermChain, TermMember, next-term, terms-linked, HeadChain, HeadMember, next-head, heads-linked}
+use Rattle.tables.specs.laws.Accepted.{TableRead, table-read}
 use Rattle.tables.specs.Solved.{PointOf}
 use Rattle.tables.specs.laws.Solved.{point-is}
 
@@ -34,9 +33,6 @@ not-point p n x h = go (is-point p n x) (point-is p n x .0)
     go : (b : Bool) → (b ≡ true → PointOf p n x) → false ≡ b
     go true f = absurd (h (f refl))
     go false f = refl
-
-pub readable-modulus : (w : List ℕ) (p n : ℕ) → Readable w p n → (2 ≤ p) × (p < 2147483648)
-readable-modulus w p n r = let k = modulus-prime p (r .prime) in (k .0 .two≤, k .1)
 
 -- ── the value of a polynomial ──
 -- v and the value of the terms from index i on make the value of the polynomial with its head in record `head`.
@@ -201,15 +197,6 @@ module _ (w : List ℕ) (p n from start : ℕ) (x : List ℕ) (b : Bool) where
             sym (match-not p x b (head .member) (head .behind) (λ q. k (sym head-root ∙ q))) ∙ ap (all-match p x b) (sym (head .parts)) ∙ l .same ∙ ap (all-match p x b) s
 
 -- ── a table ──
--- The code's p and n are the first words of an accepted table.
-pub record AcceptedTable (w : List ℕ) : Type 0 where
-  pub input : Input
-  pub is-read : read-table w ≡ good input
-  pub readable : Readable w (word w 0 0) (word w 0 1)
-  pub zeros : read-heads w (word w 0 0) (word w 0 1) (records w) 0 (word w 0 2) ≡ good (input .P)
-  pub nonzeros : read-heads w (word w 0 0) (word w 0 1) (records w) 0 (word w 0 3) ≡ good (input .Q)
-  pub some : 0 < records w
-
 module _ (w x : List ℕ) (r : Reading) (e : r ≡ reading (read-table w)) where
   pub table-refused : (why : Reason) (at : ℕ) → r .outcome ≡ ReadRefused why at → record { outcome = TrialRefused why at } ≡ trial (try-input w x)
   unfolding try-input
@@ -217,30 +204,23 @@ module _ (w x : List ℕ) (r : Reading) (e : r ≡ reading (read-table w)) where
       let q : read-table w ≡ refused why at = reading-refused (read-table w) (ap (λ (s : Reading). s .outcome) (sym e) ∙ h) in
       rw q
 
-  pub table-accepted : r .outcome ≡ Accepted → AcceptedTable w
-  table-accepted h =
-      let k = reading-good (read-table w) (ap (λ (s : Reading). s .outcome) (sym e) ∙ h) in
-      let t = table-read w (k .0) (k .1) in
-      record {
-        input = k .0;
-        is-read = k .1;
-        readable = rw (t .modulus, t .variables) at (t .readable);
-        zeros = rw (t .modulus, t .variables) at (t .zeros);
-        nonzeros = rw (t .modulus, t .variables) at (t .nonzeros);
-        some = some-record w (t .readable .whole);
-      }
+  pub table-accepted : r .outcome ≡ Accepted → (t : Input) × (read-table w ≡ good t)
+  table-accepted h = reading-good (read-table w) (ap (λ (s : Reading). s .outcome) (sym e) ∙ h)
 
--- The answers, along the code's tests: is x a point, are all of P zero there, is none of Q?
-module _ (w x : List ℕ) (k : AcceptedTable w) where
+-- The answers, along the code's tests: is x a point, are all of P zero there, is none of Q? The code's p and n are the first words of the table.
+module _ (w x : List ℕ) (t : Input) (is-read : read-table w ≡ good t) where
+  k : TableRead w t
+  k = table-read w t is-read
+
   -- What `all_match` says of the chain from an index in the header.
   abbrev Tried : Bool → Bool → ℕ → Type 0
   Tried r b start =
       (fs : List Poly) → read-heads w (word w 0 0) (word w 0 1) (records w) 0 start ≡ good fs → r ≡ all-match (word w 0 0) x b fs
 
   answer : trial (try-input w x)
-      ≡ trial (unless (not (is-point (word w 0 0) (word w 0 1) x)) PointReason 0 (good (solves (word w 0 0) x (k .input .P) (k .input .Q))))
+      ≡ trial (unless (not (is-point (word w 0 0) (word w 0 1) x)) PointReason 0 (good (solves (word w 0 0) x (t .P) (t .Q))))
   unfolding try-input
-  answer = let t = table-read w (k .input) (k .is-read) in rw (k .is-read, t .modulus, t .variables)
+  answer = rw (is-read, k .modulus, k .variables)
 
   module _ (r : Bool) (r-is : r ≡ is-point (word w 0 0) (word w 0 1) x) where
     pub no-point : not r ≡ true → record { outcome = TrialRefused PointReason 0 } ≡ trial (try-input w x)
@@ -253,12 +233,12 @@ module _ (w x : List ℕ) (k : AcceptedTable w) where
       module _ (a : Bool) (a-is : Tried a true (word w 0 2)) where
         pub some-nonzero : not a ≡ true → record { outcome = No } ≡ trial (try-input w x)
         unfolding solves
-        some-nonzero h₂ = rw (answer, ← r-is, not-false r h, ← a-is (k .input .P) (k .zeros), not-true a h₂)
+        some-nonzero h₂ = rw (answer, ← r-is, not-false r h, ← a-is (t .P) (k .zeros), not-true a h₂)
 
         module _ (h₂ : not a ≡ false) (b : Bool) (b-is : Tried b false (word w 0 3)) where
           answer-last : trial (try-input w x) ≡ yes-or-no b
           unfolding solves
-          answer-last = rw (answer, ← r-is, not-false r h, ← a-is (k .input .P) (k .zeros), not-false a h₂, ← b-is (k .input .Q) (k .nonzeros))
+          answer-last = rw (answer, ← r-is, not-false r h, ← a-is (t .P) (k .zeros), not-false a h₂, ← b-is (t .Q) (k .nonzeros))
 
           pub some-zero : not b ≡ true → record { outcome = No } ≡ trial (try-input w x)
           some-zero h₃ = rw (answer-last, not-true b h₃)

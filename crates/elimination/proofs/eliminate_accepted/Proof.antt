@@ -19,7 +19,7 @@ use Rattle.elimination.specs.declared.Answer.{Answer}
 use Rattle.elimination.specs.Answer.{Ran}
 use Rattle.loading.specs.Started.{Started}
 use Rattle.loading.proofs.MonicLaws.{readable-modulus}
-use Rattle.loading.proofs.StartLaws.{Chains, chains}
+use Rattle.tables.specs.laws.Accepted.{TableRead as Chains, table-read as chains}
 use Rattle.elimination.proofs.StretchLaws.{Runs, runs-from-0}
 use Rattle.elimination.proofs.WholeLaws.{no-room, begins, run-is, in-words}
 use Rattle.elimination.proofs.eliminate_accepted.Statement.{statement}

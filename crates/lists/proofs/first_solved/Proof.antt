@@ -46,7 +46,8 @@ use Rattle.tables.specs.Words.{word, records}
 use Rattle.tables.specs.Read.{good, System, read-system, read-systems}
 use Rattle.tables.specs.Solve.{solves, first-solved}
 use Rattle.tables.specs.Walk.{Readable}
-use Rattle.tables.specs.laws.Chains.{whole-records, Opened, systems-chain}
+use Rattle.tables.specs.laws.Chains.{whole-records}
+use Rattle.tables.specs.laws.Linked.{SystemMember}
 use Rattle.lists.proofs.ListLaws.{Placed, placed-first, placed-none, placed-some, placed-solved, placed-on}
 use Rattle.readers.proofs.Locals.{empty, holds, local, one, two, takes, takes-result, takes-last, last-first, free-held, with-u32, with-usize}
 use Rattle.readers.proofs.Calls.{Returned, calls-held, forks, while-more, says-both, needs-both}
@@ -151,7 +152,7 @@ module _ {M : Type 1} (𝓤 : URA M) (H : Heap 𝓤) (A : Atoms 𝓤) (W : Given
     abbrev i : ℕ
     i = s .i
 
-    abbrev system : Opened (systems-chain (now t) p n) tt (s .inv .at) i (s .inv .left)
+    abbrev system : SystemMember (now t) p n (s .inv .at) i (s .inv .left)
     system = placed-some (now t) p n (s .inv) more
 
     abbrev is-it : Bool
@@ -178,7 +179,7 @@ module _ {M : Type 1} (𝓤 : URA M) (H : Heap 𝓤) (A : Atoms 𝓤) (W : Given
         move ! (1 ∷ []) $ split3 ! $ move ! (0 ∷ 3 ∷ []) $ fjoin ! $ move ! (1 ∷ 0 ∷ []) $
         use2 W (raw (IsSolved 𝓤 H A mem run .pre to))
         (qed W (tokens 𝓤 κ κ′ q q′ ∷ ‵ (owns (ShrSlice (named 0) κ u32 ∷ u32 ∷ u32 ∷ usize ∷ ShrSlice (named 1) κ′ u32 ∷ []) given passed) ∷ []) ∵
-        says-both ! (ready .0, system .enough .inside, (system .member, system .read)) point $ frame ! $ done !) $ frame ! $ done !
+        says-both ! (ready .0, system .inside, (system .member, system .is-read)) point $ frame ! $ done !) $ frame ! $ done !
 
     module _ (C : Calls 𝓤 H) (fm : FmC 𝓤 H (W .laws) C) (known : Triple 𝓤 (C #is-solved) (IsSolved 𝓤 H A mem run)) where
       solved-called : ent 𝓤 held (C #is-solved (slice t ∷ vint w32 p ∷ vint w32 n ∷ vint w64 i ∷ slice x ∷ [])
@@ -188,11 +189,11 @@ module _ {M : Type 1} (𝓤 : URA M) (H : Heap 𝓤) (A : Atoms 𝓤) (W : Given
           (ensured 𝓤 H A is-solved.ended (is-solved.clauses 𝓤 H A mem run) (κ, (κ′, tt)) given tt) Solves (vbool is-it) (Unit {0})
           (λ w. id⊢ 𝓤 _)
           (λ r. exE 𝓤 _ (λ ws. snd∗ 𝓤 (sem 𝓤 H A (lasts is-solved.ended (κ, (κ′, tt)) given ws)) (fact 𝓤 (Solves r))))
-          (λ w r e is. (ap only is ∙ ap vbool (e (system .member) (system .read)), tt))
+          (λ w r e is. (ap only is ∙ ap vbool (e (system .member) (system .is-read)), tt))
           asked
 
     plus-fits : s .place + 1 < 2 ^ 32
-    plus-fits = omega (arith, s .inv .few, s .inv .enough .inside, whole-records (now t) (ready .0 .whole) .2)
+    plus-fits = omega (arith, s .inv .few, system .higher, system .inside, whole-records (now t) (ready .0 .whole) .2)
 
     place-fits : s .place < 2 ^ 32
     place-fits = omega (arith, plus-fits)
@@ -261,12 +262,12 @@ module _ {M : Type 1} (𝓤 : URA M) (H : Heap 𝓤) (A : Atoms 𝓤) (W : Given
           (λ d. takes ! (bin ! (local ! 18 refl) (lit ! tt) (record { fits = plus-fits s more }))
           (store ! 18 refl (tt, record { fits = plus-fits s more })) $
           takes ! (of-opd ! (local ! 20 refl)) (init ! 2 refl (typed (s .i) (s .fits))) $
-          goes-on-last ! along (s .i) (s .fits) 3 (system s more .enough .inside) (lit< tt) (two ! (local ! 2 refl) (lit ! tt)) (λ fits.
+          goes-on-last ! along (s .i) (s .fits) 3 (system s more .inside) (lit< tt) (two ! (local ! 2 refl) (lit ! tt)) (λ fits.
           takes-last ! (store ! 20 refl (typed next fits)) $
           -- the temporaries are empty again
           forget ! 2 refl $ forget ! 4 refl $ forget ! 6 refl $ forget ! 8 refl $ forget ! 10 refl $ forget ! 12 refl $ forget ! 14 refl $
           again ! fewer I s (record { i = next; place = s .place + 1; fits = fits; inv = placed-on (now t) p n (s .inv) (system s more) d })
-          (omega (arith, s .inv .few, system s more .above, system s more .enough .inside))))))
+          (omega (arith, s .inv .few, system s more .higher, system s more .inside))))))
           -- the chain is over: no system is solved
           (λ over. exec ! (𝓣 .C) (𝓣 .Λ) En body.t-5 (atRet En Post) $
           takes ! (of-opd ! (lit ! tt)) (init ! 30 refl (tt, record { fits = lit< tt })) $

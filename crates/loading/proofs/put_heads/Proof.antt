@@ -41,7 +41,7 @@ loop-holds : tie.Need-loop-holds Inv-loop μ-loop
 loop-holds c =
     let s = c .before .before .before in
     let a = s .args in
-    let some = some-record (a .table .now) (s .pre .0 .0 .whole) in (
+    let some = some-record (s .pre .0 .0) in (
       omega arith,
       omega arith,
       λ fs b e x. put-first (a .table .now) (a .p) (a .n) (a .in-q) (capacity (a .work .now)) (a .first) (view (a .work .now)) fs b some e x,

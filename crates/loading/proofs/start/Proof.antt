@@ -11,16 +11,17 @@ use Rattle.records.specs.Records.{view}
 use Rattle.tables.specs.Words.{word}
 use Rattle.tables.specs.Read.{Input, good, read-table}
 use Rattle.tables.specs.laws.Chains.{readable-words}
+use Rattle.tables.specs.laws.Accepted.{TableRead, table-read}
 use Rattle.branches.specs.Area.{capacity}
 use Rattle.branches.proofs.LengthLaws.{same-capacity}
 use Rattle.loading.specs.Started.{put-heads, Alone, Filled}
-use Rattle.loading.proofs.StartLaws.{Chains, chains, no-polynomial, alone-empty, with-zeros, start-none, start-fails, start-put}
+use Rattle.loading.proofs.StartLaws.{no-polynomial, alone-empty, with-zeros, start-none, start-fails, start-put}
 use Rattle.loading.proofs.start.Statement.{statement}
 use Rattle.loading.proofs.start.Tie as tie
 
--- The chains of the table that the contract's `requires` tells of.
-told : (s : tie.Start) → Chains (s .args .table .now) (s .pre .0 .0)
-told s = chains (s .args .table .now) (s .pre .0 .0) (s .pre .0 .1)
+-- What the words of the table say that the contract's `requires` tells of.
+told : (s : tie.Start) → TableRead (s .args .table .now) (s .pre .0 .0)
+told s = table-read (s .args .table .now) (s .pre .0 .0) (s .pre .0 .1)
 
 header : (s : tie.Start) → 4 ≤ length (s .args .table .now)
 header s = readable-words (told s .readable)
@@ -60,7 +61,7 @@ put c t e =
     let d = begun-by c in
     let s = start d in
     subst (λ (m : ℕ). Alone (p s) m no-polynomial (view (d .begin .last .0)) → Filled (p s) m (with-zeros (p s) t) (c .put-heads .result) (view (work c)))
-    (room d) (c .put-heads .ensures (t .P) no-polynomial (chains (s .args .table .now) t e .zeros)) (begun d)
+    (room d) (c .put-heads .ensures (t .P) no-polynomial (table-read (s .args .table .now) t e .zeros)) (begun d)
 
 room-2 : (c : tie.After-put-heads) → capacity (work c) ≡ most (entry c)
 room-2 c = same-capacity (work c) (entry c .args .work .now) (c .put-heads .kept .1 .1 .1 .1 .0 ∙ begun-by c .begin .kept .0)
@@ -110,7 +111,7 @@ returns-2 : tie.Need-returns-2
 returns-2 c t e =
     let k = c .before .before .before .before .before in
     let s = entry k in
-    start-fails t (most s) (view (work k)) (p s) (chains (s .args .table .now) t e .modulus) (some (begun-by k))
+    start-fails t (most s) (view (work k)) (p s) (table-read (s .args .table .now) t e .modulus) (some (begun-by k))
     (subst (λ (b : Bool). Filled (p s) (most s) (with-zeros (p s) t) b (view (work k))) (not-true (k .put-heads .result) (c .if2 .taken)) (put k t e))
 
 shared-slice-read-put-heads-2 : tie.Need-shared-slice-read-put-heads-2
@@ -139,9 +140,9 @@ returns-3 c t e =
     let s = entry k in
     let b = with-zeros (p s) t in
     let v = view (n .put-heads2 .last .1 .1 .1 .1 .0) in
-    start-put t (most s) v (p s) (chains (s .args .table .now) t e .modulus) (some (begun-by k)) (n .put-heads2 .result)
+    start-put t (most s) v (p s) (table-read (s .args .table .now) t e .modulus) (some (begun-by k)) (n .put-heads2 .result)
     (subst (λ (m : ℕ). Alone (p s) m b (view (work k)) → Filled (p s) m (put-heads true (p s) (t .Q) b) (n .put-heads2 .result) v)
-    (room-2 k) (n .put-heads2 .ensures (t .Q) b (chains (s .args .table .now) t e .nonzeros)) (zeros-in f t e))
+    (room-2 k) (n .put-heads2 .ensures (t .Q) b (table-read (s .args .table .now) t e .nonzeros)) (zeros-in f t e))
 
 pub start-spec : {M : Type 1} → statement M
 start-spec =

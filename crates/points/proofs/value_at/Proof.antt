@@ -48,7 +48,8 @@ use Rattle.tables.specs.Read.{good, read-head}
 use Rattle.tables.specs.Walk.{Readable}
 use Rattle.points.specs.Walks.{plus-term}
 use Rattle.tables.specs.laws.Linked.{left}
-use Rattle.points.proofs.PointLaws.{readable-modulus, ValueLeft, value-start, value-end, value-inside, value-residue}
+use Rattle.tables.specs.laws.Accepted.{readable-numbers}
+use Rattle.points.proofs.PointLaws.{ValueLeft, value-start, value-end, value-inside, value-residue}
 use Rattle.points.proofs.PointLaws.{value-less, value-next}
 use Rattle.readers.proofs.Locals.{empty, holds, local, one, two, takes, takes-result, takes-last, last-first, free-held, with-u32, with-usize, with-u64}
 use Rattle.readers.proofs.Calls.{Returned, calls-held, while-more, says-both, needs-both}
@@ -179,8 +180,8 @@ module _ {M : Type 1} (𝓤 : URA M) (H : Heap 𝓤) (A : Atoms 𝓤) (W : Given
 
       in-order : (2 ≤ p) × (p < 2147483648) × (i < records (now t)) × (word (now t) i 0 < p) × (v < p)
       in-order =
-          let m = readable-modulus (now t) p n (ready .0) in
-          (m .0, m .1, inside, value-residue (now t) p n head (now x) v i (s .inv) more, s .inv .below)
+          let m = readable-numbers (now t) p n (ready .0) in
+          (m .prime .two≤, m .below, inside, value-residue (now t) p n head (now x) v i (s .inv) more, s .inv .below)
 
       asked : ent 𝓤 held (sep 𝓤 (AddTerm 𝓤 H A mem run .pre to) (mean 𝓤 H A (Owns 𝓤 κ κ′ t x)))
       asked =
@@ -246,8 +247,8 @@ module _ {M : Type 1} (𝓤 : URA M) (H : Heap 𝓤) (A : Atoms 𝓤) (W : Given
 
       kept : (more : s .i ≢ 0) → ValueLeft (now t) p n head (now x) (sum s more) next
       kept more =
-          let m = readable-modulus (now t) p n (ready .0) in
-          value-next (now t) p n head (now x) (s .v) (s .i) (s .inv) more (omega (arith, m .0)) (sum s more) refl
+          let m = readable-numbers (now t) p n (ready .0) .prime in
+          value-next (now t) p n head (now x) (s .v) (s .i) (s .inv) more (omega (arith, m .two≤)) (sum s more) refl
 
       turn : Turn s
       unfolding afterTurn
@@ -316,7 +317,7 @@ module _ {M : Type 1} (𝓤 : URA M) (H : Heap 𝓤) (A : Atoms 𝓤) (W : Given
           v = 0;
           i = first;
           fits = fits;
-          inv = value-start (now t) p n head (now x) (ready .2 .0) (omega (arith, readable-modulus (now t) p n (ready .0) .0)) (ready .1) (ready .2 .1);
+          inv = value-start (now t) p n head (now x) (ready .2 .0) (omega (arith, readable-numbers (now t) p n (ready .0) .prime .two≤)) (ready .1) (ready .2 .1);
         }
 
 module _ {M : Type 1} (𝓤 : URA M) (H : Heap 𝓤) (A : Atoms 𝓤) (W : Given 𝓤 H A) (mem : Memory → SProp 𝓤) (run : Routine → Fun 𝓤)

@@ -79,7 +79,7 @@ pub listed-writable : (w : List ℕ) (work limit : ℕ) (t : Input) (n : ℕ) (s
 unfolding limits-of
 listed-writable w work limit t n ss r e =
     record {
-      prime = table-read w t r .readable .prime;
+      prime = rw (table-read w t r .modulus) (table-read w t r .readable .prime);
       some-variable = a .numbers .some-variable;
       eight-variables = a .numbers .eight-variables;
       few-records = few-records work limit t n ss e;

@@ -1,27 +1,26 @@
 -- What is accepted is admissible: the numbers, the polynomials and the order of its systems.
 use mathlib.Core.Path.{_≡_, refl, sym, _∙_, ap, subst}
-use mathlib.Core.Bool.{Bool, true, false, not, _&&_, and-eq-true-iff, true≢false}
+use mathlib.Core.Bool.{Bool, true, false, true≢false}
 use mathlib.Core.List.{List, [], _∷_, _++_}
-use Prim.Native.Nat.{ℕ, zero, suc, _+_, _-_, _%_, _≤_, _<_, Ordering, Ordering·lt, Ordering·eq, Ordering·gt}
+use Prim.Native.Nat.{ℕ, zero, suc, _+_, _-_, _≤_, _<_, Ordering, Ordering·lt, Ordering·eq, Ordering·gt}
 use native.Mathlib.Omega.{arith}
-use borrow.Author.Tests.{leb-true, eqb-true, not-false}
-use lib.Dec.{eqb, leb}
+use borrow.Author.Tests.{eqb-true}
+use lib.Dec.{eqb}
 use lib.ListN.{length, getD, drop}
 use lib.Seq.{getD-drop}
-use Rattle.residues.specs.Prime.{is-modulus}
 use Rattle.residues.specs.laws.Prime.{modulus-prime}
 use Rattle.polynomials.specs.Poly.{Exponents, Term, Poly, order}
 use Rattle.polynomials.specs.Canonical.{Under, Canonical, All}
 use Rattle.polynomials.specs.Packed.{bytes, exponents}
 use Rattle.polynomials.specs.laws.Packed.{byte-small}
 use Rattle.polynomials.specs.laws.Canonical.{under-trans}
-use Rattle.tables.specs.declared.Reason.{Reason}
-use Rattle.tables.specs.declared.Reason.the-variants.{Shape, Prime as PrimeReason, Variables, Broken}
-use Rattle.tables.specs.Words.{word, records, is-whole}
-use Rattle.tables.specs.Read.{Read, good, unless, Before, first, after, not-zero, has-above, not-below, Input, System, Listing, read-term, read-head, read-heads, read-triangle, read-system, read-systems, read-header, read-table, read-list}
+use Rattle.tables.specs.declared.Reason.the-variants.{Broken}
+use Rattle.tables.specs.Words.{word, records}
+use Rattle.tables.specs.Read.{good, Before, first, after, not-zero, has-above, not-below, Input, System, Listing}
+use Rattle.tables.specs.Read.{read-term, read-head, read-heads, read-triangle, read-system, read-systems, read-table, read-list}
 use Rattle.tables.specs.Walk.{Readable}
 use Rattle.tables.specs.Admissible.{Each, Rising, Admissible, AdmissibleNumbers, AdmissibleInput, AdmissibleListing}
-use Rattle.tables.specs.laws.Chains.{unless-good, then-good, term-read}
+use Rattle.tables.specs.laws.Chains.{unless-not-good, then-good, header-read, whole-records, term-read}
 use Rattle.tables.specs.laws.Linked.{good-same, linked-each, TermChain, terms-linked, HeadChain, heads-linked, triangle-linked, systems-linked}
 
 -- ── exponents ──
@@ -112,37 +111,22 @@ module _ (w : List ℕ) (p n : ℕ) where
       }
 
 -- ── the header ──
-unless-not-good : {A : Type 0} (b : Bool) (why : Reason) (at : ℕ) (r : Read A) {a : A} → unless (not b) why at r ≡ good a → (b ≡ true) × (r ≡ good a)
-unless-not-good b why at r e = let k = unless-good (not b) why at r e in (not-false b (k .0), k .1)
+pub some-record : {w : List ℕ} {p n : ℕ} → Readable w p n → 0 < records w
+some-record {w} r = omega (arith, whole-records w (r .whole))
 
-pub header-read : {A : Type 0} (w : List ℕ) (r : Read A) (a : A) → read-header w r ≡ good a → Readable w (word w 0 0) (word w 0 1) × (r ≡ good a)
-unfolding read-header
-header-read w r a e =
-    let e₁ = unless-not-good (is-whole w) Shape 0 _ e in
-    let e₂ = unless-not-good (is-modulus (word w 0 0)) PrimeReason 0 _ (e₁ .1) in
-    let e₃ = unless-not-good (leb 1 (word w 0 1) && leb (word w 0 1) 8) Variables 0 r (e₂ .1) in
-    let v = and-eq-true-iff (leb 1 (word w 0 1)) (leb (word w 0 1) 8) .0 (e₃ .0) in
-    (record { whole = e₁ .0; prime = e₂ .0; some = leb-true 1 (word w 0 1) (v .0); few = leb-true (word w 0 1) 8 (v .1) }, e₃ .1)
-
-pub some-record : (w : List ℕ) → is-whole w ≡ true → 0 < records w
-unfolding is-whole
-some-record w h =
-    let k = and-eq-true-iff (eqb (length w % 4) 0) (leb 1 (records w) && leb (records w) 65536) .0 h in
-    leb-true 1 (records w) (and-eq-true-iff (leb 1 (records w)) (leb (records w) 65536) .0 (k .1) .0)
-
-readable-numbers : (w : List ℕ) (p n : ℕ) → Readable w p n → AdmissibleNumbers p n
+pub readable-numbers : (w : List ℕ) (p n : ℕ) → Readable w p n → AdmissibleNumbers p n
 readable-numbers w p n r =
     let k = modulus-prime p (r .prime) in
     record { prime = k .0; below = k .1; some-variable = r .some; eight-variables = r .few }
 
 -- ── a table ──
--- What the words of an accepted table say.
+-- What the words of an accepted table say: its numbers and its chains, by the first words.
 pub record TableRead (w : List ℕ) (t : Input) : Type 0 where
   pub modulus : t .modulus ≡ word w 0 0
   pub variables : t .variables ≡ word w 0 1
-  pub readable : Readable w (t .modulus) (t .variables)
-  pub zeros : read-heads w (t .modulus) (t .variables) (records w) 0 (word w 0 2) ≡ good (t .P)
-  pub nonzeros : read-heads w (t .modulus) (t .variables) (records w) 0 (word w 0 3) ≡ good (t .Q)
+  pub readable : Readable w (word w 0 0) (word w 0 1)
+  pub zeros : read-heads w (word w 0 0) (word w 0 1) (records w) 0 (word w 0 2) ≡ good (t .P)
+  pub nonzeros : read-heads w (word w 0 0) (word w 0 1) (records w) 0 (word w 0 3) ≡ good (t .Q)
 
 pub table-read : (w : List ℕ) (t : Input) → read-table w ≡ good t → TableRead w t
 unfolding read-table
@@ -159,21 +143,21 @@ heads-admissible w p n = linked-each w _ _ (Admissible p n) (λ s. head-admissib
 pub accepted-admissible : (w : List ℕ) (t : Input) → read-table w ≡ good t → AdmissibleInput t
 accepted-admissible w t e =
     let r = table-read w t e in
-    let p = t .modulus in
-    let n = t .variables in
-    let h = some-record w (r .readable .whole) in
+    let p = word w 0 0 in
+    let n = word w 0 1 in
+    let h = some-record (r .readable) in
     record {
-      numbers = readable-numbers w p n (r .readable);
-      zeros = heads-admissible w p n 0 (word w 0 2) (t .P) (heads-linked w p n 0 (word w 0 2) (t .P) h (r .zeros));
-      nonzeros = heads-admissible w p n 0 (word w 0 3) (t .Q) (heads-linked w p n 0 (word w 0 3) (t .Q) h (r .nonzeros));
+      numbers = rw (r .modulus, r .variables) (readable-numbers w p n (r .readable));
+      zeros = rw (r .modulus, r .variables) (heads-admissible w p n 0 (word w 0 2) (t .P) (heads-linked w p n 0 (word w 0 2) (t .P) h (r .zeros)));
+      nonzeros = rw (r .modulus, r .variables) (heads-admissible w p n 0 (word w 0 3) (t .Q) (heads-linked w p n 0 (word w 0 3) (t .Q) h (r .nonzeros)));
     }
 
 -- ── a list ──
 pub record ListRead (w : List ℕ) (l : Listing) : Type 0 where
   pub modulus : l .modulus ≡ word w 0 0
   pub variables : l .variables ≡ word w 0 1
-  pub readable : Readable w (l .modulus) (l .variables)
-  pub systems : read-systems w (l .modulus) (l .variables) (records w) 0 (word w 0 2) ≡ good (l .systems)
+  pub readable : Readable w (word w 0 0) (word w 0 1)
+  pub systems : read-systems w (word w 0 0) (word w 0 1) (records w) 0 (word w 0 2) ≡ good (l .systems)
   pub count : length (l .systems) ≡ word w 0 3
 
 pub list-read : (w : List ℕ) (l : Listing) → read-list w ≡ good l → ListRead w l
@@ -201,10 +185,12 @@ system-read w p n i s e =
 pub accepted-list-admissible : (w : List ℕ) (l : Listing) → read-list w ≡ good l → AdmissibleListing l
 accepted-list-admissible w l e =
     record {
-      numbers = readable-numbers w p n (r .readable);
-      triangular = each (λ s. Each (Admissible p n) (s .T)) (λ i s h q. heads-admissible w p n i (word w i 0) (s .T) (triangle i s h q .0));
-      companion = each (λ s. Each (Admissible p n) (s .U))
-          (λ i s h q. heads-admissible w p n i (word w i 1) (s .U) (heads-linked w p n i (word w i 1) (s .U) h (system-read w p n i s q .companion)));
+      numbers = rw (r .modulus, r .variables) (readable-numbers w p n (r .readable));
+      triangular = rw (r .modulus, r .variables)
+          (each (λ s. Each (Admissible p n) (s .T)) (λ i s h q. heads-admissible w p n i (word w i 0) (s .T) (triangle i s h q .0)));
+      companion = rw (r .modulus, r .variables)
+          (each (λ s. Each (Admissible p n) (s .U))
+          (λ i s h q. heads-admissible w p n i (word w i 1) (s .U) (heads-linked w p n i (word w i 1) (s .U) h (system-read w p n i s q .companion))));
       rising = each (λ s. Rising 0 (s .T)) (λ i s h q. triangle i s h q .1);
     }
   where
@@ -212,13 +198,15 @@ accepted-list-admissible w l e =
     r = list-read w l e
 
     p : ℕ
-    p = l .modulus
+    p = word w 0 0
 
     n : ℕ
-    n = l .variables
+    n = word w 0 1
 
     each : (P : System → Type 0) → ((i : ℕ) (s : System) → i < records w → read-system w p n i ≡ good s → P s) → Each P (l .systems)
-    each P f = linked-each w _ _ P (λ u. f) tt 0 (word w 0 2) (l .systems) (systems-linked w p n 0 (word w 0 2) (l .systems) (some-record w (r .readable .whole)) (r .systems))
+    each P f =
+        linked-each w _ _ P (λ u. f) tt 0 (word w 0 2) (l .systems)
+        (systems-linked w p n 0 (word w 0 2) (l .systems) (some-record (r .readable)) (r .systems))
 
     triangle : (i : ℕ) (s : System) → i < records w → read-system w p n i ≡ good s → HeadChain w p n i (word w i 0) (s .T) × Rising 0 (s .T)
     triangle i s h q = triangle-linked w p n 0 i (word w i 0) (s .T) h (system-read w p n i s q .triangle)

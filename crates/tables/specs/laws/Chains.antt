@@ -45,6 +45,9 @@ pub unless-good : {A : Type 0} (b : Bool) (why : Reason) (at : ℕ) (r : Read A)
 unless-good true why at r e = let z : _≡_ {A = ℕ} 0 1 = cc in absurd (omega arith)
 unless-good false why at r e = (refl, e)
 
+pub unless-not-good : {A : Type 0} (b : Bool) (why : Reason) (at : ℕ) (r : Read A) {a : A} → unless (not b) why at r ≡ good a → (b ≡ true) × (r ≡ good a)
+unless-not-good b why at r e = let k = unless-good (not b) why at r e in (not-false b (k .0), k .1)
+
 pub then-good : {A B : Type 0} (r : Read A) (k : A → Read B) {b : B} → then r k ≡ good b → (a : A) × (r ≡ good a) × (k a ≡ good b)
 then-good (good a) k e = (a, refl, e)
 then-good (refused why at) k e = let z : _≡_ {A = ℕ} 0 1 = cc in absurd (omega arith)
@@ -56,15 +59,20 @@ header-tests false true c e = let z : _≡_ {A = ℕ} 0 1 = cc in absurd (omega 
 header-tests false false true e = let z : _≡_ {A = ℕ} 0 1 = cc in absurd (omega arith)
 header-tests false false false e = (refl, refl, refl)
 
--- An accepted header.
-pub header-readable : (w : List ℕ) → checked (read-header w accepted) ≡ Good → Readable w (word w 0 0) (word w 0 1)
+-- What was read behind a header: the header was accepted.
+pub header-read : {A : Type 0} (w : List ℕ) (r : Read A) (a : A) → read-header w r ≡ good a → Readable w (word w 0 0) (word w 0 1) × (r ≡ good a)
 unfolding read-header
-header-readable w e =
-    let h = header-tests (not (is-whole w)) (not (is-modulus (word w 0 0))) (not (leb 1 (word w 0 1) && leb (word w 0 1) 8)) e in
-    let v = and-eq-true-iff (leb 1 (word w 0 1)) (leb (word w 0 1) 8) .0 (not-false _ (h .2)) in
-    record { whole = not-false _ (h .0); prime = not-false _ (h .1); some = leb-true 1 _ (v .0); few = leb-true _ 8 (v .1) }
+header-read w r a e =
+    let e₁ = unless-not-good (is-whole w) Shape 0 _ e in
+    let e₂ = unless-not-good (is-modulus (word w 0 0)) Prime 0 _ (e₁ .1) in
+    let e₃ = unless-not-good (leb 1 (word w 0 1) && leb (word w 0 1) 8) Variables 0 r (e₂ .1) in
+    let v = and-eq-true-iff (leb 1 (word w 0 1)) (leb (word w 0 1) 8) .0 (e₃ .0) in
+    (record { whole = e₁ .0; prime = e₂ .0; some = leb-true 1 (word w 0 1) (v .0); few = leb-true (word w 0 1) 8 (v .1) }, e₃ .1)
 
--- Then what is read is what follows.
+pub header-readable : (w : List ℕ) → checked (read-header w accepted) ≡ Good → Readable w (word w 0 0) (word w 0 1)
+header-readable w e = let g = checked-good (read-header w accepted) e in header-read w accepted (g .0) (g .1) .0
+
+-- What is read behind an accepted header is what follows it.
 pub header-passes : {A : Type 0} (w : List ℕ) (r : Read A) → checked (read-header w accepted) ≡ Good → read-header w r ≡ r
 unfolding read-header
 header-passes w r e =

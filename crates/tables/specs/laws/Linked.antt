@@ -118,11 +118,17 @@ module _ (w : List ℕ) (p n : ℕ) where
   abbrev pub SystemChain : ℕ → ℕ → List System → Type 0
   SystemChain = Linked {S = Unit {0}} w (λ s j. read-system w p n j) (λ s f. s) tt
 
+  abbrev pub SystemMember : ℕ → ℕ → List System → Type 0
+  SystemMember = Member {S = Unit {0}} w (λ s j. read-system w p n j) (λ s f. s) tt
+
+  pub next-system : {at i : ℕ} {ss : List System} → i ≢ 0 → SystemChain at i ss → SystemMember at i ss
+  next-system more l = linked-member w _ _ tt _ _ _ more l
+
   pub systems-linked : (at i : ℕ) (ss : List System) → at < records w → read-systems w p n (records w) at i ≡ good ss → SystemChain at i ss
   systems-linked at i ss h e = chain-linked (systems-chain w p n) (records w) tt at i ss (whole-chain w at h) e
 
   -- A T chain is a chain of heads whose leading variables rise.
-  led-parts : (last i : ℕ) (f : Poly) → read-led w p n last i ≡ good f → (read-head w p n i ≡ good f) × (last < leader f)
+  pub led-parts : (last i : ℕ) (f : Poly) → read-led w p n last i ≡ good f → (read-head w p n i ≡ good f) × (last < leader f)
   led-parts last i f e =
       let r = then-good (read-head w p n i) _ e in
       let u = unless-good (leb (leader (r .0)) last) Broken i (good (r .0)) (r .2) in

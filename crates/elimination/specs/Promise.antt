@@ -8,6 +8,7 @@ use mathlib.Core.List.{List}
 use Prim.Native.Nat.{ℕ, _*_, _≤_}
 use native.Mathlib.Omega.{arith}
 use lib.ListN.{length, take, replicate}
+use Rattle.residues.specs.Each.{Each}
 use Rattle.tables.specs.Read.{good, Input, System, read-table}
 use Rattle.tables.specs.Solve.{solves, first-solved, try-input, try-systems, trial, placing}
 use Rattle.tables.specs.Reason.{number}
@@ -18,7 +19,6 @@ use Rattle.tables.specs.declared.Trial.{Trial}
 use Rattle.tables.specs.declared.Placing.{Placing}
 use Rattle.tables.specs.Solved.{PointOf, Solves, Solved, First}
 use Rattle.rules.specs.Written.{list-records}
-use Rattle.rules.specs.Writable.{Each}
 use Rattle.rules.specs.Eliminate.{Eliminated, listed, turned-back, eliminated, output-after}
 use Rattle.rules.specs.laws.Promised.{says}
 use Rattle.rules.specs.Promise.{ListPromise, PointPromise, promise}

@@ -8,6 +8,7 @@ use native.Mathlib.Omega.{arith}
 use borrow.Author.Tests.{le-leb, lt-leb, leb-false}
 use lib.Dec.{leb}
 use lib.ListN.{take}
+use Rattle.residues.specs.Each.{Each}
 use Rattle.polynomials.specs.Poly.{Poly, monic}
 use Rattle.polynomials.specs.Packed.{terms}
 use Rattle.tables.specs.Words.{word, records}
@@ -16,7 +17,6 @@ use Rattle.tables.specs.laws.Linked.{left, linked-end, member-less, HeadChain, 
 use Rattle.rules.specs.Branch as rules
 use Rattle.rules.specs.Branch.{Branch, unless-dropped, put-all}
 use Rattle.rules.specs.Room.{polynomials-size, branch-size, branches-size, systems-size, live}
-use Rattle.rules.specs.Writable.{Each}
 use Rattle.records.specs.Records.{Rec}
 use Rattle.branches.specs.Area.{Stored, Held, Leaves, size, with-open}
 use Rattle.representation.specs.Represent.{Sound, Branch-sound, branch-of, Monic, All-monic}

@@ -6,13 +6,13 @@ use mathlib.Core.List.{List, []}
 use Prim.Native.Nat.{ℕ, _+_, _≤_}
 use lib.Dec.{leb}
 use lib.ListN.{take, length}
+use Rattle.residues.specs.Each.{Each}
 use Rattle.polynomials.specs.Poly.{Poly, monic}
 use Rattle.polynomials.specs.Packed.{terms}
 use Rattle.tables.specs.declared.Reason.the-variants.{Room}
 use Rattle.rules.specs.Branch.{Branch, put-P, put-Q, put-all}
 use Rattle.rules.specs.Room.{branch-size}
 use Rattle.rules.specs.Step.{Stepped, next, stopped}
-use Rattle.rules.specs.Writable.{Each}
 use Rattle.records.specs.Records.{Rec}
 use Rattle.branches.specs.Area.{Stored, Area, Held, with-open, put-into-P, put-into-Q}
 use Rattle.representation.specs.Represent.{Sound, Branch-sound, branch-of, state-of, Monic, All-monic}

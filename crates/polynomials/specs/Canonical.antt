@@ -2,12 +2,12 @@
 use mathlib.Core.Path.{_≡_}
 use mathlib.Core.List.{[], _∷_}
 use Prim.Native.Nat.{ℕ, _≤_, _<_, Ordering·lt}
+use Rattle.residues.specs.Each.{Each}
 use Rattle.polynomials.specs.Poly.{Exponents, Poly, order}
 
 -- All of f is below the monomial e.
 abbrev pub Under : Exponents → Poly → Type 0
-Under e [] = Unit {0}
-Under e (t ∷ f) = (order (t .exps) e ≡ Ordering·lt) × Under e f
+Under e f = Each (λ t. order (t .exps) e ≡ Ordering·lt) f
 
 abbrev pub Canonical : ℕ → Poly → Type 0
 Canonical p [] = Unit {0}
@@ -15,5 +15,4 @@ Canonical p (t ∷ f) = (1 ≤ t .coef) × (t .coef < p) × Under (t .exps) f ×
 
 -- P holds of the exponents of each term.
 abbrev pub All : (Exponents → Type 0) → Poly → Type 0
-All P [] = Unit {0}
-All P (t ∷ f) = P (t .exps) × All P f
+All P f = Each (λ t. P (t .exps)) f

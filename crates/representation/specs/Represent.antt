@@ -4,11 +4,11 @@ use mathlib.Core.Path.{_≡_}
 use mathlib.Core.List.{List, [], _∷_, map, reverse}
 use Prim.Native.Nat.{ℕ, _<_}
 use lib.ListN.{getD}
+use Rattle.residues.specs.Each.{Each}
 use Rattle.polynomials.specs.Poly.{Poly}
 use Rattle.polynomials.specs.Packed.{terms}
 use Rattle.polynomials.specs.Working.{Holds}
 use Rattle.tables.specs.Read.{System}
-use Rattle.tables.specs.Admissible.{Each}
 use Rattle.rules.specs.Branch.{Branch, Chosen}
 use Rattle.rules.specs.Room.{State}
 use Rattle.branches.specs.Area.{Stored, Area}

@@ -1,3 +1,4 @@
+pub mod Each
 pub mod Prime
 pub mod Residue
 pub mod Field

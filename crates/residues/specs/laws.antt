@@ -1,4 +1,5 @@
 pub mod Booleans
+pub mod Each
 pub mod Prime
 pub mod Inverse
 pub mod Power

@@ -5,6 +5,7 @@ use mathlib.Core.Bool.{true}
 use mathlib.Core.List.{List}
 use Prim.Native.Nat.{ℕ, _-_, _≤_}
 use lib.ListN.{length}
+use Rattle.residues.specs.Each.{Each}
 use Rattle.residues.specs.Field.{Field, Contains}
 use Rattle.polynomials.specs.Canonical.{All}
 use Rattle.polynomials.specs.Division.{leader, initial}
@@ -12,13 +13,12 @@ use Rattle.polynomials.specs.Value.{value-modulo}
 use Rattle.polynomials.specs.Bounds.{standard}
 use Rattle.tables.specs.Read.{good, System, Input, read-table, read-list}
 use Rattle.tables.specs.Solve.{solves, first-solved}
-use Rattle.tables.specs.Admissible.{Admissible, AdmissibleInput}
+use Rattle.tables.specs.Admissible.{Rising, Admissible, AdmissibleInput}
 use Rattle.tables.specs.declared.Reason.{Reason}
 use Rattle.rules.specs.Room.{Limits}
 use Rattle.rules.specs.Run.{finished, refused, run-of}
 use Rattle.rules.specs.Eliminate.{limits-of, listed, eliminated}
 use Rattle.rules.specs.Jobs
-use Rattle.rules.specs.Writable.{Each, Rising}
 use Rattle.rules.specs.Solutions.{Some, Solves-input, Solves-system, NonZero-initial, Proper}
 use Rattle.rules.specs.laws.Points
 use Rattle.rules.specs.laws.Initials

@@ -2,6 +2,7 @@
 use mathlib.Core.Path.{_≡_, refl}
 use mathlib.Core.List.{List, [], _∷_}
 use Prim.Native.Nat.{ℕ}
+use Rattle.residues.specs.Each.{Each}
 use Rattle.residues.specs.Residue.{inverse, inverse-from}
 use Rattle.polynomials.specs.Poly.{Term, Poly, order, join, keep, insert, add-multiple, difference, product, monic, equal}
 use Rattle.polynomials.specs.Division.{degree, largest, degrees, highest, leader, coefficient, without, initial, rest, pure-power, shift, factor}
@@ -15,7 +16,6 @@ use Rattle.rules.specs.Room.{polynomials-size, branch-size, branches-siz
 use Rattle.rules.specs.Rule.{rule-with, rule-of}
 use Rattle.rules.specs.Step.{within-room, remainder-by, replace, apply, step}
 use Rattle.rules.specs.Run.{Ended, finished, refused, run, first-branch, start, run-of}
-use Rattle.rules.specs.Writable.{Each}
 
 pub record Job : Type 0 where
   pub input : Input

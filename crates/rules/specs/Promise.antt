@@ -9,6 +9,8 @@ use Prim.Native.Nat.{ℕ, _-_, _*_, _≤_}
 use native.Mathlib.Omega.{arith}
 use lib.ListN.{length, take, drop, length-append, length-drop}
 use lib.Seq.{take-append-seam, drop-append-seam}
+use Rattle.residues.specs.Each.{Each}
+use Rattle.residues.specs.laws.Each.{each-map}
 use Rattle.residues.specs.Field.{Field, Contains}
 use Rattle.polynomials.specs.Division.{leader, initial}
 use Rattle.polynomials.specs.Value.{value-modulo}
@@ -19,11 +21,10 @@ use Rattle.tables.specs.laws.Solved.{solves-is, place-is, none-is, table-answer
 use Rattle.rules.specs.Run.{finished, run-of}
 use Rattle.rules.specs.Written.{list-records}
 use Rattle.rules.specs.Eliminate.{limits-of, listed, eliminated, output-after}
-use Rattle.rules.specs.Writable.{Each, Rising}
+use Rattle.tables.specs.Admissible.{Rising}
 use Rattle.rules.specs.Solutions.{Some, Solves-input, Solves-system, NonZero-initial}
 use Rattle.rules.specs.Claims.{zero-relation, initials, yes-with-place, initials-modulo, finished-steps}
 use Rattle.rules.specs.laws.Lengths.{length-list}
-use Rattle.rules.specs.laws.Lists.{each-map}
 use Rattle.rules.specs.laws.ReadAgain.{read-again}
 use Rattle.rules.specs.laws.WrittenAgain.{Delivered, listed-delivered, listed-writable, accepted-proper}
 use Rattle.rules.specs.laws.Promised.{fits-output, says, place-some, no-zero}

@@ -3,6 +3,7 @@ use mathlib.Core.Path.{_≡_}
 use mathlib.Core.Logic.{_≢_, _⊎_, Lift}
 use mathlib.Core.List.{List, [], _∷_}
 use Prim.Native.Nat.{_-_}
+use Rattle.residues.specs.Each.{Each}
 use Rattle.residues.specs.Prime.{Prime}
 use Rattle.residues.specs.Field.{Field}
 use Rattle.polynomials.specs.Poly.{Poly}
@@ -10,7 +11,6 @@ use Rattle.polynomials.specs.Canonical.{Canonical}
 use Rattle.polynomials.specs.Division.{leader, initial}
 use Rattle.polynomials.specs.Value.{value}
 use Rattle.tables.specs.Read.{Input, System}
-use Rattle.rules.specs.Writable.{Each}
 
 -- P holds of some member of a list.
 module _ {ℓ} {A : Type 0} (P : A → Type ℓ) where

@@ -2,9 +2,10 @@
 use mathlib.Core.Path.{_≡_}
 use mathlib.Core.Bool.{true}
 use Prim.Native.Nat.{_≤_}
+use Rattle.residues.specs.Each.{Each}
 use Rattle.residues.specs.Prime.{is-modulus}
 use Rattle.tables.specs.Read.{Listing}
-pub use Rattle.tables.specs.Admissible.{Each, Rising, Admissible}
+use Rattle.tables.specs.Admissible.{Rising, Admissible}
 use Rattle.rules.specs.Written.{list-records}
 
 -- A list whose words are a table's: its numbers and polynomials are such as a table may hold, its records are not too many, and each T rises.

@@ -6,6 +6,7 @@ use mathlib.Core.List.{List, [], _∷_, map, reverse}
 use Prim.Native.Nat.{ℕ, zero, suc, _-_, _≤_, _<_, max}
 use native.Mathlib.Omega.{arith}
 use lib.ListN.{length, getD}
+use Rattle.residues.specs.Each.{Each}
 use Rattle.residues.specs.laws.Booleans.{true-of}
 use Rattle.polynomials.specs.Poly.{Poly}
 use Rattle.polynomials.specs.Canonical.{Canonical}
@@ -17,7 +18,6 @@ use Rattle.rules.specs.Branch.{Branch, Chosen, some-one, some-zero, is-one, hig
 use Rattle.rules.specs.Rule.{Rule, drop, list, rule-with, rule-of, rule-of-P}
 use Rattle.rules.specs.Step.{Stepped, step, apply}
 use Rattle.rules.specs.Room.{Limits}
-use Rattle.rules.specs.Writable.{Each}
 use Rattle.rules.specs.laws.Lists.{At}
 use Rattle.rules.specs.laws.Pivot.{pivot-stands, pivot-leads}
 use Rattle.rules.specs.laws.Rising as rising

@@ -6,6 +6,7 @@ use mathlib.Core.List.{List, [], _∷_, map, reverse}
 use Prim.Native.Nat.{ℕ}
 use native.Mathlib.Omega.{arith}
 use lib.ListN.{getD}
+use Rattle.residues.specs.Each.{Each}
 use Rattle.residues.specs.Prime.{Prime}
 use Rattle.polynomials.specs.Poly.{monic}
 use Rattle.polynomials.specs.Division.{initial, rest}
@@ -15,7 +16,6 @@ use Rattle.polynomials.specs.laws.Places.{places-terms}
 use Rattle.tables.specs.declared.Reason.the-variants.{Room}
 use Rattle.rules.specs.Rule.{Rule, split, rule-with}
 use Rattle.rules.specs.Step.{Stepped, next, stopped, apply}
-use Rattle.rules.specs.Writable.{Each}
 use Rattle.records.specs.Records.{Rec}
 use Rattle.branches.specs.Words.{put-P, is-zero, remove}
 use Rattle.branches.specs.Area.{Stored, Area, Held, Leaves, with-open, split-area}

@@ -2,10 +2,10 @@
 use mathlib.Core.Logic.{_≢_}
 use mathlib.Core.List.{List, [], _∷_}
 use Prim.Native.Nat.{ℕ, _-_, _<_}
+use Rattle.residues.specs.Each.{Each}
 use Rattle.residues.specs.Prime.{Prime}
 use Rattle.polynomials.specs.Bounds.{standard, at-most}
 use Rattle.rules.specs.Room.{Limits}
-use Rattle.rules.specs.Writable.{Each}
 use Rattle.branches.specs.Area.{Stored, Area}
 use Rattle.representation.specs.Represent.{All-listed, Area-sound, All-monic}
 

@@ -3,17 +3,12 @@ use mathlib.Core.Path.{_≡_}
 use mathlib.Core.List.{List, [], _∷_}
 use Prim.Native.Nat.{ℕ, _≤_, _<_}
 use lib.ListN.{length, getD}
+use Rattle.residues.specs.Each.{Each}
 use Rattle.residues.specs.Prime.{Prime}
 use Rattle.polynomials.specs.Poly.{Poly}
 use Rattle.polynomials.specs.Canonical.{Canonical, All}
 use Rattle.polynomials.specs.Division.{leader}
 use Rattle.tables.specs.Read.{Input, Listing}
-
--- P holds of each member of a list.
-module _ {ℓ} {A : Type 0} (P : A → Type ℓ) where
-  abbrev pub Each : List A → Type ℓ
-  Each [] = Unit {ℓ}
-  Each (a ∷ xs) = P a × Each xs
 
 -- "Leading variables rise: each polynomial of T has one, higher than that of the polynomial before it."
 abbrev pub Rising : ℕ → List Poly → Type 0

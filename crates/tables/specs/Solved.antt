@@ -4,10 +4,10 @@ use mathlib.Core.Logic.{_≢_}
 use mathlib.Core.List.{List, _∷_, _++_}
 use Prim.Native.Nat.{ℕ, _+_}
 use lib.ListN.{length}
+use Rattle.residues.specs.Each.{Each}
 use Rattle.polynomials.specs.Poly.{Poly}
 use Rattle.polynomials.specs.Value.{value-modulo, Point}
 use Rattle.tables.specs.Read.{System}
-use Rattle.tables.specs.Admissible.{Each}
 
 -- "A point is n residues, v1's first."
 abbrev pub PointOf : ℕ → ℕ → List ℕ → Type 0

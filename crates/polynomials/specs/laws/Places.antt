@@ -7,7 +7,8 @@ use native.Mathlib.Omega.{arith}
 use lib.Dec.{eqb, leb}
 use lib.ListN.{length, getD, set, length-set}
 use Rattle.residues.specs.Residue.{inverse}
-use Rattle.polynomials.specs.Poly.{Exponents, Poly, join, add-multiple, difference, product, monic}
+use Rattle.residues.specs.laws.Each.{each-map}
+use Rattle.polynomials.specs.Poly.{Exponents, Term, Poly, join, add-multiple, difference, product, monic}
 use Rattle.polynomials.specs.Canonical.{All}
 use Rattle.polynomials.specs.Division.{degree, coefficient, without, initial, rest, pure-power, shift, factor, round, remainder}
 use Rattle.polynomials.specs.Packed.{terms}
@@ -16,8 +17,7 @@ use Rattle.polynomials.specs.laws.Degree.{all-add-multiple, all-product}
 
 -- ── all terms of the parts ──
 pub all-map : (P Q : Exponents → Type 0) (f : Poly) → ((e : Exponents) → P e → Q e) → All P f → All Q f
-all-map P Q [] h u = tt
-all-map P Q (t ∷ f) h u = (h (t .exps) (u .0), all-map P Q f h (u .1))
+all-map P Q f h u = each-map (λ (t : Term). P (t .exps)) (λ (t : Term). Q (t .exps)) (λ t. h (t .exps)) f u
 
 pub coefficient-all : (P Q : Exponents → Type 0) (k d : ℕ) (f : Poly) → ((e : Exponents) → P e → Q (set e k 0)) → All P f → All Q (coefficient k d f)
 unfolding coefficient

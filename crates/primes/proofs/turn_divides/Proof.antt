@@ -1,7 +1,7 @@
 -- `primes::turn_divides` meets its contract: the candidate that divides p, or that none of the eight does.
 use native.Mathlib.Nat.{add-zero}
 use borrow.Author.Needs.{needs}
-use Rattle.primes.specs.laws.Wheel.{Each, offsets, turn-divided, turn-passed}
+use Rattle.primes.specs.laws.Wheel.{offsets, turn-divided, turn-passed}
 use Rattle.primes.proofs.turn_divides.Statement.{statement}
 use Rattle.primes.proofs.turn_divides.Tie as tie
 
@@ -75,7 +75,7 @@ returns-8 : tie.Need-returns-8
 returns-8 c = let n = c .before .before .before .before .before .before .before .before .args in turn-divided (n .p) (n .d) _ (c .if8 .taken) (search needs) (search needs)
 
 returns-9 : tie.Need-returns-9
-unfolding Each offsets
+unfolding offsets
 returns-9 c =
     let c7 = c .before in
     let c6 = c7 .before in

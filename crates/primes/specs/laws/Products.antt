@@ -14,7 +14,7 @@ use Rattle.primes.specs.Divisors.{Coprime30, Common}
 use Rattle.primes.specs.Montgomery.{NegatedInverse, Reduced}
 use Rattle.primes.specs.laws.Montgomery.{reduced-divided, divided-reduced}
 use Rattle.primes.specs.laws.Root.{root-below, test-yes}
-use Rattle.primes.specs.laws.Wheel.{Each, remainders, of-remainders, coprime-divisor}
+use Rattle.primes.specs.laws.Wheel.{remainders, of-remainders, coprime-divisor}
 
 -- What a tells of the candidates below d that stand i and j behind the first number of a turn: of these, a divisor of p divides a. A prime p does not.
 pub record Gathered (p i j d a : ℕ) : Type 0 where
@@ -70,7 +70,7 @@ joined-undivided p a b P h k d = prime-product p a b P h k (dvd-mod-iff p (dvd-r
 
 module _ (p d a b c e : ℕ) (A : Gathered p 0 28 d a) (B : Gathered p 6 22 d b) (C : Gathered p 10 18 d c) (E : Gathered p 12 16 d e) where
   all-divided : (f : ℕ) → f < d → Coprime30 f → f ∣ p → f ∣ a * b % p * (c * e % p) % p
-  unfolding Each remainders
+  unfolding remainders
   all-divided f l K k =
       of-remainders (λ s. f % 30 ≡ s → f ∣ a * b % p * (c * e % p) % p) (
         λ z. first (inl (A .divided f l (inl z) k)),

@@ -10,6 +10,7 @@ use native.Mathlib.Decide.{ℕ-discrete, decLt}
 use native.Mathlib.Omega.{arith}
 use lib.Dec.{T, eqb, ltb, eqb→eq, ltb→lt}
 use borrow.Author.Tests.{eq-eqb, ne-eqb}
+use Rattle.residues.specs.Each.{Each}
 use Rattle.residues.specs.Prime.{Prime, is-prime, no-divisor-from}
 use Rattle.residues.specs.laws.Booleans.{and-l, and-r, or-cases, true-of}
 use Rattle.residues.specs.laws.Prime.{is-prime-sound, is-prime-complete}
@@ -58,13 +59,8 @@ member : ℕ → List ℕ → Bool
 member k [] = false
 member k (x ∷ xs) = eqb k x || member k xs
 
--- P holds of each number of the list.
-unfoldable pub Each : (ℕ → Type 0) → List ℕ → Type 0
-Each P [] = Unit
-Each P (x ∷ xs) = P x × Each P xs
-
 at-member : (P : ℕ → Type 0) (xs : List ℕ) → Each P xs → (k : ℕ) → T (member k xs) → P k
-unfolding member Each
+unfolding member
 at-member P [] a k t = absurd t
 at-member P (x ∷ xs) a k t = elim (or-cases (eqb k x) _ t) [ inl u ↦ rw (eqb→eq k x u) (a .0) | inr u ↦ at-member P xs (a .1) k u ]
 

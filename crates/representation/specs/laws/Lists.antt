@@ -8,12 +8,12 @@ use Prim.Native.Nat.{ℕ, zero, suc, _-_}
 use native.Mathlib.Omega.{arith}
 use lib.ListN.{length, getD, take, drop, length-append}
 use lib.Seq.{take-at, drop-at}
+use Rattle.residues.specs.Each.{Each}
+use Rattle.residues.specs.laws.Each.{each-append}
 use Rattle.polynomials.specs.Poly.{Poly, monic}
 use Rattle.polynomials.specs.Packed.{terms}
 use Rattle.stored.specs.Stored.{member}
 use Rattle.rules.specs.Branch as rules
-use Rattle.rules.specs.Writable.{Each}
-use Rattle.rules.specs.laws.Lists.{each-append}
 use Rattle.branches.specs.Words.{is-zero, is-one, unless, put-P, put-Q, put-Q-before, remove}
 use Rattle.representation.specs.Represent.{Sound, All-sound}
 use Rattle.representation.specs.laws.Tests.{is-zero-terms, is-one-terms, member-terms}

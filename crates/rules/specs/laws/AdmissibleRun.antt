@@ -7,6 +7,7 @@ use Prim.Native.Nat.{ℕ, zero, suc, _-_, _≤_}
 use native.Mathlib.Omega.{arith}
 use lib.Dec.{eqb, leb}
 use lib.ListN.{length, getD, set}
+use Rattle.residues.specs.Each.{Each}
 use Rattle.residues.specs.Prime.{Prime}
 use Rattle.residues.specs.Residue.{inverse}
 use Rattle.residues.specs.laws.Residues.{one≤}
@@ -24,7 +25,7 @@ use Rattle.tables.specs.Read.{System, Input}
 use Rattle.rules.specs.Room.{Limits}
 use Rattle.rules.specs.Step.{remainder-by}
 use Rattle.rules.specs.Run.{finished, run-of}
-use Rattle.rules.specs.Writable.{Each, Admissible}
+use Rattle.tables.specs.Admissible.{Admissible}
 use Rattle.rules.specs.laws.Taken.{remainder-by-is}
 use Rattle.rules.specs.laws.Kept.{Closed, Of-system, canonical-closed, listed-keep}
 use Rattle.rules.specs.laws.Rising.{places-closed}

@@ -7,6 +7,8 @@ use Prim.Native.Nat.{ℕ, suc, _-_, _≤_, Fin}
 use native.Mathlib.Omega.{arith}
 use borrow.Author.Tests.{eqb-true, eqb-false, eq-eqb, ne-eqb, not-true}
 use lib.Dec.{eqb}
+use Rattle.residues.specs.Each.{Each}
+use Rattle.residues.specs.laws.Each.{each-map}
 use Rattle.residues.specs.Prime.{Prime}
 use Rattle.residues.specs.Field.{Field, cast}
 use Rattle.residues.specs.laws.Residues.{PrimeField, char-prime}
@@ -16,11 +18,9 @@ use Rattle.polynomials.specs.Value.{value-modulo}
 use Rattle.polynomials.specs.laws.Value.{zero-residue}
 use Rattle.tables.specs.Read.{System, Input}
 use Rattle.tables.specs.Solve.{is-root, all-zero, none-zero, solves, first-solved}
-use Rattle.rules.specs.Writable.{Each}
 use Rattle.rules.specs.Room.{Limits}
 use Rattle.rules.specs.Run.{finished, run-of}
 use Rattle.rules.specs.Solutions.{Some, Zero, NonZero, Solves-system, NonZero-initial, Proper}
-use Rattle.rules.specs.laws.Lists.{each-map}
 use Rattle.rules.specs.laws.Points.{zero-relation}
 use Rattle.rules.specs.laws.Initials.{initials}
 

@@ -12,7 +12,7 @@ use Rattle.polynomials.specs.Canonical.{All}
 use Rattle.polynomials.specs.Packed.{bytes, word, exponents}
 use Rattle.polynomials.specs.laws.Packed.{Small, bytes-word}
 use Rattle.tables.specs.Read.{not-zero, has-above}
-use Rattle.rules.specs.Writable.{Admissible}
+use Rattle.tables.specs.Admissible.{Admissible}
 
 small-take : (n : ℕ) (e : Exponents) → ((k : ℕ) → getD e k 0 ≤ 255) → Small (take n e)
 small-take zero e s = tt

@@ -3,6 +3,8 @@ use mathlib.Core.Path.{_≡_, sym, subst}
 use mathlib.Core.Logic.{inl, inr, Lift}
 use mathlib.Core.List.{List, _∷_}
 use Prim.Native.Nat.{ℕ}
+use Rattle.residues.specs.Each.{Each}
+use Rattle.residues.specs.laws.Each.{each-append}
 use Rattle.residues.specs.Field.{Field, Contains}
 use Rattle.residues.specs.laws.Residues.{one≤}
 use Rattle.polynomials.specs.Canonical.{Canonical}
@@ -11,9 +13,8 @@ use Rattle.tables.specs.Read.{System, Input}
 use Rattle.rules.specs.Branch.{Branch}
 use Rattle.rules.specs.Room.{Limits, State}
 use Rattle.rules.specs.Run.{finished, first-branch, run-of}
-use Rattle.rules.specs.Writable.{Each}
 use Rattle.rules.specs.Solutions.{NonZero, Solves-system, NonZero-initial, Proper}
-use Rattle.rules.specs.laws.Lists.{each-append, each-remove}
+use Rattle.rules.specs.laws.Lists.{each-remove}
 use Rattle.rules.specs.laws.Taken.{after-close, Taken, by-drop, by-list, by-split, by-divide, by-close}
 use Rattle.rules.specs.laws.Runs.{run-of-keeps}
 use Rattle.rules.specs.laws.Kept.{Of-branch, Of-state, pivot-variable, taken-keeps, first-keeps, canonical-by, canonical-closed}

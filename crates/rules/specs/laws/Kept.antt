@@ -3,6 +3,8 @@ use mathlib.Core.Path.{_≡_, _∙_, ap, subst}
 use mathlib.Core.Logic.{inr}
 use mathlib.Core.List.{List, [], _∷_}
 use Prim.Native.Nat.{ℕ, suc, _-_, _≤_}
+use Rattle.residues.specs.Each.{Each}
+use Rattle.residues.specs.laws.Each.{each-append}
 use Rattle.polynomials.specs.Poly.{Poly, monic}
 use Rattle.polynomials.specs.Canonical.{Canonical}
 use Rattle.polynomials.specs.Division.{degree, leader, initial, rest}
@@ -14,8 +16,7 @@ use Rattle.rules.specs.Branch.{Branch, put-P, put-Q, Chosen}
 use Rattle.rules.specs.Room.{Limits, State}
 use Rattle.rules.specs.Step.{remainder-by}
 use Rattle.rules.specs.Run.{finished, first-branch, run-of}
-use Rattle.rules.specs.Writable.{Each}
-use Rattle.rules.specs.laws.Lists.{each-append, each-remove}
+use Rattle.rules.specs.laws.Lists.{each-remove}
 use Rattle.rules.specs.laws.Put.{put-P-keeps, put-Q-keeps, put-all-keeps}
 use Rattle.rules.specs.laws.Taken.{Pivot, Replaced, remainder-by-is, Taken, by-drop, by-list, by-split, by-divide, by-close}
 use Rattle.rules.specs.laws.Runs.{first-state, run-of-keeps}

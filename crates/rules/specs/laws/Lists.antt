@@ -3,18 +3,12 @@ use mathlib.Core.Path.{_≡_, refl, sym, subst}
 use mathlib.Core.Logic.{_≢_, _↔_, _⊎_, inl, inr}
 use mathlib.Core.List.{List, [], _∷_, _++_}
 use Prim.Native.Nat.{ℕ, zero, suc}
+use Rattle.residues.specs.Each.{Each}
 use Rattle.polynomials.specs.Poly.{Poly}
 use Rattle.rules.specs.Branch.{remove}
-use Rattle.rules.specs.Writable.{Each}
 use Rattle.rules.specs.Solutions.{Some}
 
 module _ {ℓ} {A : Type 0} (P : A → Type ℓ) where
-  pub each-append : (xs ys : List A) → Each P (xs ++ ys) ↔ (Each P xs × Each P ys)
-  each-append [] ys = ((λ e. (tt, e)), (λ e. e .1))
-  each-append (a ∷ xs) ys =
-      let ih = each-append xs ys in
-      ((λ e. ((e .0, ih .0 (e .1) .0), ih .0 (e .1) .1)), (λ e. (e .0 .0, ih .1 (e .0 .1, e .1))))
-
   pub some-append : (xs : List A) (a : A) → Some P (xs ++ (a ∷ [])) ↔ (P a ⊎ Some P xs)
   some-append [] a = ((λ s. s), (λ s. s))
   some-append (b ∷ xs) a = (there (some-append xs a .0), back (some-append xs a .1))
@@ -27,14 +21,6 @@ module _ {ℓ} {A : Type 0} (P : A → Type ℓ) where
       back ih (inl h) = inr (ih (inl h))
       back ih (inr (inl h)) = inl h
       back ih (inr (inr s)) = inr (ih (inr s))
-
-pub each-map {ℓ ℓ′} : {A : Type 0} (P : A → Type ℓ) (Q : A → Type ℓ′) → ((a : A) → P a → Q a) → (xs : List A) → Each P xs → Each Q xs
-each-map P Q h [] e = tt
-each-map P Q h (a ∷ xs) e = (h a (e .0), each-map P Q h xs (e .1))
-
-pub each-both {ℓ ℓ′} : {A : Type 0} (P : A → Type ℓ) (Q : A → Type ℓ′) → (xs : List A) → Each P xs → Each Q xs → Each (λ a. P a × Q a) xs
-each-both P Q [] e u = tt
-each-both P Q (a ∷ xs) e u = ((e .0, u .0), each-both P Q xs (e .1) (u .1))
 
 -- f stands at place i of the list.
 abbrev pub At : ℕ → Poly → List Poly → Type 0

@@ -9,11 +9,12 @@ use native.Mathlib.Omega.{arith}
 use borrow.Author.Tests.{eqb-true, eqb-false, eq-eqb, ne-eqb}
 use lib.Dec.{eqb, ltb}
 use lib.ListN.{length}
+use Rattle.residues.specs.Each.{Each}
+use Rattle.residues.specs.laws.Each.{each-map}
 use Rattle.polynomials.specs.Poly.{Poly}
 use Rattle.polynomials.specs.Division.{degree, leader}
 use Rattle.rules.specs.Branch.{highest-leader, led-by, Chosen, better, prefer, pivot, remove, Found, none, found, behind, earliest, other}
-use Rattle.rules.specs.Writable.{Each}
-use Rattle.rules.specs.laws.Lists.{At, each-map, each-remove}
+use Rattle.rules.specs.laws.Lists.{At, each-remove}
 
 -- ── the highest leading variable ──
 pub leaders-at-most : (fs : List Poly) → Each (λ g. leader g ≤ highest-leader fs) fs

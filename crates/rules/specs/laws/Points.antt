@@ -5,6 +5,7 @@ use mathlib.Core.List.{List, [], _∷_, _++_}
 use mathlib.Core.Bool.{_||_}
 use Prim.Native.Nat.{ℕ, suc}
 use lib.Dec.{T}
+use Rattle.residues.specs.Each.{Each}
 use Rattle.residues.specs.Prime.{Prime}
 use Rattle.residues.specs.Field.{CommRing, Field, Contains, pow}
 use Rattle.residues.specs.laws.Booleans.{or-cases}
@@ -22,7 +23,6 @@ use Rattle.rules.specs.Branch.{Branch, put-P, put-Q, member, is-one, som
 use Rattle.rules.specs.Room.{Limits, State}
 use Rattle.rules.specs.Step.{split-open, split-aside, divided, remainder-by}
 use Rattle.rules.specs.Run.{finished, first-branch, run-of}
-use Rattle.rules.specs.Writable.{Each}
 use Rattle.rules.specs.Solutions.{Some, Zero, NonZero, Solves-input, Solves-system, Proper}
 use Rattle.rules.specs.laws.Lists.{At, some-append, each-remove, each-remove-other}
 use Rattle.rules.specs.laws.Put.{each-member, one-is-nonzero, some-one-refutes, some-zero-refutes, put-P-zero, put-Q-nonzero, put-all-P-zero, put-all-Q-nonzero}

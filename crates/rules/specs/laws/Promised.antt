@@ -7,6 +7,7 @@ use Prim.Native.Nat.{ℕ, zero, suc, _*_, _/_, _≤_}
 use native.Mathlib.Omega.{arith}
 use borrow.Author.Tests.{ltb-false}
 use lib.Dec.{ltb}
+use Rattle.residues.specs.Each.{Each}
 use Rattle.tables.specs.Read.{Read, good, Input, System, read-table}
 use Rattle.tables.specs.Read as tables
 use Rattle.tables.specs.Solve.{first-solved}
@@ -17,7 +18,6 @@ use Rattle.tables.specs.laws.Solved.{place-is, none-is}
 use Rattle.rules.specs.Run.{finished, run-of}
 use Rattle.rules.specs.Written.{list-words, list-records}
 use Rattle.rules.specs.Eliminate.{limits-of, Eliminated, listed, turned-back, delivered, eliminated}
-use Rattle.rules.specs.Writable.{Each}
 use Rattle.rules.specs.Solutions.{Some}
 
 -- ── the output ──

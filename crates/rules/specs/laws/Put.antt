@@ -5,6 +5,8 @@ use mathlib.Core.List.{List, [], _∷_}
 use mathlib.Core.Bool.{Bool, true, false, _||_}
 use Prim.Native.Nat.{ℕ}
 use lib.Dec.{T, eqb, eqb→eq}
+use Rattle.residues.specs.Each.{Each}
+use Rattle.residues.specs.laws.Each.{each-append}
 use Rattle.residues.specs.Prime.{Prime}
 use Rattle.residues.specs.Field.{Field, Contains, cast, pow}
 use Rattle.residues.specs.laws.Booleans.{and-l, and-r, or-cases, true-of}
@@ -15,9 +17,7 @@ use Rattle.polynomials.specs.Value.{value, weigh, monomial-value}
 use Rattle.polynomials.specs.laws.Division.{monic-zero}
 use Rattle.polynomials.specs.laws.Equal.{equal-eq}
 use Rattle.rules.specs.Branch.{member, is-zero, all-zeros, is-one, unless-dropped, put-P, put-Q, put-all, some-one, some-zero}
-use Rattle.rules.specs.Writable.{Each}
 use Rattle.rules.specs.Solutions.{Zero, NonZero}
-use Rattle.rules.specs.laws.Lists.{each-append}
 
 module _ {ℓ} (G : Poly → Type ℓ) where
   pub each-member : (f : Poly) (fs : List Poly) → T (member f fs) → Each G fs → G f

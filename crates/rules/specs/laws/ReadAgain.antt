@@ -7,6 +7,7 @@ use native.Mathlib.Omega.{arith}
 use borrow.Author.Tests.{eq-eqb, ne-eqb, le-leb, lt-leb}
 use lib.Dec.{eqb, leb}
 use lib.ListN.{length, take, drop}
+use Rattle.residues.specs.Each.{Each}
 use Rattle.residues.specs.Prime.{is-modulus}
 use Rattle.polynomials.specs.Poly.{Term, Poly}
 use Rattle.polynomials.specs.Canonical.{Under, Canonical, All}
@@ -18,7 +19,8 @@ use Rattle.tables.specs.declared.Reason.{Reason}
 use Rattle.tables.specs.declared.Reason.the-variants.{Shape, Prime, Variables, Coefficient, Exponent, Head, Order, Terms, Broken}
 use Rattle.rules.specs.Room.{polynomials-size, systems-size}
 use Rattle.rules.specs.Written.{index-of, terms-words, heads-words, systems-words, list-words, list-records}
-use Rattle.rules.specs.Writable.{Each, Rising, Admissible, Writable}
+use Rattle.tables.specs.Admissible.{Rising, Admissible}
+use Rattle.rules.specs.Writable.{Writable}
 use Rattle.rules.specs.laws.Stands.{Stands, Holds, stands-whole, first-record, stands-left, stands-right, link-reads}
 use Rattle.rules.specs.laws.Lengths.{length-terms, length-heads, length-systems, length-list, length-size, length-systems-size}
 use Rattle.rules.specs.laws.Held.{Held, held}

@@ -10,6 +10,8 @@ use native.Mathlib.Omega.{arith}
 use lib.Dec.{T, eqb, eqb-refl}
 use lib.ListN.{getD}
 use lib.Seq.{ext-getD}
+use Rattle.residues.specs.Each.{Each}
+use Rattle.residues.specs.laws.Each.{each-append, each-map, each-both}
 use Rattle.residues.specs.Prime.{Prime}
 use Rattle.residues.specs.Residue.{inverse}
 use Rattle.residues.specs.laws.Booleans.{and-T}
@@ -30,9 +32,9 @@ use Rattle.rules.specs.Branch.{Branch, put-P, is-zero, is-one, all-zeros
 use Rattle.rules.specs.Room.{Limits, State}
 use Rattle.rules.specs.Step.{remainder-by}
 use Rattle.rules.specs.Run.{finished, first-branch, run-of}
-use Rattle.rules.specs.Writable.{Each, Rising}
+use Rattle.tables.specs.Admissible.{Rising}
 use Rattle.rules.specs.Solutions.{Proper}
-use Rattle.rules.specs.laws.Lists.{At, each-append, each-map, each-both, each-remove}
+use Rattle.rules.specs.laws.Lists.{At, each-remove}
 use Rattle.rules.specs.laws.Pivot.{leaders-at-most}
 use Rattle.rules.specs.laws.Put.{put-P-keeps, put-all-keeps}
 use Rattle.rules.specs.laws.Taken.{Pivot, remainder-by-is, Taken, by-drop, by-list, by-split, by-divide, by-close}

@@ -6,6 +6,7 @@ use mathlib.Core.Bool.{Bool, true, false, _||_}
 use Prim.Native.Nat.{ℕ, suc, _-_, _+_}
 use native.Mathlib.Omega.{arith}
 use lib.Dec.{T}
+use Rattle.residues.specs.Each.{Each}
 use Rattle.polynomials.specs.Poly.{Poly}
 use Rattle.polynomials.specs.Division.{degree, leader, initial, remainder}
 use Rattle.polynomials.specs.Bounds.{over, Bounded, within, degree-passed, terms-passed}
@@ -16,7 +17,6 @@ use Rattle.rules.specs.Branch.{Branch, put-Q, member, is-one, some-one, 
 use Rattle.rules.specs.Room.{Limits, State, polynomials-size, live}
 use Rattle.rules.specs.Rule.{Rule, drop, split, rule-of, rule-of-P, rule-with, divide-or-close}
 use Rattle.rules.specs.Step.{Stepped, next, stopped, within-room, after-division, remainder-by, split-open, split-aside, divided, closed, with-Q, state, replace, apply, step}
-use Rattle.rules.specs.Writable.{Each}
 use Rattle.rules.specs.laws.Lists.{At}
 use Rattle.rules.specs.laws.Pivot.{pivot-stands, pivot-leads, OtherIs, other-is}
 

@@ -5,19 +5,20 @@ use mathlib.Core.List.{List}
 use Prim.Native.Nat.{ℕ, _/_, _≤_}
 use native.Mathlib.Omega.{arith}
 use lib.Dec.{ltb}
+use Rattle.residues.specs.Each.{Each}
+use Rattle.residues.specs.laws.Each.{each-map}
 use Rattle.polynomials.specs.Poly.{Poly}
 use Rattle.polynomials.specs.Canonical.{Canonical}
 use Rattle.tables.specs.Read.{Read, good, Input, System, Listing, read-table, read-list}
 use Rattle.tables.specs.Read as tables
-use Rattle.tables.specs.Admissible.{AdmissibleInput}
+use Rattle.tables.specs.Admissible.{Admissible, AdmissibleInput}
 use Rattle.tables.specs.laws.Accepted.{accepted-admissible, table-read}
 use Rattle.tables.specs.declared.Reason.the-variants.{Output}
 use Rattle.rules.specs.Run.{Ended, finished, refused, run-of}
 use Rattle.rules.specs.Written.{list-words, list-records}
 use Rattle.rules.specs.Eliminate.{room-of, limits-of, Eliminated, listed, turned-back, delivered, eliminated}
-use Rattle.rules.specs.Writable.{Each, Admissible, Writable}
+use Rattle.rules.specs.Writable.{Writable}
 use Rattle.rules.specs.Solutions.{Proper}
-use Rattle.rules.specs.laws.Lists.{each-map}
 use Rattle.rules.specs.laws.ReadAgain.{read-again}
 use Rattle.rules.specs.laws.Kept.{Of-system}
 use Rattle.rules.specs.laws.Rising as RisingLaws

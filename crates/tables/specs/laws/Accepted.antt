@@ -8,6 +8,7 @@ use borrow.Author.Tests.{eqb-true}
 use lib.Dec.{eqb}
 use lib.ListN.{length, getD, drop}
 use lib.Seq.{getD-drop}
+use Rattle.residues.specs.Each.{Each}
 use Rattle.residues.specs.laws.Prime.{modulus-prime}
 use Rattle.polynomials.specs.Poly.{Exponents, Term, Poly, order}
 use Rattle.polynomials.specs.Canonical.{Under, Canonical, All}
@@ -19,7 +20,7 @@ use Rattle.tables.specs.Words.{word, records}
 use Rattle.tables.specs.Read.{good, Before, first, after, not-zero, has-above, not-below, Input, System, Listing}
 use Rattle.tables.specs.Read.{read-term, read-head, read-heads, read-triangle, read-system, read-systems, read-table, read-list}
 use Rattle.tables.specs.Walk.{Readable}
-use Rattle.tables.specs.Admissible.{Each, Rising, Admissible, AdmissibleNumbers, AdmissibleInput, AdmissibleListing}
+use Rattle.tables.specs.Admissible.{Rising, Admissible, AdmissibleNumbers, AdmissibleInput, AdmissibleListing}
 use Rattle.tables.specs.laws.Chains.{unless-not-good, then-good, header-read, whole-records, term-read}
 use Rattle.tables.specs.laws.Linked.{good-same, linked-each, TermChain, terms-linked, HeadChain, heads-linked, triangle-linked, systems-linked}
 

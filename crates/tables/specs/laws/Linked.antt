@@ -7,12 +7,13 @@ use native.Mathlib.Decide.{ℕ-discrete}
 use native.Mathlib.Omega.{arith}
 use borrow.Author.Tests.{leb-false}
 use lib.Dec.{leb}
+use Rattle.residues.specs.Each.{Each}
 use Rattle.polynomials.specs.Poly.{Poly}
 use Rattle.polynomials.specs.Division.{leader}
 use Rattle.tables.specs.declared.Reason.the-variants.{Head, Broken}
 use Rattle.tables.specs.Words.{word, records}
 use Rattle.tables.specs.Read.{Read, good, Before, first, after, not-zero, System, read-term, read-head, read-heads, read-triangle, read-system, read-systems}
-use Rattle.tables.specs.Admissible.{Each, Rising}
+use Rattle.tables.specs.Admissible.{Rising}
 use Rattle.tables.specs.laws.Chains.{unless-good, then-good, Chain, Enough, whole-chain, opens, closes, terms-chain, heads-chain, read-led, triangle-chain, systems-chain}
 
 pub good-same : {A : Type 0} {a b : A} → good a ≡ good b → a ≡ b

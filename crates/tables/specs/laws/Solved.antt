@@ -8,11 +8,12 @@ use native.Mathlib.Omega.{arith}
 use borrow.Author.Tests.{ltb-true, lt-ltb, eqb-true, eqb-false, eq-eqb, ne-eqb, not-true}
 use lib.Dec.{eqb, ltb}
 use lib.ListN.{length}
+use Rattle.residues.specs.Each.{Each}
+use Rattle.residues.specs.laws.Each.{each-append}
 use Rattle.polynomials.specs.Poly.{Poly}
 use Rattle.polynomials.specs.Value.{value-modulo, Point}
 use Rattle.tables.specs.Read.{good, Input, System, Listing, read-table, read-list}
 use Rattle.tables.specs.Solve.{all-below, is-point, is-root, all-zero, none-zero, solves, first-solved, try-input, try-systems}
-use Rattle.tables.specs.Admissible.{Each}
 use Rattle.tables.specs.Solved.{PointOf, Solves, Solved, First}
 
 -- ── points ──
@@ -109,10 +110,6 @@ module _ (p : ℕ) (x : List ℕ) where
       there e (inl f) = subst (λ q. First p x 1 q ss) e f
       there e (inr n) = absurd (omega (arith, n .0))
 
-  each-there : (P : System → Type 0) (before : List System) (s : System) (behind : List System) → Each P (before ++ (s ∷ behind)) → P s
-  each-there P [] s behind h = h .0
-  each-there P (b ∷ before) s behind h = each-there P before s behind (h .1)
-
   pub none-is : (ss : List System) → first-solved p x 1 ss ≡ 0 ↔ Each (λ s. ¬ Solved p x s) ss
   none-is ss = (λ e. there e (first-or-none 1 ss), λ u. back u (first-or-none 1 ss))
     where
@@ -121,7 +118,7 @@ module _ (p : ℕ) (x : List ℕ) where
       there e (inr n) = n .1
 
       back : Each (λ s. ¬ Solved p x s) ss → First p x 1 (first-solved p x 1 ss) ss ⊎ ((first-solved p x 1 ss ≡ 0) × Each (λ s. ¬ Solved p x s) ss) → first-solved p x 1 ss ≡ 0
-      back u (inl f) = absurd (each-there (λ s. ¬ Solved p x s) (f .before) (f .system) (f .behind) (subst (Each (λ s. ¬ Solved p x s)) (f .parts) u) (f .solved))
+      back u (inl f) = absurd (each-append (λ s. ¬ Solved p x s) (f .before) (f .system ∷ f .behind) .0 (subst (Each (λ s. ¬ Solved p x s)) (f .parts) u) .1 .0 (f .solved))
       back u (inr n) = n .0
 
 -- ── the tests ──

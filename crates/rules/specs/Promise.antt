@@ -122,7 +122,7 @@ module _ (table work output : List ℕ) (limit steps : ℕ) (ss : List System) (
         others = ap (drop (length words)) left ∙ drop-append-seam words (drop (length words) output);
         same-length = ap length left ∙ omega (arith, fits, length-append words (drop (length words) output), length-drop (length words) output);
         read-back = read-back;
-        rising = listed-writable table (length work) limit t steps ss (outcome .accepted) (outcome .ended) .rising;
+        rising = listed-writable table (length work) limit t steps ss (outcome .accepted) (outcome .ended) .admissible .rising;
       }
 
   module _ (x : List ℕ) (h : PointOf (t .modulus) (t .variables) x) where

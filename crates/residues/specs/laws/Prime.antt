@@ -6,9 +6,9 @@ use Prim.Native.Nat.{ℕ, zero, suc, _+_, _-_, _%_, _≤_, _<_}
 use native.Mathlib.Nat.{eq-or-lt-of-le}
 use native.Mathlib.Omega.{arith}
 use lib.Dec.{T, leb, ltb, eqb, eqb→eq, eqb-refl, leb→le, le→leb}
-use borrow.Author.Tests.{ltb-true}
+use borrow.Author.Tests.{ltb-true, lt-ltb}
 use Rattle.residues.specs.Prime.{Prime, no-divisor-from, is-prime, is-modulus}
-use Rattle.residues.specs.laws.Booleans.{and-T, and-l, and-r}
+use Rattle.residues.specs.laws.Booleans.{and-T, and-l, and-r, true-of}
 
 no-divisor-sound : (k d p : ℕ) → T (no-divisor-from k d p) → (e : ℕ) → d ≤ e → e < d + k → p % e ≢ 0
 unfolding no-divisor-from
@@ -47,3 +47,7 @@ unfolding is-modulus
 modulus-prime p h =
     let k = and-eq-true-iff (ltb p 2147483648) (is-prime p) .0 h in
     (is-prime-sound p (subst T (sym (k .1)) tt), ltb-true p 2147483648 (k .0))
+
+pub prime-modulus : (p : ℕ) → Prime p → p < 2147483648 → is-modulus p ≡ true
+unfolding is-modulus
+prime-modulus p P h = and-eq-true-iff (ltb p 2147483648) (is-prime p) .1 (lt-ltb p 2147483648 h, sym (true-of (is-prime p) (is-prime-complete p P)))

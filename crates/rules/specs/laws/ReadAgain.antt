@@ -9,6 +9,7 @@ use lib.Dec.{eqb, leb}
 use lib.ListN.{length, take, drop}
 use Rattle.residues.specs.Each.{Each}
 use Rattle.residues.specs.Prime.{is-modulus}
+use Rattle.residues.specs.laws.Prime.{prime-modulus}
 use Rattle.polynomials.specs.Poly.{Term, Poly}
 use Rattle.polynomials.specs.Canonical.{Under, Canonical, All}
 use Rattle.polynomials.specs.Division.{leader}
@@ -19,7 +20,7 @@ use Rattle.tables.specs.declared.Reason.{Reason}
 use Rattle.tables.specs.declared.Reason.the-variants.{Shape, Prime, Variables, Coefficient, Exponent, Head, Order, Terms, Broken}
 use Rattle.rules.specs.Room.{polynomials-size, systems-size}
 use Rattle.rules.specs.Written.{index-of, terms-words, heads-words, systems-words, list-words, list-records}
-use Rattle.tables.specs.Admissible.{Rising, Admissible}
+use Rattle.tables.specs.Admissible.{Rising, Admissible, AdmissibleListing}
 use Rattle.rules.specs.Writable.{Writable}
 use Rattle.rules.specs.laws.Stands.{Stands, Holds, stands-whole, first-record, stands-left, stands-right, link-reads}
 use Rattle.rules.specs.laws.Lengths.{length-terms, length-heads, length-systems, length-list, length-size, length-systems-size}
@@ -175,6 +176,9 @@ module _ (w : List ℕ) (p n : ℕ) where
 
 -- ── the list ──
 module _ (l : Listing) (h : Writable l) where
+  a : AdmissibleListing l
+  a = h .admissible
+
   whole : is-whole (list-words l) ≡ true
   unfolding is-whole list-records
   whole =
@@ -186,13 +190,14 @@ module _ (l : Listing) (h : Writable l) where
   read-systems-list =
       read-systems-again (list-words l) (l .modulus) (l .variables) (l .systems) (records (list-words l)) 0 1
       (omega (arith, length-systems 1 (l .systems), length-systems-size (l .systems)))
-      (h .triangular) (h .companion) (h .rising) (omega arith) (first-record (list-words l) 0 _ _ _ _ _ (stands-whole (list-words l)) .behind)
+      (a .triangular) (a .companion) (a .rising) (omega arith) (first-record (list-words l) 0 _ _ _ _ _ (stands-whole (list-words l)) .behind)
 
   pub read-again : read-list (list-words l) ≡ good l
   unfolding read-list read-header list-words
   read-again =
       passes-not (is-whole (list-words l)) Shape 0 _ whole
-      ∙ passes-not (is-modulus (l .modulus)) Prime 0 _ (h .prime)
-      ∙ passes-not (leb 1 (l .variables) && leb (l .variables) 8) Variables 0 _ (ap₂ _&&_ (le-leb 1 (l .variables) (h .some-variable)) (le-leb (l .variables) 8 (h .eight-variables)))
+      ∙ passes-not (is-modulus (l .modulus)) Prime 0 _ (prime-modulus (l .modulus) (a .numbers .prime) (a .numbers .below))
+      ∙ passes-not (leb 1 (l .variables) && leb (l .variables) 8) Variables 0 _
+      (ap₂ _&&_ (le-leb 1 (l .variables) (a .numbers .some-variable)) (le-leb (l .variables) 8 (a .numbers .eight-variables)))
       ∙ ap (λ r. then r (λ ss. unless (not (eqb (length ss) (length (l .systems)))) Broken 0 (good (record { modulus = l .modulus; variables = l .variables; systems = ss })))) read-systems-list
       ∙ passes-not (eqb (length (l .systems)) (length (l .systems))) Broken 0 _ (eq-eqb (length (l .systems)) (length (l .systems)) refl)

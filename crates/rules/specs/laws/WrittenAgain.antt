@@ -5,14 +5,15 @@ use mathlib.Core.List.{List}
 use Prim.Native.Nat.{ℕ, _/_, _≤_}
 use native.Mathlib.Omega.{arith}
 use lib.Dec.{ltb}
+use lib.ListN.{length}
 use Rattle.residues.specs.Each.{Each}
 use Rattle.residues.specs.laws.Each.{each-map}
 use Rattle.polynomials.specs.Poly.{Poly}
-use Rattle.polynomials.specs.Canonical.{Canonical}
+use Rattle.polynomials.specs.Canonical.{Canonical, All}
 use Rattle.tables.specs.Read.{Read, good, Input, System, Listing, read-table, read-list}
 use Rattle.tables.specs.Read as tables
 use Rattle.tables.specs.Admissible.{Admissible, AdmissibleInput}
-use Rattle.tables.specs.laws.Accepted.{accepted-admissible, table-read}
+use Rattle.tables.specs.laws.Accepted.{accepted-admissible}
 use Rattle.tables.specs.declared.Reason.the-variants.{Output}
 use Rattle.rules.specs.Run.{Ended, finished, refused, run-of}
 use Rattle.rules.specs.Written.{list-words, list-records}
@@ -80,13 +81,13 @@ pub listed-writable : (w : List ℕ) (work limit : ℕ) (t : Input) (n : ℕ) (s
 unfolding limits-of
 listed-writable w work limit t n ss r e =
     record {
-      prime = rw (table-read w t r .modulus) (table-read w t r .readable .prime);
-      some-variable = a .numbers .some-variable;
-      eight-variables = a .numbers .eight-variables;
+      admissible = record {
+        numbers = a .numbers;
+        triangular = each-map (Of-system G) (λ s. Each G (s .T)) (λ s h. h .0) ss all;
+        companion = each-map (Of-system G) (λ s. Each G (s .U)) (λ s h. h .1) ss all;
+        rising = RisingLaws.rising (limits-of work) t (accepted-proper w t r) (places (t .P) (a .zeros)) (places (t .Q) (a .nonzeros)) limit n ss e;
+      };
       few-records = few-records work limit t n ss e;
-      triangular = each-map (Of-system G) (λ s. Each G (s .T)) (λ s h. h .0) ss all;
-      companion = each-map (Of-system G) (λ s. Each G (s .U)) (λ s h. h .1) ss all;
-      rising = RisingLaws.rising (limits-of work) t (accepted-proper w t r) (each-map G _ (λ f h. h .places) (t .P) (a .zeros)) (each-map G _ (λ f h. h .places) (t .Q) (a .nonzeros)) limit n ss e;
     }
   where
     G : Poly → Type 0
@@ -94,6 +95,9 @@ listed-writable w work limit t n ss r e =
 
     a : AdmissibleInput t
     a = accepted-admissible w t r
+
+    places : (fs : List Poly) → Each G fs → Each (All (λ e. length e ≡ 8)) fs
+    places = each-map G _ (λ f h. h .places)
 
     all : Each (Of-system G) ss
     all = admissible-run (limits-of work) limit t refl (a .numbers .prime) (a .numbers .some-variable) (a .zeros) (a .nonzeros) n ss e

@@ -24,6 +24,10 @@ pub record Bounds : Type 0 where
 abbrev pub standard : Bounds
 standard = record { of-degree = at-most 255; of-terms = at-most 256 }
 
+-- Both absent.
+abbrev pub no-bounds : Bounds
+no-bounds = record { of-degree = unbounded; of-terms = unbounded }
+
 -- The polynomial that was formed, or which bound it passes.
 pub data Bounded : Type 0 where
   within : Poly → Bounded

@@ -18,6 +18,7 @@ use Rattle.polynomials.specs.Bounds.{
   over,
   Bounds,
   standard,
+  no-bounds,
   Bounded,
   within,
   degree-passed,
@@ -144,9 +145,6 @@ pub round-few : (p k d : ℕ) (G R h : Poly) → bounded-round standard p k d G 
 round-few p k d G R h e = over-at-most 256 (length h) (round-formed standard p k d G R h e .few)
 
 -- ── without bounds all is formed ──
-abbrev pub no-bounds : Bounds
-no-bounds = record { of-degree = unbounded; of-terms = unbounded }
-
 none-over : (e : Exponents) → some-over unbounded e ≡ false
 unfolding some-over over
 none-over [] = refl

@@ -1,11 +1,10 @@
 -- What every step keeps holds at the end of a run; a run takes no more steps than its limit.
-use mathlib.Core.Path.{_≡_, refl, sym, subst}
+use mathlib.Core.Path.{_≡_, refl, subst}
 use mathlib.Core.List.{List, [], _∷_}
 use Prim.Native.Nat.{ℕ, zero, suc, _+_, _≤_}
 use native.Mathlib.Omega.{arith}
 use Rattle.tables.specs.Read.{System, Input}
 use Rattle.tables.specs.declared.Reason.{Reason}
-use Rattle.tables.specs.declared.Reason.the-variants.{Steps}
 use Rattle.rules.specs.Branch.{Branch}
 use Rattle.rules.specs.Room.{Limits, State}
 use Rattle.rules.specs.Step.{Stepped, next, stopped, step}
@@ -16,38 +15,30 @@ use Rattle.rules.specs.laws.Taken.{Taken, step-taken, within-room-next}
 module _ {ℓ} (l : Limits) (p : ℕ) (Inv : State → Type ℓ)
     (keeps : (b : Branch) (waiting : List Branch) (listed : List System) (s : State) → step l p b waiting listed ≡ next s →
     Inv (record { branches = b ∷ waiting; systems = listed }) → Inv s) where
-  at-end : (s : State) (n m : ℕ) (ss : List System) → [] ≡ s .branches → finished n (s .systems) ≡ finished m ss → Inv s → Inv (record { branches = []; systems = ss })
-  at-end s n m ss q e h = subst Inv same h
-    where
-      systems-same : s .systems ≡ ss
-      systems-same = cc
-
-      same : s ≡ record { branches = []; systems = ss }
-      same = λ i. record { branches = sym q i; systems = systems-same i }
+  at-end : (us ss : List System) → us ≡ ss → Inv (record { branches = []; systems = us }) → Inv (record { branches = []; systems = ss })
+  at-end us ss q h = subst (λ (us : List System). Inv (record { branches = []; systems = us })) q h
 
   pub run-keeps : (left n : ℕ) (s : State) (m : ℕ) (ss : List System) → run l p left n s ≡ finished m ss → Inv s → Inv (record { branches = []; systems = ss })
   unfolding run
-  run-keeps zero n s m ss e h = go (s .branches) refl e
+  run-keeps zero n s m ss e h = go (s .branches) (s .systems) e h
     where
-      go : (bs : List Branch) → bs ≡ s .branches → (elim bs as (λ bs. Ended) [ [] ↦ finished n (s .systems) | b ∷ bs ↦ refused n Steps ]) ≡ finished m ss →
-          Inv (record { branches = []; systems = ss })
-      go [] q e = at-end s n m ss q e h
-      go (b ∷ bs) q e = let z : _≡_ {A = ℕ} 0 1 = cc in absurd (omega arith)
-  run-keeps (suc left) n s m ss e h = go (run-keeps left (suc n)) (s .branches) refl e
+      go : (bs : List Branch) (us : List System) → run l p zero n (record { branches = bs; systems = us }) ≡ finished m ss →
+          Inv (record { branches = bs; systems = us }) → Inv (record { branches = []; systems = ss })
+      go [] us e h = at-end us ss (cc) h
+      go (b ∷ bs) us e h = let z : _≡_ {A = ℕ} 0 1 = cc in absurd (omega arith)
+  run-keeps (suc left) n s m ss e h = go (λ s. run-keeps left (suc n) s m ss) (s .branches) (s .systems) e h
     where
-      onward : ((s : State) (m : ℕ) (ss : List System) → run l p left (suc n) s ≡ finished m ss → Inv s → Inv (record { branches = []; systems = ss })) →
-          (b : Branch) (bs : List Branch) → (b ∷ bs) ≡ s .branches → (x : Stepped) → step l p b bs (s .systems) ≡ x →
-          after-step (run l p left (suc n)) n x ≡ finished m ss → Inv (record { branches = []; systems = ss })
-      onward ih b bs q (next s′) f e =
-          ih s′ m ss e (keeps b bs (s .systems) s′ f (subst Inv (λ i. record { branches = sym q i; systems = s .systems }) h))
-      onward ih b bs q (stopped why) f e = let z : _≡_ {A = ℕ} 0 1 = cc in absurd (omega arith)
+      onward : ((s : State) → run l p left (suc n) s ≡ finished m ss → Inv s → Inv (record { branches = []; systems = ss })) →
+          (b : Branch) (bs : List Branch) (us : List System) (x : Stepped) → step l p b bs us ≡ x →
+          after-step (run l p left (suc n)) n x ≡ finished m ss → Inv (record { branches = b ∷ bs; systems = us }) → Inv (record { branches = []; systems = ss })
+      onward ih b bs us (next s) f e h = ih s e (keeps b bs us s f h)
+      onward ih b bs us (stopped why) f e h = let z : _≡_ {A = ℕ} 0 1 = cc in absurd (omega arith)
 
-      go : ((s : State) (m : ℕ) (ss : List System) → run l p left (suc n) s ≡ finished m ss → Inv s → Inv (record { branches = []; systems = ss })) →
-          (bs : List Branch) → bs ≡ s .branches →
-          (elim bs as (λ bs. Ended) [ [] ↦ finished n (s .systems) | b ∷ bs ↦ after-step (run l p left (suc n)) n (step l p b bs (s .systems)) ]) ≡ finished m ss →
-          Inv (record { branches = []; systems = ss })
-      go ih [] q e = at-end s n m ss q e h
-      go ih (b ∷ bs) q e = onward ih b bs q (step l p b bs (s .systems)) refl e
+      go : ((s : State) → run l p left (suc n) s ≡ finished m ss → Inv s → Inv (record { branches = []; systems = ss })) →
+          (bs : List Branch) (us : List System) → run l p (suc left) n (record { branches = bs; systems = us }) ≡ finished m ss →
+          Inv (record { branches = bs; systems = us }) → Inv (record { branches = []; systems = ss })
+      go ih [] us e h = at-end us ss (cc) h
+      go ih (b ∷ bs) us e h = onward ih b bs us (step l p b bs us) refl e h
 
 -- The state that a run starts from.
 abbrev pub first-state : Input → State
@@ -83,21 +74,21 @@ steps-of (refused n why) = n
 
 run-steps : (l : Limits) (p left n : ℕ) (s : State) → steps-of (run l p left n s) ≤ n + left
 unfolding run
-run-steps l p zero n s = go (s .branches)
+run-steps l p zero n s = go (s .branches) (s .systems)
   where
-    go : (bs : List Branch) → steps-of (elim bs as (λ bs. Ended) [ [] ↦ finished n (s .systems) | b ∷ bs ↦ refused n Steps ]) ≤ n + 0
-    go [] = omega arith
-    go (b ∷ bs) = omega arith
-run-steps l p (suc left) n s = go (run-steps l p left (suc n)) (s .branches)
+    go : (bs : List Branch) (us : List System) → steps-of (run l p zero n (record { branches = bs; systems = us })) ≤ n + 0
+    go [] us = omega arith
+    go (b ∷ bs) us = omega arith
+run-steps l p (suc left) n s = go (run-steps l p left (suc n)) (s .branches) (s .systems)
   where
     onward : ((s : State) → steps-of (run l p left (suc n) s) ≤ suc n + left) → (x : Stepped) → steps-of (after-step (run l p left (suc n)) n x) ≤ n + suc left
     onward ih (next s) = omega (arith, ih s)
     onward ih (stopped why) = omega arith
 
-    go : ((s : State) → steps-of (run l p left (suc n) s) ≤ suc n + left) → (bs : List Branch) →
-        steps-of (elim bs as (λ bs. Ended) [ [] ↦ finished n (s .systems) | b ∷ bs ↦ after-step (run l p left (suc n)) n (step l p b bs (s .systems)) ]) ≤ n + suc left
-    go ih [] = omega arith
-    go ih (b ∷ bs) = onward ih (step l p b bs (s .systems))
+    go : ((s : State) → steps-of (run l p left (suc n) s) ≤ suc n + left) → (bs : List Branch) (us : List System) →
+        steps-of (run l p (suc left) n (record { branches = bs; systems = us })) ≤ n + suc left
+    go ih [] us = omega arith
+    go ih (b ∷ bs) us = onward ih (step l p b bs us)
 
 run-of-steps : (l : Limits) (limit : ℕ) (t : Input) → steps-of (run-of l limit t) ≤ limit
 unfolding run-of

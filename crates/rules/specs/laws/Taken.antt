@@ -36,6 +36,11 @@ Settled k f b = T (is-one (initial k (f .poly)) || member (initial k (f .poly)) 
 abbrev pub after-close : Chosen → List Poly → Branch → Branch
 after-close f Q b = record { P = remove (f .place) (b .P); Q = Q; T = f .poly ∷ b .T }
 
+-- What a test of the room lets through.
+pub room-next : (c : Bool) (x : Stepped) (s : State) → (elim c as (λ c. Stepped) [ true ↦ stopped Room | false ↦ x ]) ≡ next s → x ≡ next s
+room-next true x s e = let z : _≡_ {A = ℕ} 0 1 = cc in absurd (omega arith)
+room-next false x s e = e
+
 module _ (l : Limits) (p : ℕ) where
   -- Out of the list gs and the new Q so far, the whole new Q: remainders by f are put.
   abbrev pub Replaced : ℕ → Poly → List Poly → List Poly → List Poly → Type 0
@@ -61,11 +66,7 @@ module _ (l : Limits) (p : ℕ) where
 
   pub within-room-next : (s s′ : State) → within-room l s ≡ next s′ → s ≡ s′
   unfolding within-room
-  within-room-next s s′ e = go (over (l .of-room) (live s)) e
-    where
-      go : (c : Bool) → (elim c as (λ c. Stepped) [ true ↦ stopped Room | false ↦ next s ]) ≡ next s′ → s ≡ s′
-      go true e = cc
-      go false e = cc
+  within-room-next s s′ e = let q : next s ≡ next s′ = room-next (over (l .of-room) (live s)) (next s) s′ e in cc
 
   pub after-division-next : (x : Bounded) (k : Poly → Stepped) (s : State) → after-division x k ≡ next s → (r : Poly) × (x ≡ within r) × (k r ≡ next s)
   after-division-next (within r) k s e = (r, refl, e)
@@ -79,16 +80,8 @@ module _ (l : Limits) (p : ℕ) where
     replace-next k f [] b s e = (b .Q, refl, cc)
     replace-next k f (g ∷ gs) b s e =
         let d = after-division-next (remainder-by l p k f g) _ s e in
-        go (d .0) (d .1) (replace-next k f gs (with-Q l p (d .0) b) s)
-        (over (l .of-room) (polynomials-size gs + live (state l p waiting listed (with-Q l p (d .0) b)))) (d .2)
-      where
-        go : (r : Poly) → remainder-by l p k f g ≡ within r →
-            (replace l p waiting listed k f gs (with-Q l p r b) ≡ next s →
-            (Q : List Poly) × Replaced k f gs (put-Q p r (b .Q)) Q × (record { branches = record { P = b .P; Q = Q; T = b .T } ∷ waiting; systems = listed } ≡ s)) →
-            (c : Bool) → (elim c as (λ c. Stepped) [ true ↦ stopped Room | false ↦ replace l p waiting listed k f gs (with-Q l p r b) ]) ≡ next s →
-            (Q : List Poly) × Replaced k f (g ∷ gs) (b .Q) Q × (record { branches = record { P = b .P; Q = Q; T = b .T } ∷ waiting; systems = listed } ≡ s)
-        go r q ih true e = let z : _≡_ {A = ℕ} 0 1 = cc in absurd (omega arith)
-        go r q ih false e = let u = ih e in (u .0, (r, q, u .1), u .2)
+        let u = replace-next k f gs (with-Q l p (d .0) b) s (room-next (over (l .of-room) (polynomials-size gs + live (state l p waiting listed (with-Q l p (d .0) b)))) _ s (d .2)) in
+        (u .0, (d .0, d .1, u .1), u .2)
 
     module _ (b : Branch) (s : State) where
       close-taken : (k : ℕ) (f : Chosen) → Pivot k f b → Settled k f b → Each (λ g. leader g ≢ suc k) (remove (f .place) (b .P)) →

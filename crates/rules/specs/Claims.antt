@@ -15,7 +15,7 @@ use Rattle.tables.specs.Read.{good, System, Input, read-table, read-list}
 use Rattle.tables.specs.Solve.{solves, first-solved}
 use Rattle.tables.specs.Admissible.{Rising, Admissible, AdmissibleInput}
 use Rattle.tables.specs.declared.Reason.{Reason}
-use Rattle.rules.specs.Room.{Limits}
+use Rattle.rules.specs.Room.{Limits, unlimited}
 use Rattle.rules.specs.Run.{finished, refused, run-of}
 use Rattle.rules.specs.Eliminate.{limits-of, listed, eliminated}
 use Rattle.rules.specs.Jobs
@@ -27,6 +27,7 @@ use Rattle.rules.specs.laws.Runs
 use Rattle.rules.specs.laws.Answers
 use Rattle.rules.specs.laws.AdmissibleRun
 use Rattle.rules.specs.laws.WrittenAgain
+use Rattle.rules.specs.laws.Unlimited
 
 -- A run that finished, from an input with a prime modulus and canonical polynomials.
 module _ (l : Limits) (limit : ℕ) (t : Input) (proper : Proper t) (n : ℕ) (ss : List System) (ended : run-of l limit t ≡ finished n ss) where
@@ -67,6 +68,23 @@ pub written-again : (w : List ℕ) (work output limit n : ℕ) (ss : List System
     (t : Input) × (read-table w ≡ good t) × (run-of (limits-of work) limit t ≡ finished n ss)
     × (read-list words ≡ good (record { modulus = t .modulus; variables = t .variables; systems = ss }))
 written-again w work output limit n ss words e = WrittenAgain.written-again w work output limit n ss words e
+
+-- A run that finished is the run without limits, given as many steps.
+pub finished-unlimited : (l : Limits) (limit : ℕ) (t : Input) (n : ℕ) (ss : List System) → run-of l limit t ≡ finished n ss →
+    (m : ℕ) → n ≤ m → run-of unlimited m t ≡ finished n ss
+finished-unlimited l limit t n ss e m h = Unlimited.finished-unlimited l limit t n ss e m h
+
+-- So whatever its limits, a run of this input that finishes lists the same systems in the same order after the same steps.
+pub finished-alike : (l l′ : Limits) (limit limit′ : ℕ) (t : Input) (n n′ : ℕ) (ss ss′ : List System) →
+    run-of l limit t ≡ finished n ss → run-of l′ limit′ t ≡ finished n′ ss′ → (n ≡ n′) × (ss ≡ ss′)
+finished-alike l l′ limit limit′ t n n′ ss ss′ e e′ = Unlimited.finished-alike l l′ limit limit′ t n n′ ss ss′ e e′
+
+-- "Lists from several .. machines are compared place by place": calls with the same table that are accepted count the same steps and write the
+-- same words, whatever the limit and however long the work area and the output.
+pub accepted-alike : (w : List ℕ) (work work′ output output′ limit limit′ n n′ : ℕ) (ss ss′ : List System) (words words′ : List ℕ) →
+    eliminated w work output limit ≡ listed n ss words → eliminated w work′ output′ limit′ ≡ listed n′ ss′ words′ → (n ≡ n′) × (ss ≡ ss′) × (words ≡ words′)
+accepted-alike w work work′ output output′ limit limit′ n n′ ss ss′ words words′ e e′ =
+    Unlimited.accepted-alike w work work′ output output′ limit limit′ n n′ ss ss′ words words′ e e′
 
 -- The starred jobs of document 01.
 pub starred-jobs : Each Jobs.Holds Jobs.jobs

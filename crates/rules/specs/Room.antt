@@ -3,7 +3,7 @@ use mathlib.Core.List.{List, [], _∷_}
 use Prim.Native.Nat.{ℕ, _+_}
 use lib.ListN.{length}
 use Rattle.polynomials.specs.Poly.{Poly}
-use Rattle.polynomials.specs.Bounds.{Bound, Bounds}
+use Rattle.polynomials.specs.Bounds.{Bound, unbounded, Bounds, no-bounds}
 use Rattle.tables.specs.Read.{System}
 use Rattle.rules.specs.Branch.{Branch}
 
@@ -11,6 +11,10 @@ use Rattle.rules.specs.Branch.{Branch}
 pub record Limits : Type 0 where
   pub bounds : Bounds
   pub of-room : Bound
+
+-- All absent.
+abbrev pub unlimited : Limits
+unlimited = record { bounds = no-bounds; of-room = unbounded }
 
 -- The open branch first, then those that wait, the last one set aside first; the systems listed so far.
 pub record State : Type 0 where

@@ -15,5 +15,6 @@ pub mod Answers
 pub mod AdmissibleRun
 pub mod WithinRoom
 pub mod WrittenAgain
+pub mod Unlimited
 pub mod Least
 pub mod Promised

@@ -28,7 +28,7 @@ use Rattle.rules.specs.laws.WithinRoom.{listed-within}
 
 -- ── what was listed ──
 -- The list that is written of an input's systems.
-abbrev listing : Input → List System → Listing
+abbrev pub listing : Input → List System → Listing
 listing t ss = record { modulus = t .modulus; variables = t .variables; systems = ss }
 
 -- The table was read, the run finished, and the words are the list's.

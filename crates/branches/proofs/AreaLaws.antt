@@ -167,6 +167,7 @@ module _ {v S : List Rec} {ctl own : Rec} {fs : List (List ℕ)} {free fin : Lis
 abbrev pub all : Stored → List (List ℕ)
 all b = b .P ++ (b .Q ++ b .T)
 
+-- Where the open branch starts: behind the others. Where it ends a further one would start.
 abbrev pub at-of : List Stored → ℕ
 at-of bs = 1 + length (stack bs .0)
 
@@ -200,6 +201,18 @@ module _ {v : List Rec} {most : ℕ} {b : Stored} {bs ss : List Stored} (H : Hel
 
   pub room-is : end-of b bs + length (H .free) + length (systems-records ss) ≡ most
   room-is = omega (arith, H .fits, end-is b bs)
+
+  -- They are records of the list.
+  pub most-inside : most ≤ length v
+  most-inside =
+      omega (
+        arith,
+        H .fits,
+        ap length (H .is),
+        length-append (stack (b ∷ bs) .0) (H .free ++ (systems-records ss ++ H .beyond)),
+        length-append (H .free) (systems-records ss ++ H .beyond),
+        length-append (systems-records ss) (H .beyond),
+      )
 
   pub storable-open : All-storable (b .P) × All-storable (b .Q) × All-storable (b .T)
   storable-open = (H .storable .0 .0, H .storable .0 .1, H .storable .0 .2)

@@ -123,6 +123,9 @@ module _ {v : List Rec} {most : ℕ} {b : Stored} {bs ss : List Stored} (H : Hel
     pub end-le-top : end ≤ top
     end-le-top = omega (arith, free-is top e)
 
+    pub bounds-inside : (at < end) × (end ≤ top) × (top ≤ most)
+    bounds-inside = (omega (arith, start-is, ends), end-le-top, omega (arith, free-is top e, ends, room-is H))
+
     pub fits-free : {n : ℕ} → n ≤ top - end → n ≤ length (H .free)
     fits-free h = omega (arith, free-is top e)
 

@@ -1,4 +1,4 @@
--- The words of the control record and of the open branch's own record, and what is held once the branch is dropped or listed.
+-- What is held once the open branch is dropped or listed, and at the beginning of a run.
 use mathlib.Core.Path.{_≡_, sym, ap, _∙_}
 use mathlib.Core.Bool.{true, false, not}
 use mathlib.Core.List.{List, [], _∷_, _++_, append-assoc}
@@ -7,26 +7,12 @@ use native.Mathlib.Omega.{arith}
 use borrow.Author.Tests.{ne-eqb}
 use lib.Dec.{eqb}
 use lib.ListN.{length, take, drop, getD, set, length-append, take-append-drop}
-use lib.Seq.{getD-at, set-at, take-at, drop-at, take-append-le, take-append-add, length-take-le}
+use lib.Seq.{set-at, take-at, drop-at, take-append-le, take-append-add, length-take-le}
 use Rattle.records.specs.Records.{Rec, mk, nul, moved}
 use Rattle.stored.specs.Stored.{polys-records}
 use Rattle.branches.specs.Area.{Stored, Held, stack, branch-records, systems-records, with-open, empty}
-
--- Where the open branch starts and ends, and its own record.
-abbrev pub start : List Stored → ℕ
-start bs = 1 + length (stack bs .0)
-
-abbrev pub finish : Stored → List Stored → ℕ
-finish b bs = 1 + length (stack (b ∷ bs) .0)
-
-abbrev pub own : Stored → List Stored → Rec
-own b bs = mk (length (b .P)) (length (b .Q)) (length (b .T)) (stack bs .1)
-
--- The words of the control record that say where the open branch starts and ends, and where the systems start.
-pub record Bounds (v : List Rec) (at end top : ℕ) : Type 0 where
-  pub at-word : at ≡ getD v 0 nul .w0
-  pub end-word : end ≡ getD v 0 nul .w1
-  pub top-word : top ≡ getD v 0 nul .w2
+use Rattle.branches.proofs.AreaLaws.{at-of, own-of, end-of, end-is}
+use Rattle.branches.proofs.OpenLaws.{Read, start-is, ends, free-is, bounds-inside}
 
 -- A system takes a record or more.
 pub length-le-systems-records : (ss : List Stored) → length ss ≤ length (systems-records ss)
@@ -44,54 +30,35 @@ module _ {v : List Rec} {most : ℕ} {b : Stored} {bs ss : List Stored} (H : Hel
   behind = systems-records ss ++ H .beyond
 
   abbrev ctl : Rec
-  ctl = mk (start bs) (finish b bs) (finish b bs + length (H .free)) (length ss)
-
-  pub control : getD v 0 nul ≡ mk (start bs) (finish b bs) (finish b bs + length (H .free)) (length ss)
-  control = ap (λ (u : List Rec). getD u 0 nul) (H .is)
+  ctl = mk (at-of bs) (at-of (b ∷ bs)) (at-of (b ∷ bs) + length (H .free)) (length ss)
 
   in-parts : v ≡ (ctl ∷ stack bs .0) ++ (branch-records (stack bs .1) b ++ (H .free ++ behind))
   unfolding behind
   in-parts = H .is ∙ simp append-assoc
 
-  pub own-record : (at : ℕ) → at ≡ start bs → getD v at nul ≡ own b bs
-  own-record at h =
-      ap (λ (u : List Rec). getD u at nul) in-parts
-      ∙ getD-at (ctl ∷ stack bs .0) (own b bs)
-      ((polys-records (b .P) ++ (polys-records (b .Q) ++ polys-records (b .T))) ++ (H .free ++ behind)) nul at (omega arith)
+  length-open : end-of b bs ≡ at-of bs + length (branch-records (stack bs .1) b)
+  length-open = omega (arith, end-is b bs, length-append (stack bs .0) (branch-records (stack bs .1) b))
 
-  pub length-open : finish b bs ≡ start bs + length (branch-records (stack bs .1) b)
-  length-open = omega (arith, length-append (stack bs .0) (branch-records (stack bs .1) b))
+  pub few-systems : length ss < 65536
+  few-systems = omega (arith, length-le-systems-records ss, H .fits, H .few)
 
-  length-behind : length (H .free ++ behind) ≡ length (H .free) + (length (systems-records ss) + length (H .beyond))
-  unfolding behind
-  length-behind = omega (arith, length-append (H .free) behind, length-append (systems-records ss) (H .beyond))
-
-  -- The branch has a record, and the branches, the free records and the systems lie in the list.
-  pub within : (start bs < finish b bs) × (finish b bs + length (H .free) + length (systems-records ss) ≤ length v) × (length ss < 65536)
-  unfolding behind
-  within = (
-    omega (arith, length-open),
-    omega (arith, ap length (H .is), length-append (stack (b ∷ bs) .0) (H .free ++ behind), length-behind),
-    omega (arith, length-le-systems-records ss, H .fits, H .few),
-  )
-
-  pub dropped : (v' : List Rec) (x y z k : ℕ) → x ≡ stack bs .1 → y ≡ start bs → z ≡ finish b bs + length (H .free) → k ≡ length ss
+  pub dropped : (v' : List Rec) (x y z k : ℕ) → x ≡ stack bs .1 → y ≡ at-of bs → z ≡ end-of b bs + length (H .free) → k ≡ length ss
       → v' ≡ set v 0 (mk x y z k) → Held v' most (record { branches = bs; systems = ss })
   unfolding behind
   dropped v' x y z k ex ey ez ek e =
       let B : List Rec = branch-records (stack bs .1) b in
       let len : length (B ++ H .free) ≡ length B + length (H .free) = length-append B (H .free) in
-      let top : z ≡ start bs + length (B ++ H .free) = omega (arith, length-open) in
+      let top : z ≡ at-of bs + length (B ++ H .free) = omega (arith, length-open) in
       record {
         free = B ++ H .free;
         beyond = H .beyond;
         is = e ∙ (λ t. set (in-parts t) 0 (mk (ex t) (ey t) (top t) (ek t))) ∙ simp append-assoc;
-        fits = omega (arith, H .fits, length-open);
+        fits = omega (arith, H .fits, length-open, end-is b bs);
         few = H .few;
         storable = (H .storable .0 .3, H .storable .1);
       }
 
-  moved-up : (v₁ v₂ v₃ : List Rec) (at n to p q t x k : ℕ) → at ≡ start bs → at + n ≡ finish b bs → to + n ≡ finish b bs + length (H .free)
+  moved-up : (v₁ v₂ v₃ : List Rec) (at n to p q t x k : ℕ) → at ≡ at-of bs → at + n ≡ end-of b bs → to + n ≡ end-of b bs + length (H .free)
       → p ≡ length (b .P) → q ≡ length (b .Q) → t ≡ length (b .T) → x ≡ stack bs .1 → k ≡ length ss + 1
       → v₁ ≡ moved v at n to → v₂ ≡ set v₁ to (mk p q t 0) → v₃ ≡ set v₂ 0 (mk x at to k)
       → Held v₃ most (record { branches = bs; systems = b ∷ ss })
@@ -114,46 +81,32 @@ module _ {v : List Rec} {most : ℕ} {b : Stored} {bs ss : List Stored} (H : Hel
       let back : drop (to + n) v ≡ behind =
       ap (drop (to + n)) (e' ∙ sym (append-assoc pre big behind)) ∙ drop-at (pre ++ big) behind (to + n) (omega (arith, length-append pre big)) in
       let lf : length free' ≡ to - at = length-take-le (to - at) big (omega arith) in
-      let i₁ : v₁ ≡ pre ++ free' ++ (own b bs ∷ (rest ++ behind)) =
-      e₁ ∙ (λ i. cut i ++ mid i ++ back i) ∙ append-assoc (pre ++ free') (own b bs ∷ rest) behind in
+      let i₁ : v₁ ≡ pre ++ free' ++ (own-of b bs ∷ (rest ++ behind)) =
+      e₁ ∙ (λ i. cut i ++ mid i ++ back i) ∙ append-assoc (pre ++ free') (own-of b bs ∷ rest) behind in
       let i₂ : v₂ ≡ pre ++ free' ++ (mk p q t 0 ∷ (rest ++ behind)) =
       e₂ ∙ ap (λ (u : List Rec). set u to (mk p q t 0)) i₁
-      ∙ set-at (pre ++ free') (own b bs) (rest ++ behind) (mk p q t 0) to (omega (arith, length-append pre free')) in
-      let top : to ≡ start bs + length free' = omega arith in
+      ∙ set-at (pre ++ free') (own-of b bs) (rest ++ behind) (mk p q t 0) to (omega (arith, length-append pre free')) in
+      let top : to ≡ at-of bs + length free' = omega arith in
       let more : k ≡ length (b ∷ ss) = omega arith in
-      let ctl' : Rec = mk (stack bs .1) (start bs) (start bs + length free') (length (b ∷ ss)) in
+      let ctl' : Rec = mk (stack bs .1) (at-of bs) (at-of bs + length free') (length (b ∷ ss)) in
       record {
         free = free';
         beyond = H .beyond;
         is = e₃ ∙ (λ i. set (i₂ i) 0 (mk (ex i) (eat i) (top i) (more i)))
             ∙ (λ i. ctl' ∷ (stack bs .0 ++ free' ++ (mk (ep i) (eq i) (et i) 0 ∷ (rest ++ behind)))) ∙ simp append-assoc;
-        fits = omega (arith, H .fits, length-append (branch-records 0 b) (systems-records ss));
+        fits = omega (arith, H .fits, end-is b bs, length-append (branch-records 0 b) (systems-records ss));
         few = H .few;
         storable = (H .storable .0 .3, (H .storable .0 .0, H .storable .0 .1, H .storable .0 .2, H .storable .1));
       }
 
-  -- What the control record says, where it was read.
-  module _ {at end top : ℕ} (B : Bounds v at end top) where
-    pub at-is : at ≡ start bs
-    at-is = B .at-word ∙ ap (λ (r : Rec). r .w0) control
-
-    pub end-is : end ≡ finish b bs
-    end-is = B .end-word ∙ ap (λ (r : Rec). r .w1) control
-
-    pub top-is : top ≡ finish b bs + length (H .free)
-    top-is = B .top-word ∙ ap (λ (r : Rec). r .w2) control
-
-    pub bounds-inside : (at < end) × (end ≤ top) × (top ≤ most)
-    bounds-inside = (omega (arith, at-is, end-is, within), omega (arith, end-is, top-is), omega (arith, top-is, H .fits))
-
-    -- The branch's records moved up to the end of the free ones, and its own record made a system's.
-    pub listed : {v₁ v₂ v₃ : List Rec} {p q t x k : ℕ} → mk p q t x ≡ own b bs → k ≡ length ss
-        → v₁ ≡ moved v at (end - at) (top - (end - at)) → v₂ ≡ set v₁ (top - (end - at)) (mk p q t 0)
-        → v₃ ≡ set v₂ 0 (mk x at (top - (end - at)) (k + 1)) → Held v₃ most (record { branches = bs; systems = b ∷ ss })
-    listed {p = p} {q = q} {t = t} {x = x} {k = k} o e e₁ e₂ e₃ =
-        let h = bounds-inside in
-        moved-up _ _ _ at (end - at) (top - (end - at)) p q t x (k + 1) at-is (omega (arith, end-is)) (omega (arith, top-is)) (ap (λ (r : Rec). r .w0) o)
-        (ap (λ (r : Rec). r .w1) o) (ap (λ (r : Rec). r .w2) o) (ap (λ (r : Rec). r .w3) o) (ap (λ (n : ℕ). n + 1) e) e₁ e₂ e₃
+  -- The branch's records moved up to the end of the free ones, and its own record made a system's.
+  pub listed : {at end top : ℕ} → Read v at end → top ≡ getD v 0 nul .w2 → {v₁ v₂ v₃ : List Rec} {p q t x k : ℕ} → mk p q t x ≡ own-of b bs → k ≡ length ss
+      → v₁ ≡ moved v at (end - at) (top - (end - at)) → v₂ ≡ set v₁ (top - (end - at)) (mk p q t 0)
+      → v₃ ≡ set v₂ 0 (mk x at (top - (end - at)) (k + 1)) → Held v₃ most (record { branches = bs; systems = b ∷ ss })
+  listed {at} {end} {top} R tw {p = p} {q = q} {t = t} {x = x} {k = k} o e e₁ e₂ e₃ =
+      let h = bounds-inside H R tw in
+      moved-up _ _ _ at (end - at) (top - (end - at)) p q t x (k + 1) (start-is H R) (omega (arith, ends H R)) (omega (arith, ends H R, free-is H R top tw))
+      (ap (λ (r : Rec). r .w0) o) (ap (λ (r : Rec). r .w1) o) (ap (λ (r : Rec). r .w2) o) (ap (λ (r : Rec). r .w3) o) (ap (λ (n : ℕ). n + 1) e) e₁ e₂ e₃
 
 -- An empty first branch.
 pub begun : (v v₁ v₂ : List Rec) (most : ℕ) → 2 ≤ most → most ≤ length v → most ≤ 65536 → v₁ ≡ set v 0 (mk 1 2 most 0) → v₂ ≡ set v₁ 1 (mk 0 0 0 0)

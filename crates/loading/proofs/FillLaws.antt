@@ -19,8 +19,9 @@ use Rattle.rules.specs.Branch.{Branch, unless-dropped, put-all}
 use Rattle.rules.specs.Room.{polynomials-size, branch-size, branches-size, systems-size, live}
 use Rattle.records.specs.Records.{Rec}
 use Rattle.branches.specs.Area.{Stored, Held, Leaves, size, with-open}
+use Rattle.branches.specs.laws.Words.{put-Q-before-none}
 use Rattle.representation.specs.Represent.{Sound, Branch-sound, branch-of, Monic, All-monic}
-use Rattle.representation.specs.laws.Lists.{map-put-P, map-put-Q, put-Q-before-none}
+use Rattle.representation.specs.laws.Lists.{map-put-P, map-put-Q}
 use Rattle.representation.specs.laws.Sounds.{put-into-P-sound, put-into-Q-sound}
 use Rattle.representation.specs.laws.Sizes.{length-stack, size-live}
 use Rattle.representation.specs.laws.Replaced.{polynomials-size-append}

@@ -6,15 +6,17 @@ use Prim.Native.Nat.{ℕ, suc, _+_, _-_, _≤_, _<_}
 use native.Mathlib.Omega.{arith}
 use borrow.Author.Tests.{leb-false, lt-leb}
 use lib.ListN.{length, take, drop, getD, length-append, length-drop}
-use lib.Seq.{take-all, drop-length, take-at, drop-at, length-take-le, split-at}
+use lib.Seq.{take-at, drop-at, length-take-le, split-at}
 use Rattle.records.specs.Records.{Rec}
 use Rattle.stored.specs.Stored.{polys-records, member}
 use Rattle.stored.specs.laws.Stored.{polys-records-append}
-use Rattle.branches.specs.Words.{put-P, put-Q, put-Q-before, remove, unless, is-zero, is-one}
+use Rattle.branches.specs.Words.{put-P, remove, unless, is-zero, is-one}
+use Rattle.branches.specs.laws.Words.{put-Q-before-none}
 use Rattle.branches.specs.Area.{Stored, Area, Held, Leaves, stack, branch-records, with-open, size}
 use Rattle.branches.specs.Area.{kept-open, aside, put-into-P, put-into-Q, without-P, split-area}
+use Rattle.branches.proofs.AreaLaws.{p-is}
 use Rattle.branches.proofs.OpenLaws.{remove-in-parts, length-remove}
-use Rattle.branches.proofs.TurnLaws.{start, control, own-record}
+use Rattle.branches.proofs.PutLaws.{put-Q-new}
 
 -- ── lists of polynomials ──
 -- A put only adds behind.
@@ -41,16 +43,6 @@ restored fs more i n f h l g =
     ∙ take-at (drop (suc i) fs) more (n - i) (omega (arith, length-drop (suc i) fs)) in
     (λ t. front t ++ (sym g t ∷ back t)) ∙ sym (split-at fs i [] h)
 
-put-Q-adds : (f : List ℕ) (fs : List (List ℕ)) → is-one f ≡ false → member f fs ≡ false → fs ++ (f ∷ []) ≡ put-Q-before 0 f fs
-unfolding put-Q put-Q-before
-put-Q-adds f fs one there =
-    let all : length fs - 0 ≡ length fs = omega arith in
-    let front : take (length fs - 0) fs ≡ fs = take-all (length fs - 0) fs (omega arith) in
-    let back : drop (length fs - 0) fs ≡ [] = ap (λ (k : ℕ). drop k fs) all ∙ drop-length fs in
-    sym
-    ((λ t. unless (is-one f || member f (front t)) f (front t) ++ back t) ∙ append-nil (unless (is-one f || member f fs) f fs)
-    ∙ (λ t. unless (one t || there t) f fs))
-
 -- P of the branch set aside begins with P without the pivot.
 aside-P : (i : ℕ) (initial rest : List ℕ) (b : Stored) → List (List ℕ)
 aside-P i initial rest b = added-P initial (remove i (b .P)) ++ added-P rest (put-P initial (remove i (b .P)))
@@ -72,7 +64,7 @@ kept-aside i n f initial rest b h l g one there =
     let inP : take i (aside i initial rest b .P) ++ (f ∷ take (n - i) (drop i (aside i initial rest b .P))) ≡ b .P =
     ap (λ (x : List (List ℕ)). take i x ++ (f ∷ take (n - i) (drop i x))) (aside-P-is i initial rest b)
     ∙ restored (b .P) (aside-P i initial rest b) i n f h l g in
-    λ t. record { P = inP t; Q = put-Q-adds initial (b .Q) one there t; T = b .T }
+    λ t. record { P = inP t; Q = sym (put-Q-before-none initial (b .Q) ∙ put-Q-new initial (b .Q) one there) t; T = b .T }
 
 -- ── sizes ──
 length-put : (f : List ℕ) (b : Stored) (under : ℕ) → length (branch-records under b) ≤ length (branch-records under (put-into-P f b))
@@ -111,9 +103,7 @@ failed {a} {a'} {most} {most'} e m L h =
 pub same-members : {v : List Rec} {most most' : ℕ} {b b' : Stored} {bs bs' ss ss' : List Stored}
     → Held v most (with-open b bs ss) → Held v most' (with-open b' bs' ss')
     → length (b .P) ≡ length (b' .P)
-same-members {v} {most} {most'} {b} {b'} {bs} {bs'} H H' =
-    let at : start bs ≡ start bs' = sym (ap (λ (r : Rec). r .w0) (control H)) ∙ ap (λ (r : Rec). r .w0) (control H') in
-    sym (ap (λ (r : Rec). r .w0) (own-record H (start bs) refl)) ∙ ap (λ (r : Rec). r .w0) (own-record H' (start bs) at)
+same-members H H' = sym (p-is H _ refl _ refl) ∙ p-is H' _ refl _ refl
 
 pub size-initial : (i : ℕ) (initial rest : List ℕ) (b : Stored) (bs ss : List Stored)
     → size (with-open (put-into-P initial (without-P i b)) bs ss) ≤ size (split-area i initial rest b bs ss)

@@ -26,9 +26,6 @@ copied X m after A b Z u u' from to k n e l split la lb e' =
     ap (drop from) (e ∙ ap (λ (x : List Rec). x ++ rest) split ∙ simp append-assoc) ∙ drop-at A (b ++ (Z ++ rest)) from la in
     appended X m after b (drop from u) u u' to k n e l (ap (take n) there ∙ take-at b (Z ++ rest) n lb) e'
 
-all-of : (l : List Rec) (x : ℕ) → length l ≡ x → take x l ≡ l
-all-of l x e = take-all x l (omega arith)
-
 -- The free records that are left once the first k of them are used.
 pub top-left : (k end end' top : ℕ) (l : List Rec) → end + k ≡ end' → k ≤ length l → top ≡ end + length l → top ≡ end' + length (drop k l)
 top-left k end end' top l e h t = omega (arith, length-drop k l)
@@ -58,7 +55,7 @@ module _ {X after m : List Rec} {k : ℕ} {v : List Rec} {a : ℕ} (G : Grown X 
   pub grow-stored : (b : List Rec) {x a₁ : ℕ} {v₁ : List Rec} → length b ≡ x → (a₁ ≡ a + x) × (v₁ ≡ paste v a b x)
       → Grown X after (m ++ b) (k + x) v₁ a₁
   grow-stored b {x} {a₁} {v₁} s e = record {
-    is = appended X m after b b v v₁ a k x (G .is) here (all-of b x s) (e .1);
+    is = appended X m after b b v v₁ a k x (G .is) here (take-all x b (omega (arith, s))) (e .1);
     over = omega (arith, G .over, s, length-append m b);
     up-to = omega (arith, G .up-to, e .0);
   }

@@ -12,9 +12,8 @@ use Rattle.stored.specs.Stored.{poly-records, polys-records, skip-to, Storable}
 use Rattle.stored.specs.laws.Stored.{skip-to-polys-records, polys-records-append, polys-records-snoc, length-poly-records, length-le-polys-records}
 use Rattle.branches.specs.Area.{Stored, Held, Leaves, stack, branch-records, systems-records, with-open, size, kept-open, Branches-storable}
 use Rattle.splits.proofs.PieceLaws.{Grown, grow-copied, grow-stored, top-left, last-part}
-use Rattle.branches.proofs.AreaLaws.{storable-take}
+use Rattle.branches.proofs.AreaLaws.{storable-take, at-of, own-of, most-inside}
 use Rattle.branches.proofs.PutLaws.{storable-append, storable-drop}
-use Rattle.branches.proofs.TurnLaws.{start, finish, own, within}
 
 -- ── the parts of P ──
 abbrev pub front-P : ℕ → Stored → List Rec
@@ -62,7 +61,7 @@ length-kept i n under f initial c =
 -- ── where the parts lie ──
 -- Where the first i members of P end, then those up to the n-th, then all of P, then Q.
 abbrev pub end-front : ℕ → Stored → List Stored → ℕ
-end-front i c bs = start bs + 1 + length (front-P i c)
+end-front i c bs = at-of bs + 1 + length (front-P i c)
 
 abbrev pub end-back : ℕ → ℕ → Stored → List Stored → ℕ
 end-back i n c bs = end-front i c bs + length (back-P i n c)
@@ -75,9 +74,9 @@ end-Q i n c bs = end-P i n c bs + length (polys-records (c .Q))
 
 -- The numbers that the code reads, with so many free records.
 pub record Placed (c : Stored) (bs : List Stored) (i n free at end top q t front back in-q in-t : ℕ) : Type 0 where
-  pub at-is : at ≡ start bs
-  pub end-is : end ≡ finish c bs
-  pub top-is : top ≡ finish c bs + free
+  pub at-is : at ≡ at-of bs
+  pub end-is : end ≡ at-of (c ∷ bs)
+  pub top-is : top ≡ at-of (c ∷ bs) + free
   pub q-is : q ≡ length (c .Q)
   pub t-is : t ≡ length (c .T)
   pub front-is : front ≡ end-front i c bs
@@ -128,14 +127,14 @@ pub record Ordered (n at end top q front back in-q in-t room : ℕ) : Type 0 whe
 module _ {v : List Rec} {most : ℕ} {c : Stored} {bs ss : List Stored} (H : Held v most (with-open c bs ss)) (i n : ℕ) (h : (i ≤ n) × (n ≤ length (c .P))) where
   -- The control record, and all records in use.
   abbrev ctl : Rec
-  ctl = mk (start bs) (finish c bs) (finish c bs + length (H .free)) (length ss)
+  ctl = mk (at-of bs) (at-of (c ∷ bs)) (at-of (c ∷ bs) + length (H .free)) (length ss)
 
   abbrev used : List Rec
   used = ctl ∷ stack (c ∷ bs) .0
 
   -- Those before P; those behind its front, and behind its back.
   abbrev to-P : List Rec
-  to-P = (ctl ∷ stack bs .0) ++ (own c bs ∷ [])
+  to-P = (ctl ∷ stack bs .0) ++ (own-of c bs ∷ [])
 
   abbrev Q-T : List Rec
   Q-T = polys-records (c .Q) ++ polys-records (c .T)
@@ -147,10 +146,10 @@ module _ {v : List Rec} {most : ℕ} {c : Stored} {bs ss : List Stored} (H : Hel
   behind-front = back-P i n c ++ behind-back
 
   in-order : used ≡ to-P ++ (front-P i c ++ behind-front)
-  in-order = ap (λ (l : List Rec). ctl ∷ (stack bs .0 ++ (own c bs ∷ (l ++ Q-T)))) (P-in-parts i n c) ∙ simp append-assoc
+  in-order = ap (λ (l : List Rec). ctl ∷ (stack bs .0 ++ (own-of c bs ∷ (l ++ Q-T)))) (P-in-parts i n c) ∙ simp append-assoc
 
-  length-to-P : length to-P ≡ start bs + 1
-  length-to-P = omega (arith, length-append (ctl ∷ stack bs .0) (own c bs ∷ []))
+  length-to-P : length to-P ≡ at-of bs + 1
+  length-to-P = omega (arith, length-append (ctl ∷ stack bs .0) (own-of c bs ∷ []))
 
   whole : v ≡ used ++ (H .free ++ (systems-records ss ++ H .beyond))
   whole = H .is
@@ -167,12 +166,6 @@ module _ {v : List Rec} {most : ℕ} {c : Stored} {bs ss : List Stored} (H : Hel
       let rest : List Rec = H .free ++ (systems-records ss ++ H .beyond) in
       ap (skip-to v x) (sym lk)
       ∙ skip-to-polys-records v A x fs (post ++ rest) l (whole ∙ ap (λ (u : List Rec). u ++ rest) e ∙ simp append-assoc)
-
-  pub to-front : {x : ℕ} → x ≡ start bs → skip-to v (x + 1) i ≡ end-front i c bs
-  to-front {x} e =
-      skipped to-P behind-front (take i (c .P)) (x + 1) i in-order
-      (omega (arith, length-to-P)) length-front
-      ∙ ap (λ (y : ℕ). y + 1 + length (front-P i c)) e
 
   pub to-back : {x : ℕ} → x ≡ end-front i c bs → skip-to v x (n - i) ≡ end-back i n c bs
   to-back {x} e =
@@ -192,7 +185,7 @@ module _ {v : List Rec} {most : ℕ} {c : Stored} {bs ss : List Stored} (H : Hel
   abbrev to-new : List Rec
   to-new = to-P ++ front-P i c ++ back-P i n c ++ new-P i n c
 
-  length-to-new : length to-new ≡ start bs + 1 + length (front-P i c) + length (back-P i n c) + length (new-P i n c)
+  length-to-new : length to-new ≡ at-of bs + 1 + length (front-P i c) + length (back-P i n c) + length (new-P i n c)
   length-to-new =
       let up-to-back : List Rec = to-P ++ front-P i c ++ back-P i n c in
       omega (arith, length-to-P, length-append to-P (front-P i c), length-append (to-P ++ front-P i c) (back-P i n c), length-append up-to-back (new-P i n c))
@@ -208,7 +201,7 @@ module _ {v : List Rec} {most : ℕ} {c : Stored} {bs ss : List Stored} (H : Hel
       skipped to-new (polys-records (c .T)) (c .Q) x q Q-in-order (omega (arith, length-to-new)) (sym eq)
       ∙ ap (λ (y : ℕ). y + length (polys-records (c .Q))) e
 
-  length-parts : finish c bs ≡ end-Q i n c bs + length (polys-records (c .T))
+  length-parts : at-of (c ∷ bs) ≡ end-Q i n c bs + length (polys-records (c .T))
   length-parts =
       omega (arith, ap length Q-in-order, length-to-new, length-append to-new Q-T, length-append (polys-records (c .Q)) (polys-records (c .T)))
 
@@ -237,7 +230,7 @@ module _ {v : List Rec} {most : ℕ} {c : Stored} {bs ss : List Stored} (H : Hel
           T-of = omega (arith, G .in-q-is, G .in-t-is);
           end-of = omega (arith, G .end-is, G .in-t-is, length-parts);
           top-of = omega (arith, G .end-is, G .top-is);
-          room-of = omega (arith, within H, G .top-is);
+          room-of = omega (arith, most-inside H, H .fits, G .top-is);
           most-of = omega (arith, H .fits, H .few, G .top-is);
           few-P = omega (arith, few-members, G .at-is, G .back-is);
           few-Q = omega (arith, few-members, G .q-is, G .in-q-is, G .in-t-is);
@@ -246,12 +239,12 @@ module _ {v : List Rec} {most : ℕ} {c : Stored} {bs ss : List Stored} (H : Hel
     abbrev needed : ℕ
     needed = 1 + (back - (at + 1)) + (length f / 2 + 1) + (in-t - in-q) + (length initial / 2 + 1) + (end - in-t)
 
-    length-needed : length (branch-records (start bs) (kept-open i n f initial c)) ≡ needed
-    length-needed = omega (arith, length-kept i n (start bs) f initial c, G, length-parts)
+    length-needed : length (branch-records (at-of bs) (kept-open i n f initial c)) ≡ needed
+    length-needed = omega (arith, length-kept i n (at-of bs) f initial c, G, length-parts)
 
-    size-kept : size (with-open (kept-open i n f initial c) (c ∷ bs) ss) ≡ finish c bs + needed + length (systems-records ss)
+    size-kept : size (with-open (kept-open i n f initial c) (c ∷ bs) ss) ≡ at-of (c ∷ bs) + needed + length (systems-records ss)
     unfolding size
-    size-kept = omega (arith, length-needed, length-append (stack (c ∷ bs) .0) (branch-records (start bs) (kept-open i n f initial c)))
+    size-kept = omega (arith, length-needed, length-append (stack (c ∷ bs) .0) (branch-records (at-of bs) (kept-open i n f initial c)))
 
     members-Q : q + 1 ≡ length (c .Q ++ (initial ∷ []))
     members-Q = omega (arith, length-append (c .Q) (initial ∷ []), G .q-is)
@@ -305,17 +298,17 @@ module _ {v : List Rec} {most : ℕ} {c : Stored} {bs ss : List Stored} (H : Hel
     fits-in : needed ≤ top - end → pieces ≤ length (H .free)
     fits-in room = let a : top - end ≡ length (H .free) = omega (arith, G .end-is, G .top-is) in omega (arith, pieces-needed)
 
-    finish-kept : end + pieces ≡ finish (kept-open i n f initial c) (c ∷ bs)
-    finish-kept =
-        omega (arith, pieces-needed, length-needed, length-append (stack (c ∷ bs) .0) (branch-records (start bs) (kept-open i n f initial c)), G .end-is)
+    end-kept : end + pieces ≡ at-of (kept-open i n f initial c ∷ (c ∷ bs))
+    end-kept =
+        omega (arith, pieces-needed, length-needed, length-append (stack (c ∷ bs) .0) (branch-records (at-of bs) (kept-open i n f initial c)), G .end-is)
 
-    top-kept : needed ≤ top - end → top ≡ finish (kept-open i n f initial c) (c ∷ bs) + length (drop pieces (H .free))
+    top-kept : needed ≤ top - end → top ≡ at-of (kept-open i n f initial c ∷ (c ∷ bs)) + length (drop pieces (H .free))
     top-kept room =
-        top-left pieces end (finish (kept-open i n f initial c) (c ∷ bs)) top (H .free) finish-kept (fits-in room)
+        top-left pieces end (at-of (kept-open i n f initial c ∷ (c ∷ bs))) top (H .free) end-kept (fits-in room)
         (G .top-is ∙ ap (λ (x : ℕ). x + length (H .free)) (sym (G .end-is)))
 
     end-inside : needed ≤ top - end → end < length v
-    end-inside room = let fits = fits-in room in omega (arith, within H, G .end-is)
+    end-inside room = let fits = fits-in room in omega (arith, most-inside H, H .fits, G .end-is)
 
     storable-kept : Storable f → Storable initial → Branches-storable (kept-open i n f initial c ∷ (c ∷ bs))
     storable-kept sf si =
@@ -346,14 +339,14 @@ module _ {v : List Rec} {most : ℕ} {c : Stored} {bs ss : List Stored} (H : Hel
         let g₄ = grow-copied g₃ to-new RQ RT Q-block (K .Q-copied) in
         let g₅ = grow-stored g₄ (poly-records initial) (length-poly-records initial) (K .initial-put) in
         let g₆ = grow-copied g₅ (to-new ++ RQ) RT [] T-block (K .T-copied) in
-        let built : (r ∷ []) ++ R1 ++ poly-records f ++ R2 ++ RQ ++ poly-records initial ++ RT ≡ branch-records (start bs) new =
-        kept-records i n (start bs) f initial c r (λ j. mk (members-P f j) (members-Q j) (G .t-is j) (G .at-is j)) in
+        let built : (r ∷ []) ++ R1 ++ poly-records f ++ R2 ++ RQ ++ poly-records initial ++ RT ≡ branch-records (at-of bs) new =
+        kept-records i n (at-of bs) f initial c r (λ j. mk (members-P f j) (members-Q j) (G .t-is j) (G .at-is j)) in
         let free' : List Rec = drop pieces (H .free) in
         let shrunk : drop pieces after ≡ free' ++ behind = drop-append-le pieces (H .free) behind (fits-in room) in
         let systems : K .systems ≡ length ss = K .systems-word ∙ ap (λ (u : List Rec). getD u 0 nul .w3) (g₆ .is) in
-        let new-end : K .a₆ ≡ finish new (c ∷ bs) = g₆ .up-to ∙ ap (λ (x : ℕ). x + pieces) length-used ∙ finish-kept in
-        let new-top : top ≡ finish new (c ∷ bs) + length free' = top-kept room in
-        let new-ctl : Rec = mk (finish c bs) (finish new (c ∷ bs)) (finish new (c ∷ bs) + length free') (length ss) in
+        let new-end : K .a₆ ≡ at-of (new ∷ (c ∷ bs)) = g₆ .up-to ∙ ap (λ (x : ℕ). x + pieces) length-used ∙ end-kept in
+        let new-top : top ≡ at-of (new ∷ (c ∷ bs)) + length free' = top-kept room in
+        let new-ctl : Rec = mk (at-of (c ∷ bs)) (at-of (new ∷ (c ∷ bs))) (at-of (new ∷ (c ∷ bs)) + length free') (length ss) in
         record {
           answer = sym (le-leb (size (with-open new (c ∷ bs) ss)) most (omega (arith, size-kept, H .fits, G .end-is, G .top-is)));
           held = λ e.
@@ -363,7 +356,7 @@ module _ {v : List Rec} {most : ℕ} {c : Stored} {bs ss : List Stored} (H : Hel
                 is =
                     K .control-put ∙ (λ j. set (g₆ .is j) 0 (mk (G .end-is j) (new-end j) (new-top j) (systems j)))
                     ∙ (λ j. new-ctl ∷ (stack (c ∷ bs) .0 ++ (built j ++ shrunk j)))
-                    ∙ ap (λ (u : List Rec). new-ctl ∷ u) (sym (append-assoc (stack (c ∷ bs) .0) (branch-records (start bs) new) (free' ++ behind)));
+                    ∙ ap (λ (u : List Rec). new-ctl ∷ u) (sym (append-assoc (stack (c ∷ bs) .0) (branch-records (at-of bs) new) (free' ++ behind)));
                 fits = ap (λ (x : ℕ). x + length (systems-records ss)) (sym new-top ∙ G .top-is) ∙ H .fits;
                 few = H .few;
                 storable = (storable-kept sf si, H .storable .1);

@@ -1,13 +1,13 @@
 -- What the rules 3 to 5 make of the pivot, as the code finds it.
-use mathlib.Core.Path.{_≡_, sym, subst}
+use mathlib.Core.Path.{_≡_, subst}
 use mathlib.Core.Bool.{true, false}
 use mathlib.Core.List.{List, [], _∷_}
-use Prim.Native.Nat.{ℕ, _/_, min}
+use Prim.Native.Nat.{ℕ}
 use native.Mathlib.Omega.{arith}
 use lib.ListN.{length}
 use Rattle.rules.specs.Branch.{Found, none, found}
 use Rattle.records.specs.Records.{Rec}
-use Rattle.branches.specs.Area.{Stored, Area, Held, with-open, closed, capacity}
+use Rattle.branches.specs.Area.{Stored, Held, with-open, closed}
 use Rattle.representation.specs.Represent.{All-sound}
 use Rattle.survey.specs.Survey.{All-hold, other-place}
 use Rattle.survey.specs.declared.Other.the-variants.{None, At}
@@ -15,10 +15,6 @@ use Rattle.steps.specs.declared.Division.{Division}
 use Rattle.steps.specs.declared.Prepared.{Prepared}
 use Rattle.steps.specs.declared.Prepared.the-variants.{Done, Members, Stop, Crowded}
 use Rattle.steps.specs.Pending.{division-of, aimed}
-
--- A work area of the same length has the same capacity.
-pub same-capacity : {v : List Rec} {a : Area} (w u : List ℕ) → length u ≡ length w → Held v (capacity w) a → Held v (capacity u) a
-same-capacity {v} {a} w u e h = subst (λ (n : ℕ). Held v (min (n / 4) 65536) a) (sym e) h
 
 module _ (k d n m i : ℕ) (b : Stored) (bs ss : List Stored) (v : List Rec) (most : ℕ) where
   abbrev Aims : Division → Found → Type 0

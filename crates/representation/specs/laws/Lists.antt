@@ -1,19 +1,19 @@
 -- Putting into the lists of a stored branch and taking out of them is what the rules do to the lists of polynomials; and what holds of each
 -- stored polynomial still does.
-use mathlib.Core.Path.{_≡_, refl, sym, _∙_, ap, ap₂}
+use mathlib.Core.Path.{_≡_, refl, _∙_, ap, ap₂}
 use mathlib.Core.Logic.{_↔_}
-use mathlib.Core.List.{List, [], _∷_, _++_, map, map-append, append-nil}
+use mathlib.Core.List.{List, [], _∷_, _++_, map, map-append}
 use mathlib.Core.Bool.{Bool, true, false, _||_}
 use Prim.Native.Nat.{ℕ, zero, suc, _-_}
 use native.Mathlib.Omega.{arith}
-use lib.ListN.{length, getD, take, drop, length-append}
-use lib.Seq.{take-at, drop-at}
+use lib.ListN.{length, getD, take, drop}
 use Rattle.residues.specs.Each.{Each}
 use Rattle.residues.specs.laws.Each.{each-append}
 use Rattle.polynomials.specs.Poly.{Poly, monic}
 use Rattle.polynomials.specs.Packed.{terms}
 use Rattle.stored.specs.Stored.{member}
 use Rattle.rules.specs.Branch as rules
+use Rattle.branches.specs.laws.Words.{put-Q-before-in-parts}
 use Rattle.branches.specs.Words.{is-zero, is-one, unless, put-P, put-Q, put-Q-before, remove}
 use Rattle.representation.specs.Represent.{Sound, All-sound}
 use Rattle.representation.specs.laws.Tests.{is-zero-terms, is-one-terms, member-terms}
@@ -44,22 +44,10 @@ module _ (p : ℕ) (f : List ℕ) (g : Poly) (h : Sound p f) (e : terms f ≡ mo
       ∙ ap (λ b. rules.unless-dropped b (terms f) (map terms fs)) (ap₂ _||_ (is-one-terms p f h) (member-terms p f fs h hs))
       ∙ ap (λ (q : Poly). rules.unless-dropped (rules.is-one q || rules.member q (map terms fs)) q (map terms fs)) e
 
--- The members before the last `left` are put to, the others stay.
-pub put-Q-before-in-parts : (left : ℕ) (f : List ℕ) (new old : List (List ℕ)) → length old ≡ left → put-Q-before left f (new ++ old) ≡ put-Q f new ++ old
-unfolding put-Q-before
-put-Q-before-in-parts left f new old q =
-    let to : length new ≡ length (new ++ old) - left = omega (arith, length-append new old) in
-    ap₂ (λ (a b : List (List ℕ)). put-Q f a ++ b) (take-at new old (length (new ++ old) - left) to) (drop-at new old (length (new ++ old) - left) to)
-
 pub map-put-Q-before : (p : ℕ) (f : List ℕ) (g : Poly) → Sound p f → terms f ≡ monic p g → (left : ℕ) (new old : List (List ℕ)) → length old ≡ left →
     All-sound p new → map terms (put-Q-before left f (new ++ old)) ≡ rules.put-Q p g (map terms new) ++ map terms old
 map-put-Q-before p f g h e left new old q hs =
     ap (map terms) (put-Q-before-in-parts left f new old q) ∙ map-append terms (put-Q f new) old ∙ ap (λ fs. fs ++ map terms old) (map-put-Q p f g h e new hs)
-
--- All of Q is looked at.
-pub put-Q-before-none : (f : List ℕ) (fs : List (List ℕ)) → put-Q-before 0 f fs ≡ put-Q f fs
-unfolding put-Q-before
-put-Q-before-none f fs = ap (put-Q-before 0 f) (sym (append-nil fs)) ∙ put-Q-before-in-parts 0 f fs [] refl ∙ append-nil (put-Q f fs)
 
 -- ── what holds of each member ──
 module _ (G : List ℕ → Type 0) where

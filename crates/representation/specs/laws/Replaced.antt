@@ -12,9 +12,10 @@ use Rattle.rules.specs.Rule.{close}
 use Rattle.rules.specs.Step as step
 use Rattle.rules.specs.Step.{with-Q, state, replace, apply}
 use Rattle.branches.specs.Words.{put-Q, put-Q-before, remove}
+use Rattle.branches.specs.laws.Words.{put-Q-before-in-parts}
 use Rattle.branches.specs.Area.{Stored, size, with-open, put-into-Q, without-Q, closed}
 use Rattle.representation.specs.Represent.{All-listed, branch-of, system-of, chosen, with-new, Sound, All-sound}
-use Rattle.representation.specs.laws.Lists.{map-remove, put-Q-before-in-parts, map-put-Q, map-put-Q-before}
+use Rattle.representation.specs.laws.Lists.{map-remove, map-put-Q, map-put-Q-before}
 use Rattle.representation.specs.laws.Sizes.{size-live}
 
 remove-at : (new : List (List ℕ)) (g : List ℕ) (old : List (List ℕ)) → remove (length new) (new ++ (g ∷ old)) ≡ new ++ old

@@ -78,6 +78,3 @@ room-of-count most n m h e = go (ltb (most - 1) n) refl
     go : (b : Bool) → ltb (most - 1) n ≡ b → leb m most ≡ not b
     go true q = lt-leb m most (omega (arith, ltb-true (most - 1) n q))
     go false q = le-leb m most (omega (arith, ltb-false (most - 1) n q))
-
-pub room : (most : ℕ) (a : Area) → 1 ≤ most → All-listed (a .systems) → leb (size a) most ≡ not (over (at-most (most - 1)) (live (state-of a)))
-room most a h k = room-of-count most (live (state-of a)) (size a) h (size-live a k)

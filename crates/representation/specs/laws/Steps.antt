@@ -19,9 +19,10 @@ use Rattle.rules.specs.Rule.{drop, list, split}
 use Rattle.rules.specs.Step.{Stepped, next, stopped, within-room, split-open, split-aside, divided, state, apply}
 use Rattle.rules.specs.laws.Lists.{At}
 use Rattle.branches.specs.Words.{put-P, put-Q-before, remove}
+use Rattle.branches.specs.laws.Words.{put-Q-before-none}
 use Rattle.branches.specs.Area.{Stored, Area, size, with-open, put-into-P, without-P, split-area}
 use Rattle.representation.specs.Represent.{All-listed, branch-of, system-of, state-of, chosen, Sound, Branch-sound}
-use Rattle.representation.specs.laws.Lists.{map-remove, map-put-P, map-put-Q, put-Q-before-none, remove-sound, put-P-sound}
+use Rattle.representation.specs.laws.Lists.{map-remove, map-put-P, map-put-Q, remove-sound, put-P-sound}
 use Rattle.representation.specs.laws.Sizes.{room-of-count, size-live}
 
 -- ── room ──

@@ -6,7 +6,8 @@ use Rattle.polynomials.specs.Packed.{terms}
 use Rattle.rules.specs.Branch.{other}
 use Rattle.records.specs.Records.{view}
 use Rattle.branches.specs.Area.{Stored, Held, with-open, capacity, closed}
-use Rattle.steps.proofs.PrepareLaws.{same-capacity, aims-at, aims-all}
+use Rattle.branches.proofs.LengthLaws.{held-by}
+use Rattle.steps.proofs.PrepareLaws.{aims-at, aims-all}
 use Rattle.steps.proofs.prepare_division.Statement.{statement}
 use Rattle.steps.proofs.prepare_division.Tie as tie
 
@@ -30,7 +31,7 @@ moved c b bs ss H = c .close .ensures b bs ss H
 
 moved-there : (c : tie.After-close) (b : Stored) (bs ss : List Stored) → Entry (start c) b bs ss
     → Held (view (c .close .last .0)) (capacity (c .close .last .0)) (with-open (closed (start c .args .place) b) bs ss)
-moved-there c b bs ss H = same-capacity (start c .args .w .now) (c .close .last .0) (c .close .kept .0) (moved c b bs ss H)
+moved-there c b bs ss H = held-by _ _ (start c .args .w .now) (c .close .last .0) (sym (c .close .kept .0)) (moved c b bs ss H)
 
 -- ── the needs ──
 degree-requires : tie.Need-degree-requires

@@ -1,9 +1,8 @@
 -- `turn::drop`: `dropped` with the words read.
-use mathlib.Core.Path.{_≡_}
-use native.Mathlib.Omega.{arith}
-use Rattle.records.proofs.Rows.{length-view}
-use Rattle.branches.proofs.OpenLaws.{w0-is, w2-is, w3-is}
-use Rattle.branches.proofs.TurnLaws.{start, control, own-record, within, dropped}
+use Rattle.branches.proofs.AreaLaws.{lies, first-is, at-is, at-inside, own-read}
+use Rattle.branches.proofs.LengthLaws.{inside-room}
+use Rattle.branches.proofs.OpenLaws.{w2-is, w3-is}
+use Rattle.branches.proofs.TurnLaws.{dropped}
 use borrow.Author.Needs.{needs}
 use Rattle.branches.proofs.turn.drop.Statement.{statement}
 use Rattle.branches.proofs.turn.drop.Tie as tie
@@ -17,8 +16,7 @@ cast-at c = search needs
 get3-requires : tie.Need-get3-requires
 get3-requires c κs =
     let s = c .before .before .before .before in
-    let H = s .pre .3 in
-    omega (arith, w0-is (control H) (c .before .get0 .ensures), within H, length-view (s .args .w .now))
+    inside-room (s .args .w .now) (at-inside (s .pre .3) _ (c .before .get0 .ensures))
 
 get2-requires : tie.Need-get2-requires
 get2-requires c κs = search needs
@@ -41,9 +39,9 @@ returns c b bs ss H =
     let top = systems .before .before in
     let under = top .before .before in
     let at = under .before .before in
-    let at-is : at .get0 .result ≡ start bs = w0-is (control H) (at .get0 .ensures) in
-    dropped H _ _ _ _ _ (w3-is (own-record H _ at-is) (under .get3 .ensures)) at-is (w2-is (control H) (top .get2 .ensures))
-    (w3-is (control H) (systems .get32 .ensures)) (c .before .before .put-rec .ensures)
+    let control = first-is (lies H) in
+    dropped H _ _ _ _ _ (w3-is (own-read H _ (at .get0 .ensures)) (under .get3 .ensures)) (at-is H _ (at .get0 .ensures)) (w2-is control (top .get2 .ensures))
+    (w3-is control (systems .get32 .ensures)) (c .before .before .put-rec .ensures)
 
 pub drop-spec : {M : Type 1} → statement M
 drop-spec =

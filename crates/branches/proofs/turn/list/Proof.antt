@@ -7,8 +7,9 @@ use lib.ListN.{length}
 use Rattle.records.specs.Records.{mk, room, view}
 use Rattle.branches.specs.Area.{Stored, Held, with-open, capacity}
 use Rattle.branches.proofs.LengthLaws.{inside-room}
-use Rattle.branches.proofs.OpenLaws.{mk-equal, w0-is, w1-is, w2-is, w3-is}
-use Rattle.branches.proofs.TurnLaws.{own, control, own-record, within, Bounds, at-is, bounds-inside, listed}
+use Rattle.branches.proofs.AreaLaws.{own-of, lies, first-is, own-read}
+use Rattle.branches.proofs.OpenLaws.{mk-equal, w0-is, w1-is, w2-is, w3-is, Read, bounds-inside}
+use Rattle.branches.proofs.TurnLaws.{few-systems, listed}
 use borrow.Author.Needs.{needs}
 use Rattle.branches.proofs.turn.list.Statement.{statement}
 use Rattle.branches.proofs.turn.list.Tie as tie
@@ -78,8 +79,8 @@ end r = end-read r .get1 .result
 abbrev top : Reading → ℕ
 top r = top-read r .get2 .result
 
-bounds : (r : Reading) → Bounds (view (w r)) (at r) (end r) (top r)
-bounds r = record { at-word = at-read r .get0 .ensures; end-word = end-read r .get1 .ensures; top-word = top-read r .get2 .ensures }
+bounds : (r : Reading) → Read (view (w r)) (at r) (end r)
+bounds r = record { at-word = at-read r .get0 .ensures; end-word = end-read r .get1 .ensures }
 
 -- ── what is known ──
 abbrev Entry : Reading → Stored → List Stored → List Stored → Type 0
@@ -87,20 +88,20 @@ Entry r b bs ss = Held (view (w r)) (capacity (w r)) (with-open b bs ss)
 
 module _ {b : Stored} {bs ss : List Stored} where
   own-is : (c : tie.After-get32) → Entry (from-own c) b bs ss
-      → mk (p-read c .get02 .result) (q-read c .get12 .result) (t-read c .get22 .result) (c .get32 .result) ≡ own b bs
+      → mk (p-read c .get02 .result) (q-read c .get12 .result) (t-read c .get22 .result) (c .get32 .result) ≡ own-of b bs
   own-is c H =
-      let o = own-record H _ (at-is H (bounds (from-own c))) in
+      let o = own-read H _ (at-read (from-own c) .get0 .ensures) in
       mk-equal (w0-is o (p-read c .get02 .ensures)) (w1-is o (q-read c .get12 .ensures)) (w2-is o (t-read c .get22 .ensures)) (w3-is o (c .get32 .ensures))
 
   systems-is : (r : Reading) → Entry r b bs ss → r .get3 .result ≡ length ss
-  systems-is r H = w3-is (control H) (r .get3 .ensures)
+  systems-is r H = w3-is (first-is (lies H)) (r .get3 .ensures)
 
 -- The branch of which the contract speaks, and that it and the free records lie inside.
 opened : (r : Reading) → Entry r (start r .pre .0) (start r .pre .1) (start r .pre .2)
 opened r = start r .pre .3
 
 inside : (r : Reading) → (at r < end r) × (end r ≤ top r) × (top r ≤ room (w r))
-inside r = let h = bounds-inside (opened r) (bounds r) in (h .0, h .1, inside-room (w r) (h .2))
+inside r = let h = bounds-inside (opened r) (bounds r) (top-read r .get2 .ensures) in (h .0, h .1, inside-room (w r) (h .2))
 
 own-inside : (r : Reading) → at r < room (w r)
 own-inside r = let h = inside r in omega (arith, h .0, h .1, h .2)
@@ -161,7 +162,7 @@ cast-put-rec-2 : tie.Need-cast-put-rec-2
 cast-put-rec-2 c = search needs
 
 add-put-rec : tie.Need-add-put-rec
-add-put-rec c = let r = from-move (move-of (own-before-control c)) in omega (arith, systems-is r (opened r), within (opened r))
+add-put-rec c = let r = from-move (move-of (own-before-control c)) in omega (arith, systems-is r (opened r), few-systems (opened r))
 
 put-rec-requires-2 : tie.Need-put-rec-requires-2
 put-rec-requires-2 c κs = search needs
@@ -174,7 +175,7 @@ returns c b bs ss H =
     let o = own-before-control (c .before .before .before) in
     let m = move-of o in
     let r = from-move m in
-    listed H (bounds r) (own-is (m .before .before) H) (systems-is r H) (m .move-up .ensures) (o .put-rec .ensures) (c .before .before .put-rec2 .ensures)
+    listed H (bounds r) (top-read r .get2 .ensures) (own-is (m .before .before) H) (systems-is r H) (m .move-up .ensures) (o .put-rec .ensures) (c .before .before .put-rec2 .ensures)
 
 pub list-spec : {M : Type 1} → statement M
 list-spec =

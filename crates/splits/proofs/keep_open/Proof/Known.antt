@@ -1,5 +1,5 @@
 -- What is known at the places of `keep_open`: the numbers that the code reads lie as `Placed` says, and the pieces fit.
-use mathlib.Core.Path.{_≡_, _∙_}
+use mathlib.Core.Path.{_≡_, sym, _∙_}
 use mathlib.Core.List.{List}
 use Prim.Native.Nat.{ℕ, _+_, _-_, _/_, _≤_, _<_}
 use native.Mathlib.Omega.{arith}
@@ -9,9 +9,9 @@ use Rattle.records.proofs.Rows.{length-view}
 use Rattle.stored.specs.Stored.{skip-to}
 use Rattle.branches.specs.Area.{Stored, Held, capacity, with-open}
 use Rattle.branches.proofs.LengthLaws.{inside-room}
-use Rattle.branches.proofs.OpenLaws.{w0-is, w1-is, w2-is}
-use Rattle.branches.proofs.TurnLaws.{own-record, Bounds, bounds-inside, at-is, end-is, top-is}
-use Rattle.splits.proofs.SplitLaws.{end-front, end-back, end-P, end-Q, Placed, Ordered, ordered, to-front, to-back, to-Q, to-T, parts-inside, kept}
+use Rattle.branches.proofs.AreaLaws as area
+use Rattle.branches.proofs.OpenLaws.{w2-is, Read, start-is, ends, free-is}
+use Rattle.splits.proofs.SplitLaws.{end-front, end-back, end-P, end-Q, Placed, Ordered, ordered, to-back, to-Q, to-T, parts-inside, kept}
 use Rattle.splits.proofs.PieceLaws.{Reached, reach, reach-last, first-fits}
 use Rattle.splits.proofs.keep_open.Tie as tie
 
@@ -122,8 +122,8 @@ back c = back-read c .skip2 .result
 abbrev pub in-q : Parts → ℕ
 in-q c = P-read c .skip3 .result
 
-pub bounds : (r : Words) → Bounds (view (w r)) (at r) (end r) (top r)
-bounds r = record { at-word = at-read r .get0 .ensures; end-word = end-read r .get1 .ensures; top-word = top-read r .get2 .ensures }
+pub bounds : (r : Words) → Read (view (w r)) (at r) (end r)
+bounds r = record { at-word = at-read r .get0 .ensures; end-word = end-read r .get1 .ensures }
 
 -- ── what is known of the state held ──
 abbrev pub Entry : Words → Stored → List Stored → List Stored → Type 0
@@ -134,16 +134,16 @@ module _ {b : Stored} {bs ss : List Stored} where
   members r H = start r .pre .1 .0 b bs ss H
 
   pub p-is : (r : Words) → Entry r b bs ss → p-read r .get02 .result ≡ length (b .P)
-  p-is r H = w0-is (own-record H _ (at-is H (bounds r))) (p-read r .get02 .ensures)
+  p-is r H = area.p-is H _ (at-read r .get0 .ensures) _ (p-read r .get02 .ensures)
 
   pub q-is : (r : Words) → Entry r b bs ss → q r ≡ length (b .Q)
-  q-is r H = w1-is (own-record H _ (at-is H (bounds r))) (q-read r .get12 .ensures)
+  q-is r H = area.q-is H _ (at-read r .get0 .ensures) _ (q-read r .get12 .ensures)
 
   pub t-is : (r : Words) → Entry r b bs ss → r .get22 .result ≡ length (b .T)
-  t-is r H = w2-is (own-record H _ (at-is H (bounds r))) (r .get22 .ensures)
+  t-is r H = w2-is (area.own-read H _ (at-read r .get0 .ensures)) (r .get22 .ensures)
 
   pub to-front-is : (r : Words) → Entry r b bs ss → skip-to (view (w r)) (at r + 1) (i r) ≡ end-front (i r) b bs
-  to-front-is r H = to-front H (i r) (n r) (members r H) (at-is H (bounds r))
+  to-front-is r H = area.skip-P H _ (at-read r .get0 .ensures) (i r) (omega (arith, members r H))
 
   pub to-back-is : (c : tie.After-skip)
       → let r = from-front c in Entry r b bs ss → skip-to (view (w r)) (c .skip .result) (n r - i r) ≡ end-back (i r) (n r) b bs
@@ -161,9 +161,9 @@ module _ {b : Stored} {bs ss : List Stored} where
       → let r = words c in
       Placed b bs (i r) (n r) (length (H .free)) (at r) (end r) (top r) (q r) (r .get22 .result) (front c) (back c) (in-q c) (c .skip4 .result)
   placed c H = let r = words c in record {
-    at-is = at-is H (bounds r);
-    end-is = end-is H (bounds r);
-    top-is = top-is H (bounds r);
+    at-is = start-is H (bounds r);
+    end-is = ends H (bounds r) ∙ sym (area.end-is b bs);
+    top-is = omega (arith, free-is H (bounds r) _ (top-read r .get2 .ensures), ends H (bounds r), area.end-is b bs);
     q-is = q-is r H;
     t-is = t-is r H;
     front-is = front-read c .skip .ensures ∙ to-front-is r H;
@@ -186,8 +186,7 @@ pub at-inside : (c : tie.After-get2)
 at-inside c =
     let a = c .before .before .before .before in
     let s = a .before .before .before .before .before in
-    let h = bounds-inside (s .pre .0 .3) (record { at-word = a .get0 .ensures; end-word = c .before .before .get1 .ensures; top-word = c .get2 .ensures }) in
-    inside-room (s .args .w .now) (omega (arith, h))
+    inside-room (s .args .w .now) (area.at-inside (s .pre .0 .3) _ (a .get0 .ensures))
 
 pub in-order : (c : Parts)
     → let r = words c in

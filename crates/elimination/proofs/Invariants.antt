@@ -22,8 +22,9 @@ use Rattle.rules.specs.Run.{Ended, finished, refused, after-step, run}
 use Rattle.records.specs.Records.{view}
 use Rattle.branches.specs.Area.{Stored, Area, Held, with-open, capacity}
 use Rattle.representation.specs.Represent.{branch-of, system-of, state-of}
-use Rattle.steps.specs.Ready.{Ready, limits-in}
-use Rattle.steps.specs.Pending.{Has-members, Pivoted, rest-of-step}
+use Rattle.representation.specs.Ready.{Ready, limits-in}
+use Rattle.members.specs.Members.{Has-members, rest-of-step}
+use Rattle.steps.specs.Pending.{Pivoted}
 
 -- The run from a state, and what is left of a step from a branch, in a work area with so many records.
 abbrev pub run-in : ℕ → ℕ → ℕ → ℕ → Area → Ended

@@ -27,12 +27,12 @@ use Rattle.representation.specs.laws.Lists.{each-remove, sound-at}
 use Rattle.representation.specs.laws.Sounds.{put-into-P-sound, put-into-Q-sound, without-P-sound, without-Q-sound}
 use Rattle.representation.specs.laws.Monics.{stored-monic, remove-monic, put-P-monic}
 use Rattle.representation.specs.laws.Steps.{if-fits}
-use Rattle.steps.specs.Ready.{Ready, limits-in}
-use Rattle.steps.specs.Pending.{Has-left, Has-members, Has-behind, next-member, taken-out, put-in, rest-of-step}
-use Rattle.steps.proofs.SplitLaws.{put-P-nonzero}
-use Rattle.steps.proofs.TakeLaws.{Took, Put}
-use Rattle.steps.proofs.MemberLaws.{takes, onward, step-put}
-use Rattle.steps.proofs.Unique.{of-every}
+use Rattle.representation.specs.Ready.{Ready, limits-in}
+use Rattle.members.specs.Members.{Has-left, Has-members, Has-behind, next-member, taken-out, put-in, rest-of-step}
+use Rattle.representation.specs.laws.Lists.{put-P-nonzero}
+use Rattle.members.proofs.TakeLaws.{Took, Put}
+use Rattle.members.proofs.MemberLaws.{takes, onward, step-put}
+use Rattle.branches.proofs.Unique.{of-every}
 use Rattle.elimination.proofs.Invariants.{rest-in, AtMembers}
 
 -- ── what stays true of the branch ──

@@ -18,7 +18,7 @@ use Rattle.representation.specs.Represent.{branch-of, system-of, state-of}
 use Rattle.steps.specs.declared.Division.{Division}
 use Rattle.steps.specs.declared.Prepared.{Prepared}
 use Rattle.steps.specs.declared.Prepared.the-variants.{Done, Members, Stop}
-use Rattle.steps.specs.Ready.{Ready, limits-in}
+use Rattle.representation.specs.Ready.{Ready, limits-in}
 use Rattle.steps.specs.Pending.{Comes, Pivoted, Prepares}
 use Rattle.elimination.specs.declared.Outcome.{Outcome}
 use Rattle.elimination.specs.declared.Outcome.the-variants.{Systems, Refused}

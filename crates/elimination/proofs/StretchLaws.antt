@@ -10,7 +10,7 @@ use Rattle.branches.specs.Area.{Area, Held, capacity}
 use Rattle.branches.proofs.LengthLaws.{same-capacity}
 use Rattle.rules.specs.Run.{Ended, run}
 use Rattle.representation.specs.Represent.{state-of}
-use Rattle.steps.specs.Ready.{Ready, limits-in}
+use Rattle.representation.specs.Ready.{Ready, limits-in}
 use Rattle.elimination.specs.declared.Answer.{Answer}
 use Rattle.elimination.specs.declared.Outcome.{Outcome}
 use Rattle.elimination.specs.declared.run.Ending.{Ending}

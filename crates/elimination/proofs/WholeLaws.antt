@@ -18,7 +18,7 @@ use Rattle.branches.specs.Area.{Area, Held, capacity}
 use Rattle.representation.specs.Represent.{state-of}
 use Rattle.elimination.specs.declared.Answer.{Answer}
 use Rattle.elimination.specs.declared.Outcome.the-variants.{Refused}
-use Rattle.steps.specs.Ready.{Ready, limits-in}
+use Rattle.representation.specs.Ready.{Ready, limits-in}
 use Rattle.elimination.specs.Answer.{Ran}
 use Rattle.loading.specs.Started.{Started}
 use Rattle.elimination.specs.Delivered.{Delivered}

@@ -13,7 +13,7 @@ use Rattle.elimination.specs.declared.Outcome.the-variants.{Systems, Ref
 use Rattle.elimination.specs.declared.run.Ending.{Ending}
 use Rattle.elimination.specs.declared.run.Ending.the-variants.{Final, Paused}
 use Rattle.elimination.specs.declared.run.Stretch.{Stretch}
-use Rattle.steps.specs.Ready.{Ready, limits-in}
+use Rattle.representation.specs.Ready.{Ready, limits-in}
 
 abbrev pub answer-of-run : Ended → Answer
 answer-of-run (finished n ss) = record { steps = n; outcome = Systems (length ss) }

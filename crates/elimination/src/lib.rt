@@ -11,7 +11,7 @@ ghost use Rattle.branches.specs.Area.{Area, Held, capacity};
 ghost use Rattle.representation.specs.Represent.{state-of};
 ghost use Rattle.rules.specs.Run.{run, run-of};
 ghost use Rattle.rules.specs.Eliminate.{delivered, eliminated, limits-of, output-after};
-ghost use Rattle.steps.specs.Ready.{Ready, Modulus, limits-in};
+ghost use Rattle.representation.specs.Ready.{Ready, Modulus, limits-in};
 ghost use Rattle.elimination.specs.Answer.{Ran, answer-of};
 ghost use Rattle.elimination.specs.Delivered.{Delivered};
 use run::Ending;

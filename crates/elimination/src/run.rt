@@ -7,7 +7,7 @@ ghost use Rattle.records.specs.Records.{view};
 ghost use Rattle.branches.specs.Area.{Area, Held, capacity};
 ghost use Rattle.rules.specs.Run.{run};
 ghost use Rattle.representation.specs.Represent.{state-of};
-ghost use Rattle.steps.specs.Ready.{Ready, Modulus, limits-in};
+ghost use Rattle.representation.specs.Ready.{Ready, Modulus, limits-in};
 ghost use Rattle.elimination.specs.Answer.{Stretches};
 ghost use Rattle.elimination.specs.declared.run.Ending.the-variants.{Paused};
 use crate::Outcome;
@@ -80,7 +80,7 @@ pub fn run(
                 let place = d.place;
                 let mut left = d.left;
                 'members: while 0 < left {
-                    let mut n = steps::take(w, closing, place, left, r);
+                    let mut n = members::take(w, closing, place, left, r);
                     'division: loop {
                         let e = degrees::degree(&r[..n], k);
                         if e < degree {
@@ -114,7 +114,7 @@ pub fn run(
                         }
                     }
                     left -= 1;
-                    if !steps::put_back(w, p, closing, left, r, n) {
+                    if !members::put_back(w, p, closing, left, r, n) {
                         break 'run Ending::Final(Outcome::Refused(Reason::Room, 0));
                     }
                 }

@@ -26,7 +26,7 @@ use Rattle.representation.specs.laws.Sounds.{put-into-P-sound, put-into-Q-sound
 use Rattle.representation.specs.laws.Sizes.{length-stack, size-live}
 use Rattle.representation.specs.laws.Replaced.{polynomials-size-append}
 use Rattle.representation.specs.laws.Monics.{put-P-monic}
-use Rattle.steps.proofs.SplitLaws.{put-P-nonzero}
+use Rattle.representation.specs.laws.Lists.{put-P-nonzero}
 use Rattle.loading.specs.Started.{Loaded, put-into, put-heads, Alone, Filled}
 
 -- ── putting never makes a branch smaller ──

@@ -11,8 +11,8 @@ use Rattle.tables.specs.Read.{good, read-head}
 use Rattle.tables.specs.Walk.{Readable}
 use Rattle.tables.specs.laws.Accepted.{readable-numbers, head-admissible}
 use Rattle.representation.specs.laws.Monics.{stored-monic}
-use Rattle.steps.specs.Ready.{Modulus}
-use Rattle.steps.proofs.MadeLaws.{Made, made-within, made-monic, made-sound}
+use Rattle.representation.specs.Ready.{Modulus}
+use Rattle.members.proofs.MadeLaws.{Made, made-within, made-monic, made-sound}
 use Rattle.loading.specs.Started.{Loaded}
 
 pub readable-modulus : {w : List ℕ} {p n : ℕ} → Readable w p n → Modulus p

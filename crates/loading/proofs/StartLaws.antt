@@ -18,7 +18,7 @@ use Rattle.records.specs.Records.{Rec}
 use Rattle.branches.specs.Area.{Held, capacity, with-open, empty}
 use Rattle.representation.specs.laws.Sounds.{empty-sound}
 use Rattle.representation.specs.laws.Sizes.{room-of-count}
-use Rattle.steps.specs.Ready.{limits-in}
+use Rattle.representation.specs.Ready.{limits-in}
 use Rattle.loading.specs.Started.{put-heads, Alone, Filled, Started}
 use Rattle.loading.proofs.FillLaws.{size-put-heads, filled-not}
 

@@ -16,7 +16,7 @@ use Rattle.rules.specs.Step.{Stepped, next, stopped}
 use Rattle.records.specs.Records.{Rec}
 use Rattle.branches.specs.Area.{Stored, Area, Held, with-open, put-into-P, put-into-Q}
 use Rattle.representation.specs.Represent.{Sound, Branch-sound, branch-of, state-of, Monic, All-monic}
-use Rattle.steps.specs.Ready.{Ready}
+use Rattle.representation.specs.Ready.{Ready}
 
 -- The first m words hold the monic polynomial of f.
 pub record Loaded (p : ℕ) (f : Poly) (m : ℕ) (s : List ℕ) : Type 0 where

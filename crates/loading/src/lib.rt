@@ -13,7 +13,7 @@ ghost use Rattle.tables.specs.Walk.{Readable};
 ghost use Rattle.rules.specs.Branch.{Branch};
 ghost use Rattle.rules.specs.Run.{start};
 ghost use Rattle.branches.specs.Area.{Stored, Held, Opened, Leaves, capacity, with-open};
-ghost use Rattle.steps.specs.Ready.{limits-in};
+ghost use Rattle.representation.specs.Ready.{limits-in};
 ghost use Rattle.loading.specs.Started.{Loaded, put-into, put-heads, Alone, Filled, Started};
 use branches::open;
 use branches::turn;

@@ -1,2 +1,3 @@
+pub mod Ready
 pub mod Represent
 pub mod laws

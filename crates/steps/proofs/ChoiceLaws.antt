@@ -28,7 +28,7 @@ use Rattle.survey.specs.declared.Choice.{Choice}
 use Rattle.survey.specs.declared.Choice.the-variants.{Drop, List as Lists, Pivot}
 use Rattle.representation.specs.Represent.{Sound, All-sound, branch-of, system-of, chosen, Monic, All-monic}
 use Rattle.representation.specs.laws.Steps.{chosen-at}
-use Rattle.steps.specs.Ready.{Ready}
+use Rattle.representation.specs.Ready.{Ready}
 use Rattle.steps.specs.Pending.{Leads}
 
 -- A monic polynomial without a leading variable is 1.

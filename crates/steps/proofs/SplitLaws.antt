@@ -2,7 +2,7 @@
 use mathlib.Core.Path.{_≡_, refl, sym, ap, subst, _∙_}
 use mathlib.Core.Logic.{_≢_}
 use mathlib.Core.Bool.{Bool, true, false}
-use mathlib.Core.List.{List, [], _∷_, map, reverse}
+use mathlib.Core.List.{List, [], map, reverse}
 use Prim.Native.Nat.{ℕ}
 use native.Mathlib.Omega.{arith}
 use lib.ListN.{getD}
@@ -17,21 +17,15 @@ use Rattle.tables.specs.declared.Reason.the-variants.{Room}
 use Rattle.rules.specs.Rule.{Rule, split, rule-with}
 use Rattle.rules.specs.Step.{Stepped, next, stopped, apply}
 use Rattle.records.specs.Records.{Rec}
-use Rattle.branches.specs.Words.{put-P, is-zero, remove}
+use Rattle.branches.specs.Words.{put-P, remove}
 use Rattle.branches.specs.Area.{Stored, Area, Held, Leaves, with-open, split-area}
 use Rattle.representation.specs.Represent.{Sound, branch-of, system-of, state-of, chosen, Monic}
-use Rattle.representation.specs.laws.Lists.{sound-at, each-remove, each-put-P}
+use Rattle.representation.specs.laws.Lists.{sound-at, each-remove, put-P-nonzero}
 use Rattle.representation.specs.laws.Sounds.{split-area-sound}
 use Rattle.representation.specs.laws.Monics.{initial-monic, stored-initial-own, stored-monic, remove-monic, put-P-monic, monic-at}
 use Rattle.representation.specs.laws.Steps.{if-fits, apply-split}
-use Rattle.steps.specs.Ready.{Ready, limits-in}
+use Rattle.representation.specs.Ready.{Ready, limits-in}
 use Rattle.steps.specs.Pending.{Leads}
-
--- Zero is not put.
-pub put-P-nonzero : (f : List ℕ) (fs : List (List ℕ)) → Each (λ g. g ≢ []) fs → Each (λ g. g ≢ []) (put-P f fs)
-unfolding put-P is-zero
-put-P-nonzero [] fs h = h
-put-P-nonzero (x ∷ f) fs h = each-put-P (λ g. g ≢ []) (x ∷ f) fs (λ e. let z : _≡_ {A = ℕ} 0 1 = cc in omega arith) h
 
 module _ (p k i : ℕ) (prime : Prime p) (b : Stored) (bs ss : List Stored) (R : Ready p (with-open b bs ss)) (L : Leads k i b) (ini rst : List ℕ) (s : Sound p ini)
     (of-ini : terms ini ≡ initial k (terms (getD (b .P) i []))) (u₀ : Sound p rst) (of-rst : terms rst ≡ monic p (rest k (terms (getD (b .P) i [])))) where

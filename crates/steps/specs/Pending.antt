@@ -1,47 +1,23 @@
--- What is left of a step when its rule has been found: the members to be divided by the pivot are the one of P at a place (rule 4), or the last
--- `left` of Q (rule 5).
+-- What is left of a step when its rule has been found.
 use mathlib.Core.Path.{_≡_}
-use mathlib.Core.Bool.{Bool, true, false}
-use mathlib.Core.List.{List, [], map, reverse}
-use Prim.Native.Nat.{ℕ, zero, suc, _+_, _-_, _≤_, _<_}
-use lib.ListN.{length, getD, take, drop}
-use Rattle.polynomials.specs.Poly.{Poly}
+use mathlib.Core.Bool.{true, false}
+use mathlib.Core.List.{List, []}
+use Prim.Native.Nat.{ℕ, _+_, _≤_, _<_}
+use lib.ListN.{length, getD, take}
 use Rattle.polynomials.specs.Packed.{terms}
 use Rattle.polynomials.specs.Division.{degree, leader, coefficient}
 use Rattle.polynomials.specs.Working.{Holds}
 use Rattle.rules.specs.Branch.{Found, none, found}
 use Rattle.rules.specs.Room.{Limits}
-use Rattle.rules.specs.Step.{Stepped, next, stopped, within-room, after-division, remainder-by, divided, state, replace}
+use Rattle.rules.specs.Step.{Stepped, next, stopped}
 use Rattle.records.specs.Records.{Rec}
-use Rattle.branches.specs.Area.{Stored, Area, Held, with-open, put-into-P, put-into-Q, without-P, without-Q, closed}
+use Rattle.branches.specs.Area.{Stored, Area, Held, with-open, closed}
+use Rattle.representation.specs.Represent.{state-of}
+use Rattle.representation.specs.Ready.{Ready}
+use Rattle.members.specs.Members.{Has-members, rest-of-step}
 use Rattle.steps.specs.declared.Division.{Division}
 use Rattle.steps.specs.declared.Prepared.{Prepared}
 use Rattle.steps.specs.declared.Prepared.the-variants.{Done, Members, Stop, Crowded}
-use Rattle.steps.specs.Ready.{Ready}
-use Rattle.representation.specs.Represent.{branch-of, system-of, state-of, chosen, with-new}
-
--- There is a member to be divided.
-abbrev pub Has-left : Bool → ℕ → ℕ → Stored → Type 0
-Has-left false place left b = place < length (b .P)
-Has-left true place left b = (1 ≤ left) × (left ≤ length (b .Q))
-
--- The next one, the branch without it, and the branch with f put in its stead, before the `left` that are yet to be divided.
-abbrev pub next-member : Bool → ℕ → ℕ → Stored → List ℕ
-next-member false place left b = getD (b .P) place []
-next-member true place left b = getD (b .Q) (length (b .Q) - left) []
-
-abbrev pub taken-out : Bool → ℕ → ℕ → Stored → Stored
-taken-out false place left b = without-P place b
-taken-out true place left b = without-Q (length (b .Q) - left) b
-
-abbrev pub put-in : Bool → ℕ → List ℕ → Stored → Stored
-put-in false left f b = put-into-P f b
-put-in true left f b = put-into-Q left f b
-
--- Q has so many members that are yet to be divided.
-abbrev pub Has-behind : Bool → ℕ → Stored → Type 0
-Has-behind false left b = Unit {0}
-Has-behind true left b = left ≤ length (b .Q)
 
 -- What rule 4 or 5 leaves to be divided, by the other polynomial that the pivot's variable leads; and the branch then.
 abbrev pub division-of : Found → ℕ → ℕ → ℕ → ℕ → Stored → Division
@@ -51,20 +27,6 @@ division-of (found c) k d n m b = record { k = k; degree = d; pivot = n; initial
 abbrev pub aimed : Found → ℕ → Stored → Stored
 aimed none i b = closed i b
 aimed (found c) i b = b
-
--- The step from there on, with the pivot f in v(k+1).
-unfoldable pub rest-of-step : Limits → ℕ → Bool → ℕ → ℕ → ℕ → Poly → Stored → List Stored → List Stored → Stepped
-rest-of-step l p false place zero k f b bs ss = next (state-of (with-open b bs ss))
-rest-of-step l p false place (suc n) k f b bs ss =
-    after-division (remainder-by l p k f (terms (getD (b .P) place [])))
-    (λ r. within-room l (state l p (map branch-of bs) (reverse (map system-of ss)) (divided l p (chosen b place) r (branch-of b))))
-rest-of-step l p true place left k f b bs ss =
-    replace l p (map branch-of bs) (reverse (map system-of ss)) k f (map terms (drop (length (b .Q) - left) (b .Q))) (with-new b (take (length (b .Q) - left) (b .Q)))
-
--- The members that are left to be divided are there.
-abbrev pub Has-members : Bool → ℕ → ℕ → Stored → Type 0
-Has-members false place left b = (left ≤ 1) × (1 ≤ left → place < length (b .P))
-Has-members true place left b = left ≤ length (b .Q)
 
 -- t is a pivot of degree d in v(k+1), and i its initial.
 pub record Pivoted (p k d : ℕ) (t i : List ℕ) : Type 0 where

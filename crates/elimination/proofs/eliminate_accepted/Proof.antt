@@ -14,7 +14,7 @@ use Rattle.tables.specs.laws.Chains.{readable-words}
 use Rattle.rules.specs.Run.{Ended, start, run-of}
 use Rattle.branches.specs.Area.{Area, Held, capacity}
 use Rattle.branches.proofs.LengthLaws.{same-capacity}
-use Rattle.steps.specs.Ready.{Ready, Modulus, limits-in}
+use Rattle.representation.specs.Ready.{Ready, Modulus, limits-in}
 use Rattle.elimination.specs.declared.Answer.{Answer}
 use Rattle.elimination.specs.Answer.{Ran}
 use Rattle.loading.specs.Started.{Started}

@@ -1,7 +1,7 @@
 -- Putting into the lists of a stored branch and taking out of them is what the rules do to the lists of polynomials; and what holds of each
 -- stored polynomial still does.
 use mathlib.Core.Path.{_≡_, refl, _∙_, ap, ap₂}
-use mathlib.Core.Logic.{_↔_}
+use mathlib.Core.Logic.{_≢_, _↔_}
 use mathlib.Core.List.{List, [], _∷_, _++_, map, map-append}
 use mathlib.Core.Bool.{Bool, true, false, _||_}
 use Prim.Native.Nat.{ℕ, zero, suc, _-_}
@@ -90,6 +90,12 @@ module _ (G : List ℕ → Type 0) where
   each-at i [] z hs = z
   each-at zero (f ∷ fs) z hs = hs .0
   each-at (suc i) (f ∷ fs) z hs = each-at i fs z (hs .1)
+
+-- Zero is not put.
+pub put-P-nonzero : (f : List ℕ) (fs : List (List ℕ)) → Each (λ g. g ≢ []) fs → Each (λ g. g ≢ []) (put-P f fs)
+unfolding put-P is-zero
+put-P-nonzero [] fs h = h
+put-P-nonzero (x ∷ f) fs h = each-put-P (λ g. g ≢ []) (x ∷ f) fs (λ e. let z : _≡_ {A = ℕ} 0 1 = cc in omega arith) h
 
 -- ── soundness is kept ──
 module _ (p : ℕ) where

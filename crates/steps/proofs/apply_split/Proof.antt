@@ -12,7 +12,7 @@ use Rattle.polynomials.specs.Packed.{terms}
 use Rattle.stored.specs.Stored.{Storable}
 use Rattle.representation.specs.Represent.{Sound}
 use Rattle.representation.specs.laws.Sounds.{sound-storable}
-use Rattle.steps.proofs.MadeLaws.{Made, made-length, made-monic, made-sound}
+use Rattle.members.proofs.MadeLaws.{Made, made-length, made-monic, made-sound}
 use Rattle.steps.proofs.RestLaws.{Rest-in, rest-in, initial-inside}
 use Rattle.steps.proofs.apply_split.Statement.{statement}
 use Rattle.steps.proofs.apply_split.Tie as tie

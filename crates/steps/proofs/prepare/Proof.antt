@@ -11,9 +11,9 @@ use Rattle.branches.specs.Area.{Stored, Held, with-open, capacity}
 use Rattle.survey.specs.Survey.{All-hold}
 use Rattle.representation.specs.Represent.{branch-of, chosen}
 use Rattle.representation.specs.laws.Steps.{drop-state, list-state}
-use Rattle.steps.specs.Ready.{Ready, limits-in}
+use Rattle.representation.specs.Ready.{Ready, limits-in}
 use Rattle.steps.specs.Pending.{Leads, Prepares}
-use Rattle.steps.proofs.Unique.{of-every}
+use Rattle.branches.proofs.Unique.{of-every}
 use Rattle.steps.proofs.PrepareLaws.{all-hold, begun}
 use Rattle.steps.proofs.ChoiceLaws.{chosen-drop, chosen-list, chosen-pivot, step-by, ready-dropped, ready-listed, map-none}
 use Rattle.steps.proofs.prepare.Statement.{statement}

@@ -20,9 +20,9 @@ use Rattle.branches.proofs.AreaLaws.{storable-member}
 use Rattle.survey.specs.Survey.{All-hold}
 use Rattle.representation.specs.Represent.{branch-of, chosen}
 use Rattle.representation.specs.laws.Sounds.{sound-storable}
-use Rattle.steps.specs.Ready.{Ready, limits-in}
+use Rattle.representation.specs.Ready.{Ready, limits-in}
 use Rattle.steps.specs.Pending.{Leads}
-use Rattle.steps.proofs.Unique.{of-every}
+use Rattle.branches.proofs.Unique.{of-every}
 use Rattle.polynomials.specs.laws.Bounds.{neither}
 use Rattle.steps.proofs.PrepareLaws.{all-hold, begun}
 use Rattle.steps.proofs.PivotLaws.{Pivot-in, pivot-in, Initial-in, initial-in, rule-found, comes}

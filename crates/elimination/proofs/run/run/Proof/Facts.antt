@@ -24,7 +24,7 @@ use Rattle.branches.specs.Area.{capacity}
 use Rattle.steps.specs.declared.Division.{Division}
 use Rattle.steps.specs.declared.Prepared.{Prepared}
 use Rattle.steps.specs.declared.Prepared.the-variants.{Done, Members, Stop}
-use Rattle.steps.specs.Ready.{Modulus, limits-in}
+use Rattle.representation.specs.Ready.{Modulus, limits-in}
 use Rattle.steps.specs.Pending.{Pivoted}
 use Rattle.elimination.specs.declared.Outcome.the-variants.{Refused}
 use Rattle.elimination.proofs.Slices.{Kept, kept-then, Suits, suits-kept, Crowds, crowds-kept}

@@ -11,10 +11,10 @@ use Rattle.polynomials.specs.Packed.{terms}
 use Rattle.stored.specs.Stored.{Storable}
 use Rattle.representation.specs.Represent.{Sound}
 use Rattle.representation.specs.laws.Sounds.{sound-storable}
-use Rattle.steps.proofs.MadeLaws.{Made, made-length, made-monic, made-sound}
-use Rattle.steps.proofs.TakeLaws.{behind, put-Q, put-P}
-use Rattle.steps.proofs.put_back.Statement.{statement}
-use Rattle.steps.proofs.put_back.Tie as tie
+use Rattle.members.proofs.MadeLaws.{Made, made-length, made-monic, made-sound}
+use Rattle.members.proofs.TakeLaws.{behind, put-Q, put-P}
+use Rattle.members.proofs.put_back.Statement.{statement}
+use Rattle.members.proofs.put_back.Tie as tie
 
 -- The words that are put: n from the first of r, after `monic`.
 abbrev Monic : Type 0

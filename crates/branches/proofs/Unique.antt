@@ -2,13 +2,11 @@
 use mathlib.Core.Path.{_≡_, refl, sym, _∙_, subst}
 use mathlib.Core.List.{List}
 use Prim.Native.Nat.{ℕ, _+_}
-use native.Mathlib.Omega.{arith}
-use lib.ListN.{length, getD}
-use lib.Seq.{take-all}
+use lib.ListN.{getD}
 use Rattle.records.specs.Records.{Rec, nul}
 use Rattle.stored.specs.Stored.{polys-at, skip-to}
 use Rattle.branches.specs.Area.{Stored, Held, with-open}
-use Rattle.branches.proofs.AreaLaws.{in-P, in-Q, p-is, q-is, end-P}
+use Rattle.branches.proofs.AreaLaws.{all-P, all-Q, q-is, end-P}
 
 abbrev start-in : List Rec → ℕ
 start-in v = getD v 0 nul .w0
@@ -21,16 +19,10 @@ Q-in v = polys-at v (skip-to v (start-in v + 1) (getD v (start-in v) nul .w0)) (
 
 module _ {v : List Rec} {most : ℕ} {b : Stored} {bs ss : List Stored} (H : Held v most (with-open b bs ss)) where
   read-P : P-in v ≡ b .P
-  read-P =
-      let n : getD v (start-in v) nul .w0 ≡ length (b .P) = p-is H (start-in v) refl (getD v (start-in v) nul .w0) refl in
-      in-P H (start-in v) refl (getD v (start-in v) nul .w0) (omega arith) ∙ take-all (getD v (start-in v) nul .w0) (b .P) (omega arith)
+  read-P = all-P H (start-in v) refl _ refl
 
   read-Q : Q-in v ≡ b .Q
-  read-Q =
-      let n : getD v (start-in v) nul .w1 ≡ length (b .Q) = q-is H (start-in v) refl (getD v (start-in v) nul .w1) refl in
-      let f = skip-to v (start-in v + 1) (getD v (start-in v) nul .w0) in
-      in-Q H f (getD v (start-in v) nul .w1) (end-P H (start-in v) refl (getD v (start-in v) nul .w0) refl) (omega arith)
-      ∙ take-all (getD v (start-in v) nul .w1) (b .Q) (omega arith)
+  read-Q = all-Q H (end-P H (start-in v) refl _ refl) (q-is H (start-in v) refl _ refl)
 
 -- What holds of P and Q of one state that is held does of every one.
 pub of-every : {v : List Rec} {most : ℕ} {b : Stored} {bs ss : List Stored} (X : List (List ℕ) → List (List ℕ) → Type 0) → Held v most (with-open b bs ss) → X (b .P) (b .Q)

@@ -2,8 +2,8 @@
 use native.Mathlib.Omega.{arith}
 use borrow.Author.Needs.{needs}
 use Rattle.branches.proofs.AreaLaws.{at-inside, q-is}
-use Rattle.steps.proofs.count_q.Statement.{statement}
-use Rattle.steps.proofs.count_q.Tie as tie
+use Rattle.members.proofs.count_q.Statement.{statement}
+use Rattle.members.proofs.count_q.Tie as tie
 
 get0-requires : tie.Need-get0-requires
 get0-requires c κs = search needs

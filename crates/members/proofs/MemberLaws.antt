@@ -20,7 +20,7 @@ use Rattle.representation.specs.Represent.{Sound, All-sound, Branch-sound, All-
 use Rattle.representation.specs.laws.Steps.{if-fits, tested-room, within-room-fits, divide-state}
 use Rattle.representation.specs.laws.Replaced.{turned, turned-Q, turned-size, with-new-turned}
 use Rattle.representation.specs.laws.Lists.{append-sound}
-use Rattle.steps.specs.Pending.{Has-left, Has-members, next-member, taken-out, put-in, rest-of-step}
+use Rattle.members.specs.Members.{Has-left, Has-members, next-member, taken-out, put-in, rest-of-step}
 
 module _ (l : Limits) (p k : ℕ) (f : Poly) (b : Stored) (bs ss : List Stored) where
   abbrev pub after : Branch → State

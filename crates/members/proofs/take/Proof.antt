@@ -9,10 +9,10 @@ use lib.ListN.{length}
 use Rattle.records.specs.Records.{view}
 use Rattle.branches.specs.Area.{Stored, Held, with-open, capacity}
 use Rattle.branches.proofs.AreaLaws.{storable-member}
-use Rattle.steps.specs.Pending.{Has-left}
-use Rattle.steps.proofs.TakeLaws.{has-Q, has-P, took-Q, took-P}
-use Rattle.steps.proofs.take.Statement.{statement}
-use Rattle.steps.proofs.take.Tie as tie
+use Rattle.members.specs.Members.{Has-left}
+use Rattle.members.proofs.TakeLaws.{has-Q, has-P, took-Q, took-P}
+use Rattle.members.proofs.take.Statement.{statement}
+use Rattle.members.proofs.take.Tie as tie
 
 -- ── the places ──
 abbrev entry-Q : tie.Then1 → tie.Start

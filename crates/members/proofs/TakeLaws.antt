@@ -9,7 +9,7 @@ use Rattle.polynomials.specs.Packed.{terms}
 use Rattle.records.specs.Records.{Rec}
 use Rattle.branches.specs.Area.{Stored, Held, Leaves, with-open, put-into-P, put-into-Q, without-P, without-Q}
 use Rattle.representation.specs.Represent.{Sound}
-use Rattle.steps.specs.Pending.{Has-left, Has-behind, next-member, taken-out, put-in}
+use Rattle.members.specs.Members.{Has-left, Has-behind, next-member, taken-out, put-in}
 
 -- n words of r are the next member, which is out of the area.
 abbrev pub Took : Bool → ℕ → ℕ → Stored → List Stored → List Stored → ℕ → List ℕ → List Rec → ℕ → Type 0

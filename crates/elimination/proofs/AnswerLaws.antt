@@ -18,8 +18,8 @@ use Rattle.branches.specs.Area.{Stored, Held}
 use Rattle.representation.specs.Represent.{All-listed, system-of}
 use Rattle.writing.specs.Listed.{listing-of}
 use Rattle.elimination.specs.declared.Answer.{Answer}
-use Rattle.elimination.specs.declared.Outcome.the-variants.{Systems, Refused}
-use Rattle.elimination.specs.Answer.{Ran}
+use Rattle.run.specs.declared.Outcome.the-variants.{Systems, Refused}
+use Rattle.run.specs.Stretch.{steps-of, outcome-of, Ran}
 use Rattle.elimination.specs.Delivered.{Delivered}
 
 -- What is known of the records that the list of the systems in the work area needs.
@@ -27,20 +27,23 @@ abbrev pub Needs : List Rec → ℕ → ℕ → Type 0
 Needs v most m = (ss : List Stored) → Held v most (record { branches = []; systems = ss }) → All-listed ss → m ≡ list-records (reverse (map system-of ss))
 
 module _ {p : ℕ} {r : Answer} {v : List Rec} {most : ℕ} where
-  pub refused-run : {e : Ended} {why : Reason} {at : ℕ} (t : Input) (room : ℕ) (out : List ℕ) → Ran e p r v most → r .outcome ≡ Refused why at
+  whole : {e : Ended} → Ran e p (r .steps) (r .outcome) v most → r ≡ record { steps = steps-of e; outcome = outcome-of e }
+  whole x i = record { steps = x .steps i; outcome = x .outcome i }
+
+  pub refused-run : {e : Ended} {why : Reason} {at : ℕ} (t : Input) (room : ℕ) (out : List ℕ) → Ran e p (r .steps) (r .outcome) v most → r .outcome ≡ Refused why at
       → Delivered (delivered room t e) r out out
   refused-run {e = finished n ss} t room out x o =
-      let a = x .answer in absurd (let z : _≡_ {A = ℕ} 0 1 = cc in omega arith)
-  refused-run {e = refused n why} t room out x o = record { answer = x .answer; output = refl }
+      let a = x .outcome in absurd (let z : _≡_ {A = ℕ} 0 1 = cc in omega arith)
+  refused-run {e = refused n why} t room out x o = record { answer = whole x; output = refl }
 
   -- The systems that a finished run leaves.
-  pub left-systems : {e : Ended} {n : ℕ} → Ran e p r v most → r .outcome ≡ Systems n
+  pub left-systems : {e : Ended} {n : ℕ} → Ran e p (r .steps) (r .outcome) v most → r .outcome ≡ Systems n
       → (ss : List Stored) × Held v most (record { branches = []; systems = ss }) × All-listed ss
   left-systems {e = finished n ss} x o = let l = x .left in (l .0, l .1, l .2 .listed)
   left-systems {e = refused n why} x o =
-      let a = x .answer in absurd (let z : _≡_ {A = ℕ} 0 1 = cc in omega arith)
+      let a = x .outcome in absurd (let z : _≡_ {A = ℕ} 0 1 = cc in omega arith)
 
-  pub too-long : {e : Ended} {n : ℕ} (t : Input) (room m : ℕ) (out : List ℕ) → Ran e p r v most → r .outcome ≡ Systems n → Needs v most m → room < m
+  pub too-long : {e : Ended} {n : ℕ} (t : Input) (room m : ℕ) (out : List ℕ) → Ran e p (r .steps) (r .outcome) v most → r .outcome ≡ Systems n → Needs v most m → room < m
       → Delivered (delivered room t e) (record { steps = r .steps; outcome = Refused Output 0 }) out out
   too-long {e = finished n ss} t room m out x o needs h =
       let l = x .left in
@@ -50,11 +53,11 @@ module _ {p : ℕ} {r : Answer} {v : List Rec} {most : ℕ} where
       ap (λ (b : Bool). elim b as (λ b. Eliminated) [ true ↦ turned-back n Output 0 | false ↦ listed n ss words ])
       (lt-ltb room (list-records ss) (omega arith)) in
       subst (λ (d : Eliminated). Delivered d (record { steps = r .steps; outcome = Refused Output 0 }) out out) (sym is)
-      (record { answer = ap (λ (a : Answer). record { steps = a .steps; outcome = Refused Output 0 }) (x .answer); output = refl })
+      (record { answer = ap (λ (a : Answer). record { steps = a .steps; outcome = Refused Output 0 }) (whole x); output = refl })
   too-long {e = refused n why} t room m out x o needs h =
-      let a = x .answer in absurd (let z : _≡_ {A = ℕ} 0 1 = cc in omega arith)
+      let a = x .outcome in absurd (let z : _≡_ {A = ℕ} 0 1 = cc in omega arith)
 
-  pub list-written : {e : Ended} {n : ℕ} (t : Input) (room m q k : ℕ) (out out' : List ℕ) → Ran e p r v most → r .outcome ≡ Systems n → Needs v most m
+  pub list-written : {e : Ended} {n : ℕ} (t : Input) (room m q k : ℕ) (out out' : List ℕ) → Ran e p (r .steps) (r .outcome) v most → r .outcome ≡ Systems n → Needs v most m
       → m ≤ room → t .modulus ≡ q → t .variables ≡ k
       → ((ss : List Stored) → Held v most (record { branches = []; systems = ss })
       → out' ≡ list-words (listing-of q k ss) ++ drop (4 * list-records (reverse (map system-of ss))) out) → Delivered (delivered room t e) r out out'
@@ -69,6 +72,6 @@ module _ {p : ℕ} {r : Answer} {v : List Rec} {most : ℕ} where
       let written : out' ≡ words ++ drop (4 * list-records ss) out =
       w (l .0) (l .1) ∙ (λ i. list-words (record { modulus = sym eq i; variables = sym ek i; systems = l .3 i }) ++ drop (4 * list-records (l .3 i)) out) in
       subst (λ (d : Eliminated). Delivered d r out out') (sym is)
-      (record { answer = x .answer; output = written ∙ ap (λ (c : ℕ). words ++ drop c out) (sym long) })
+      (record { answer = whole x; output = written ∙ ap (λ (c : ℕ). words ++ drop c out) (sym long) })
   list-written {e = refused n why} t room m q k out out' x o needs h eq ek w =
-      let a = x .answer in absurd (let z : _≡_ {A = ℕ} 0 1 = cc in omega arith)
+      let a = x .outcome in absurd (let z : _≡_ {A = ℕ} 0 1 = cc in omega arith)

@@ -2,7 +2,6 @@
 use mathlib.Core.Path.{_≡_, sym, subst}
 use Prim.Native.Nat.{ℕ, _-_, _≤_}
 use mathlib.Core.List.{List}
-use native.Mathlib.Omega.{arith}
 use native.Mathlib.Nat.{sub-zero}
 use lib.ListN.{length}
 use Rattle.records.specs.Records.{view}
@@ -12,35 +11,28 @@ use Rattle.rules.specs.Run.{Ended, run}
 use Rattle.representation.specs.Represent.{state-of}
 use Rattle.representation.specs.Ready.{Ready, limits-in}
 use Rattle.elimination.specs.declared.Answer.{Answer}
-use Rattle.elimination.specs.declared.Outcome.{Outcome}
-use Rattle.elimination.specs.declared.run.Ending.{Ending}
-use Rattle.elimination.specs.declared.run.Ending.the-variants.{Final, Paused}
-use Rattle.elimination.specs.declared.run.Stretch.{Stretch}
-use Rattle.elimination.specs.Answer.{Ran, Stretched, Stretches}
+use Rattle.run.specs.declared.Outcome.{Outcome}
+use Rattle.run.specs.declared.Ending.{Ending}
+use Rattle.run.specs.declared.Ending.the-variants.{Final, Paused}
+use Rattle.run.specs.declared.Stretch.{Stretch}
+use Rattle.run.specs.Stretch.{Ran, Stretched}
+use Rattle.run.proofs.RunLaws.{Answers}
 
--- q is the stretch of the run, or the answer to it, from every state that w held, `from` steps being done; v is the area then.
-abbrev pub Answers : ℕ → ℕ → ℕ → List ℕ → Stretch → List ℕ → Type 0
-Answers p limit from w q v =
-    (a : Area) → Held (view w) (capacity w) a → Ready p a
-    → Stretches (run (limits-in (capacity w)) p (limit - from) from (state-of a)) p limit q (view v) (capacity w)
-
+-- q answers the run from every state that w held, `from` steps being done; v is the area then.
 abbrev pub Runs-to : ℕ → ℕ → ℕ → List ℕ → Answer → List ℕ → Type 0
 Runs-to p limit from w q v =
     (a : Area) → Held (view w) (capacity w) a → Ready p a
-    → Ran (run (limits-in (capacity w)) p (limit - from) from (state-of a)) p q (view v) (capacity w)
+    → Ran (run (limits-in (capacity w)) p (limit - from) from (state-of a)) p (q .steps) (q .outcome) (view v) (capacity w)
 
 -- The same, from the run's first step.
 abbrev pub Runs : ℕ → ℕ → List ℕ → Answer → List ℕ → Type 0
 Runs p limit w q v =
-    (a : Area) → Held (view w) (capacity w) a → Ready p a → Ran (run (limits-in (capacity w)) p limit 0 (state-of a)) p q (view v) (capacity w)
+    (a : Area) → Held (view w) (capacity w) a → Ready p a → Ran (run (limits-in (capacity w)) p limit 0 (state-of a)) p (q .steps) (q .outcome) (view v) (capacity w)
 
 pub runs-from-0 : (p limit : ℕ) (w : List ℕ) (q : Answer) (v : List ℕ) → Runs-to p limit 0 w q v → Runs p limit w q v
 runs-from-0 p limit w q v =
     subst (λ (n : ℕ). (a : Area) → Held (view w) (capacity w) a → Ready p a
-    → Ran (run (limits-in (capacity w)) p n 0 (state-of a)) p q (view v) (capacity w)) (sub-zero limit)
-
-pub final-not-paused : {A : Type 0} {o : Outcome} → Final o ≡ Paused → A
-final-not-paused e = absurd (let z : _≡_ {A = ℕ} 0 1 = cc in omega arith)
+    → Ran (run (limits-in (capacity w)) p n 0 (state-of a)) p (q .steps) (q .outcome) (view v) (capacity w)) (sub-zero limit)
 
 -- What a call of `run` has told.
 pub record Told (p limit from : ℕ) (w : List ℕ) (q : Stretch) (v : List ℕ) : Type 0 where
@@ -74,6 +66,6 @@ module _ {p limit from : ℕ} {w : List ℕ} {q : Stretch} {v : List ℕ} (S : T
     stretch-goes-on r u G a H R =
         let b = by-ending Paused k a H R .1 in
         let on =
-        subst (λ (m : ℕ). Held (view v) m (b .0) → Ran (run (limits-in m) p (limit - q .steps) (q .steps) (state-of (b .0))) p r (view u) m) kept
+        subst (λ (m : ℕ). Held (view v) m (b .0) → Ran (run (limits-in m) p (limit - q .steps) (q .steps) (state-of (b .0))) p (r .steps) (r .outcome) (view u) m) kept
         (λ h. G (b .0) h (b .2)) in
-        subst (λ (E : Ended). Ran E p r (view u) (capacity w)) (b .3) (on (b .1))
+        subst (λ (E : Ended). Ran E p (r .steps) (r .outcome) (view u) (capacity w)) (b .3) (on (b .1))

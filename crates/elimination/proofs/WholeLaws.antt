@@ -17,9 +17,9 @@ use Rattle.rules.specs.Eliminate.{Eliminated, turned-back, delivered, eliminate
 use Rattle.branches.specs.Area.{Area, Held, capacity}
 use Rattle.representation.specs.Represent.{state-of}
 use Rattle.elimination.specs.declared.Answer.{Answer}
-use Rattle.elimination.specs.declared.Outcome.the-variants.{Refused}
+use Rattle.run.specs.declared.Outcome.the-variants.{Refused}
 use Rattle.representation.specs.Ready.{Ready, limits-in}
-use Rattle.elimination.specs.Answer.{Ran}
+use Rattle.run.specs.Stretch.{Ran}
 use Rattle.loading.specs.Started.{Started}
 use Rattle.elimination.specs.Delivered.{Delivered}
 use Rattle.loading.proofs.StartLaws.{limits-are}
@@ -62,14 +62,14 @@ module _ (t : Input) (most limit : ℕ) {r : Bool} (v : List Rec) (x : Started (
       (a .0, subst (λ (n : ℕ). Held v n (a .0)) (sym m) (a .1), subst (λ (n : ℕ). Ready n (a .0)) q (a .2))
 
   pub run-is : {p most₁ : ℕ} {q : Answer} {u : List Rec} → r ≡ true → t .modulus ≡ p → most₁ ≡ most
-      → ((a : Area) → Held v most₁ a → Ready p a → Ran (run (limits-in most₁) p limit 0 (state-of a)) p q u most₁)
-      → Ran (run-of (limits-in most) limit t) (t .modulus) q u most
+      → ((a : Area) → Held v most₁ a → Ready p a → Ran (run (limits-in most₁) p limit 0 (state-of a)) p (q .steps) (q .outcome) u most₁)
+      → Ran (run-of (limits-in most) limit t) (t .modulus) (q .steps) (q .outcome) u most
   unfolding run-of
   run-is {p = p} {q = q} {u = u} e same m k =
       let a = first-state (start (limits-in most) t) x e in
-      let there = subst (λ (n : ℕ). (a : Area) → Held v n a → Ready p a → Ran (run (limits-in n) p limit 0 (state-of a)) p q u n) m k in
-      let here = subst (λ (n : ℕ). (a : Area) → Held v most a → Ready n a → Ran (run (limits-in most) n limit 0 (state-of a)) n q u most) (sym same) there in
-      subst (λ (s : Stepped). Ran (after-step (run (limits-in most) (t .modulus) limit 0) 0 s) (t .modulus) q u most) (sym (a .3)) (here (a .0) (a .1) (a .2))
+      let there = subst (λ (n : ℕ). (a : Area) → Held v n a → Ready p a → Ran (run (limits-in n) p limit 0 (state-of a)) p (q .steps) (q .outcome) u n) m k in
+      let here = subst (λ (n : ℕ). (a : Area) → Held v most a → Ready n a → Ran (run (limits-in most) n limit 0 (state-of a)) n (q .steps) (q .outcome) u most) (sym same) there in
+      subst (λ (s : Stepped). Ran (after-step (run (limits-in most) (t .modulus) limit 0) 0 s) (t .modulus) (q .steps) (q .outcome) u most) (sym (a .3)) (here (a .0) (a .1) (a .2))
 
 -- Said of the words of the work area.
 pub in-words : (w : List ℕ) (room limit : ℕ) (t : Input) {r : Answer} {before after : List ℕ}

@@ -23,7 +23,7 @@ use Rattle.rules.specs.Eliminate.{Eliminated, listed, turned-back, eliminated, 
 use Rattle.rules.specs.laws.Promised.{says}
 use Rattle.rules.specs.Promise.{ListPromise, PointPromise, promise}
 use Rattle.elimination.specs.declared.Answer.{Answer}
-use Rattle.elimination.specs.declared.Outcome.the-variants.{Systems}
+use Rattle.run.specs.declared.Outcome.the-variants.{Systems}
 use Rattle.elimination.specs.Answer.{answer-of}
 use Rattle.elimination.specs.Numbers.{outcome-numbers}
 

@@ -10,10 +10,10 @@ ghost use Rattle.rules.specs.Run.{Ended};
 ghost use Rattle.rules.specs.Eliminate.{delivered};
 ghost use Rattle.branches.specs.Area.{Stored, Held, capacity};
 ghost use Rattle.representation.specs.Represent.{All-listed, system-of};
-ghost use Rattle.elimination.specs.Answer.{Ran};
+ghost use Rattle.run.specs.Stretch.{Ran};
 ghost use Rattle.elimination.specs.Delivered.{Delivered};
 use crate::Answer;
-use crate::Outcome;
+use run::Outcome;
 use tables::Reason;
 
 // How many records the list of the systems in the work area needs.
@@ -32,9 +32,9 @@ fn list_size(work: &[u32]) -> usize
 
 // The answer of a run on an accepted table, with its list of systems in the first words of the output.
 pub fn deliver(table: &[u32], work: &[u32], output: &mut [u32], ran: Answer) -> Answer
-    requires { ⌜ ((t : Input) × (e : Ended) × (read-table (now table) ≡ good t) × Ran e (t .modulus) ran (view (now work)) (capacity (now work))) ⌝ }
+    requires { ⌜ ((t : Input) × (e : Ended) × (read-table (now table) ≡ good t) × Ran e (t .modulus) (ran .steps) (ran .outcome) (view (now work)) (capacity (now work))) ⌝ }
     ensures { λ r. ⌜ ((t : Input) (e : Ended) → read-table (now (table .entry)) ≡ good t
-        → Ran e (t .modulus) ran (view (now (work .entry))) (capacity (now (work .entry)))
+        → Ran e (t .modulus) (ran .steps) (ran .outcome) (view (now (work .entry))) (capacity (now (work .entry)))
         → Delivered (delivered (length (now (output .entry)) / 4) t e) r (now (output .entry)) (now (output .exit))) ⌝ }
 {
     let outcome = ran.outcome;

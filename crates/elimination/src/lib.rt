@@ -1,6 +1,5 @@
 // Elimination of a table, whole: the run in the lent work area, and the written list.
-pub mod deliver;
-pub mod run;
+mod deliver;
 
 ghost use mathlib.Core.Path.{_≡_};
 ghost use Prim.Native.Nat.{_-_, _/_, _≤_};
@@ -12,17 +11,13 @@ ghost use Rattle.representation.specs.Represent.{state-of};
 ghost use Rattle.rules.specs.Run.{run, run-of};
 ghost use Rattle.rules.specs.Eliminate.{delivered, eliminated, limits-of, output-after};
 ghost use Rattle.representation.specs.Ready.{Ready, Modulus, limits-in};
-ghost use Rattle.elimination.specs.Answer.{Ran, answer-of};
+ghost use Rattle.run.specs.Stretch.{Ran};
+ghost use Rattle.elimination.specs.Answer.{answer-of};
 ghost use Rattle.elimination.specs.Delivered.{Delivered};
 use run::Ending;
+pub use run::Outcome;
 use tables::ReadOutcome;
 use tables::Reason;
-
-// How an elimination ends: with so many systems, or refused for a reason at a record.
-pub enum Outcome {
-    Systems(u32),
-    Refused(Reason, u32),
-}
 
 // The whole steps finished, and the outcome.
 pub struct Answer {
@@ -56,7 +51,7 @@ fn eliminate_accepted(table: &[u32], work: &mut [u32], output: &mut [u32], limit
 fn run_short(work: &mut [u32], p: u64, limit: u32, divided: &mut [u64]) -> Answer
     requires { ⌜ Modulus p × ((a : Area) × Held (view (now work)) (capacity (now work)) a × Ready p a) × (512 ≤ length (now divided)) ⌝ }
     ensures { λ q. ⌜ ((a : Area) → Held (view (now (work .entry))) (capacity (now (work .entry))) a → Ready p a
-        → Ran (run (limits-in (capacity (now (work .entry)))) p limit 0 (state-of a)) p q (view (now (work .exit))) (capacity (now (work .entry)))) ⌝ }
+        → Ran (run (limits-in (capacity (now (work .entry)))) p limit 0 (state-of a)) p (q .steps) (q .outcome) (view (now (work .exit))) (capacity (now (work .entry)))) ⌝ }
 {
     let mut pivot = [0u64; 32];
     let mut initial = [0u64; 32];
@@ -90,7 +85,7 @@ fn run_short(work: &mut [u32], p: u64, limit: u32, divided: &mut [u64]) -> Answe
 fn run_long(work: &mut [u32], p: u64, limit: u32, from: u32) -> Answer
     requires { ⌜ Modulus p × (from ≤ limit) × ((a : Area) × Held (view (now work)) (capacity (now work)) a × Ready p a) ⌝ }
     ensures { λ q. ⌜ ((a : Area) → Held (view (now (work .entry))) (capacity (now (work .entry))) a → Ready p a
-        → Ran (run (limits-in (capacity (now (work .entry)))) p (limit - from) from (state-of a)) p q (view (now (work .exit))) (capacity (now (work .entry)))) ⌝ }
+        → Ran (run (limits-in (capacity (now (work .entry)))) p (limit - from) from (state-of a)) p (q .steps) (q .outcome) (view (now (work .exit))) (capacity (now (work .entry)))) ⌝ }
 {
     let mut pivot = [0u64; 512];
     let mut initial = [0u64; 512];

@@ -10,8 +10,8 @@ use lib.ListN.{length, drop, getD}
 use lib.Seq.{drop-cons, drop-length}
 use Rattle.tables.specs.Reason.{number}
 use Rattle.tables.specs.declared.Reason.{Reason}
-use Rattle.elimination.specs.declared.Outcome.{Outcome}
-use Rattle.elimination.specs.declared.Outcome.the-variants.{Systems, Refused}
+use Rattle.run.specs.declared.Outcome.{Outcome}
+use Rattle.run.specs.declared.Outcome.the-variants.{Systems, Refused}
 use Rattle.elimination_jobs.specs.declared.job.Heading.{Heading}
 use Rattle.elimination_jobs.specs.declared.job.Shape.{Shape}
 use Rattle.elimination_jobs.specs.declared.job.Job.{Job}

@@ -5,7 +5,7 @@ use Prim.Native.Nat.{ℕ, suc, _≤_}
 use lib.Dec.{eqb}
 use lib.ListN.{length}
 use Rattle.elimination.specs.declared.Answer.{Answer}
-use Rattle.elimination.specs.declared.Outcome.{Outcome}
+use Rattle.run.specs.declared.Outcome.{Outcome}
 use Rattle.elimination.specs.Numbers.{outcome-numbers}
 use Rattle.elimination_jobs.specs.declared.job.Heading.{Heading}
 use Rattle.elimination_jobs.specs.declared.job.Job.{Job}

@@ -8,8 +8,8 @@ use lib.ListN.{take, drop}
 use Rattle.lines.specs.Text.{line-text}
 use Rattle.tables.specs.Reason.{number}
 use Rattle.tables.specs.declared.Reason.{Reason}
-use Rattle.elimination.specs.declared.Outcome.{Outcome}
-use Rattle.elimination.specs.declared.Outcome.the-variants.{Systems, Refused}
+use Rattle.run.specs.declared.Outcome.{Outcome}
+use Rattle.run.specs.declared.Outcome.the-variants.{Systems, Refused}
 use Rattle.extent.specs.Extent.{extent}
 use Rattle.triangularize.specs.Said.{records-text, said-of}
 

@@ -5,8 +5,8 @@ use lib.ListN.{take, drop}
 use Rattle.tables.specs.Reason.{number}
 use Rattle.lines.specs.Text.{line-text}
 use Rattle.elimination.specs.declared.Answer.{Answer}
-use Rattle.elimination.specs.declared.Outcome.{Outcome}
-use Rattle.elimination.specs.declared.Outcome.the-variants.{Systems, Refused}
+use Rattle.run.specs.declared.Outcome.{Outcome}
+use Rattle.run.specs.declared.Outcome.the-variants.{Systems, Refused}
 use Rattle.extent.specs.Extent.{extent}
 
 -- "Each written record on a line": so many, from record i on.

@@ -16,7 +16,7 @@ use Rattle.branches.specs.Area.{Area, Held, capacity}
 use Rattle.branches.proofs.LengthLaws.{same-capacity}
 use Rattle.representation.specs.Ready.{Ready, Modulus, limits-in}
 use Rattle.elimination.specs.declared.Answer.{Answer}
-use Rattle.elimination.specs.Answer.{Ran}
+use Rattle.run.specs.Stretch.{Ran}
 use Rattle.loading.specs.Started.{Started}
 use Rattle.loading.proofs.MonicLaws.{readable-modulus}
 use Rattle.tables.specs.laws.Accepted.{TableRead as Chains, table-read as chains}
@@ -118,10 +118,10 @@ module _ (m : tie.Joined2) where
   left-room = sym (same-capacity left (area from-start) (has-run .0) ∙ same-room from-start)
 
   ran : (t : Input) → read-table (entry from-start .args .table .now) ≡ good t
-      → Ran (due (entry from-start) t) (t .modulus) answer (view left) (capacity left)
+      → Ran (due (entry from-start) t) (t .modulus) (answer .steps) (answer .outcome) (view left) (capacity left)
   ran t e =
       let a = entry from-start .args in
-      subst (Ran (due (entry from-start) t) (t .modulus) answer (view left)) left-room
+      subst (Ran (due (entry from-start) t) (t .modulus) (answer .steps) (answer .outcome) (view left)) left-room
       (run-is t (most (entry from-start)) (a .limit) (view (area from-start)) (begun from-start t e) (found-room (run-due m))
       (chains (a .table .now) t e .modulus) (same-room from-start) (has-run .1))
 

@@ -1,7 +1,7 @@
 -- A refusal's number is that of its reason.
 use mathlib.Core.Path.{sym, _∙_, ap}
 use borrow.Author.Needs.{needs}
-use Rattle.elimination.specs.declared.Outcome.{Outcome}
+use Rattle.run.specs.declared.Outcome.{Outcome}
 use Rattle.elimination.specs.Numbers.{outcome-numbers}
 use Rattle.elimination_bench.proofs.outcome_number.Statement.{statement}
 use Rattle.elimination_bench.proofs.outcome_number.Tie as tie

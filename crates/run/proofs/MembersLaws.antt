@@ -33,7 +33,7 @@ use Rattle.representation.specs.laws.Lists.{put-P-nonzero}
 use Rattle.members.proofs.TakeLaws.{Took, Put}
 use Rattle.members.proofs.MemberLaws.{takes, onward, step-put}
 use Rattle.branches.proofs.Unique.{of-every}
-use Rattle.elimination.proofs.Invariants.{rest-in, AtMembers}
+use Rattle.run.proofs.Invariants.{rest-in, AtMembers}
 
 -- ── what stays true of the branch ──
 long-before : (r : List ℕ) (left : ℕ) (fs : List (List ℕ)) → left ≤ length fs → left ≤ length (put-Q-before left r fs)

@@ -20,14 +20,13 @@ use Rattle.steps.specs.declared.Prepared.{Prepared}
 use Rattle.steps.specs.declared.Prepared.the-variants.{Done, Members, Stop}
 use Rattle.representation.specs.Ready.{Ready, limits-in}
 use Rattle.steps.specs.Pending.{Comes, Pivoted, Prepares}
-use Rattle.elimination.specs.declared.Outcome.{Outcome}
-use Rattle.elimination.specs.declared.Outcome.the-variants.{Systems, Refused}
-use Rattle.elimination.specs.declared.run.Ending.the-variants.{Final, Paused}
-use Rattle.elimination.specs.declared.run.Stretch.{Stretch}
-use Rattle.elimination.specs.Answer.{Ran}
-use Rattle.elimination.proofs.StretchLaws.{Answers}
-use Rattle.elimination.proofs.Invariants.{run-in, AtRun, AtMembers, run-ends, run-used, run-steps}
-use Rattle.elimination.proofs.MembersLaws.{Comes-to, members-begin, members-end}
+use Rattle.run.specs.declared.Outcome.{Outcome}
+use Rattle.run.specs.declared.Outcome.the-variants.{Systems, Refused}
+use Rattle.run.specs.declared.Ending.the-variants.{Final, Paused}
+use Rattle.run.specs.declared.Stretch.{Stretch}
+use Rattle.run.specs.Stretch.{Ran, Stretches}
+use Rattle.run.proofs.Invariants.{run-in, AtRun, AtMembers, run-ends, run-used, run-steps}
+use Rattle.run.proofs.MembersLaws.{Comes-to, members-begin, members-end}
 
 -- The step of the open branch b in a work area with so many records.
 abbrev pub step-in : ℕ → ℕ → Stored → List Stored → List Stored → Stepped
@@ -146,6 +145,15 @@ ended n o = record { steps = n; ending = Final o }
 abbrev pub paused : ℕ → Stretch
 paused n = record { steps = n; ending = Paused }
 
+pub final-not-paused : {A : Type 0} {o : Outcome} → Final o ≡ Paused → A
+final-not-paused e = absurd (let z : _≡_ {A = ℕ} 0 1 = cc in omega arith)
+
+-- q is the stretch of the run from every state that w held, `from` steps being done; v is the area then.
+abbrev pub Answers : ℕ → ℕ → ℕ → List ℕ → Stretch → List ℕ → Type 0
+Answers p limit from w q v =
+    (a : Area) → Held (view w) (capacity w) a → Ready p a
+    → Stretches (run (limits-in (capacity w)) p (limit - from) from (state-of a)) p limit q (view v) (capacity w)
+
 module _ {p limit from : ℕ} {w₀ w : List ℕ} {steps : ℕ} (A : AtRun p limit from w₀ w steps) where
   capacity-kept : capacity w ≡ capacity w₀
   capacity-kept = same-capacity w w₀ (A .same)
@@ -170,9 +178,10 @@ module _ {p limit from : ℕ} {w₀ w : List ℕ} {steps : ℕ} (A : AtRun p lim
         sym (s .3) ∙ ap (run-in (capacity w₀) p (limit - steps) steps) c ∙ run-ends (limits-in (capacity w₀)) p steps (limit - steps) ss in
         let count : n ≡ length (reverse (map system-of ss)) =
         e ∙ ap (λ (v : List Rec). getD v 0 nul .w3) (s .1 .is) ∙ sym (length-reverse (map system-of ss) ∙ length-map ss system-of) in
-        subst (λ (E : Ended). Ran E p (record { steps = steps; outcome = Systems n }) (view w) (capacity w₀)) (sym ends) (
+        subst (λ (E : Ended). Ran E p steps (Systems n) (view w) (capacity w₀)) (sym ends) (
         record {
-          answer = ap (λ (n : ℕ). record { steps = steps; outcome = Systems n }) count;
+          steps = refl;
+          outcome = ap Systems count;
           left = (ss, subst (Held (view w) (capacity w₀)) c (s .1), subst (Ready p) c (s .2), refl);
         }
         )
@@ -206,8 +215,8 @@ module _ {p limit from : ℕ} {w₀ w : List ℕ} {steps : ℕ} (A : AtRun p lim
         → ((a₀ : Area) → Held (view w₀) (capacity w₀) a₀ → Ready p a₀ → refused steps why ≡ run-in (capacity w₀) p (limit - from) from a₀)
         → Answers p limit from w₀ (ended steps (Refused why 0)) v
     refused-all why v ends a₀ H₀ R₀ =
-        subst (λ (E : Ended). Ran E p (record { steps = steps; outcome = Refused why 0 }) (view v) (capacity w₀)) (ends a₀ H₀ R₀)
-        (record { answer = refl; left = tt })
+        subst (λ (E : Ended). Ran E p steps (Refused why 0) (view v) (capacity w₀)) (ends a₀ H₀ R₀)
+        (record { steps = refl; outcome = refl; left = tt })
 
     pub run-no-steps : (v : List ℕ) → limit ≤ steps → Answers p limit from w₀ (ended steps (Refused Steps 0)) v
     run-no-steps v h = refused-all Steps v (λ a₀ H₀ R₀.

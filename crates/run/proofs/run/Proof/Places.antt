@@ -9,9 +9,9 @@ use Prim.Native.Nat.{_-_}
 use lib.ListN.{take}
 use Rattle.polynomials.specs.Packed.{terms}
 use Rattle.polynomials.specs.Division as polynomials
-use Rattle.elimination.proofs.Slices.{Slices, slices, Kept, Crowds}
-use Rattle.elimination.proofs.Invariants.{AtRun, AtMembers, AtDivision}
-use Rattle.elimination.proofs.run.run.Tie as tie
+use Rattle.run.proofs.Slices.{Slices, slices, Kept, Crowds}
+use Rattle.run.proofs.Invariants.{AtRun, AtMembers, AtDivision}
+use Rattle.run.proofs.run.Tie as tie
 
 -- ── the loops ──
 abbrev pub Inv-division : tie.InvT-division

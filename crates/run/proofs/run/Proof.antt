@@ -1,4 +1,4 @@
--- `run::run` meets its contract: the answers to what is asked at each line of its code. `Places` has the loops' invariants and the places of the code;
+-- `run` meets its contract: the answers to what is asked at each line of its code. `Places` has the loops' invariants and the places of the code;
 -- `Facts` has what is known there.
 mod Places
 mod Facts
@@ -11,13 +11,12 @@ use lib.Seq.{length-take-le}
 use Rattle.polynomials.specs.Bounds.{degree-passed, terms-passed}
 use Rattle.polynomials.specs.laws.Answers.{formed-degree, formed-terms}
 use Rattle.tables.specs.declared.Reason.the-variants.{Degree, Terms, Room}
-use Rattle.elimination.proofs.Slices.{kept-all, kept-then}
-use Rattle.elimination.proofs.StretchLaws.{final-not-paused}
-use Rattle.elimination.proofs.Invariants.{AtRun, run-begins}
-use Rattle.elimination.proofs.MembersLaws.{members-open, members-left, member-open, member-behind, member-degree, member-terms}
-use Rattle.elimination.proofs.RunLaws.{run-holds-some, run-has-control, run-finished, run-no-steps, run-goes-on}
-use Rattle.elimination.proofs.run.run.Statement.{statement}
-use Rattle.elimination.proofs.run.run.Tie as tie
+use Rattle.run.proofs.Slices.{kept-all, kept-then}
+use Rattle.run.proofs.Invariants.{AtRun, run-begins}
+use Rattle.run.proofs.MembersLaws.{members-open, members-left, member-open, member-behind, member-degree, member-terms}
+use Rattle.run.proofs.RunLaws.{final-not-paused, run-holds-some, run-has-control, run-finished, run-no-steps, run-goes-on}
+use Rattle.run.proofs.run.Statement.{statement}
+use Rattle.run.proofs.run.Tie as tie
 use Places.*
 use Facts.*
 

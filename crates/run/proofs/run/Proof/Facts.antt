@@ -26,24 +26,23 @@ use Rattle.steps.specs.declared.Prepared.{Prepared}
 use Rattle.steps.specs.declared.Prepared.the-variants.{Done, Members, Stop}
 use Rattle.representation.specs.Ready.{Modulus, limits-in}
 use Rattle.steps.specs.Pending.{Pivoted}
-use Rattle.elimination.specs.declared.Outcome.the-variants.{Refused}
-use Rattle.elimination.proofs.Slices.{Kept, kept-then, Suits, suits-kept, Crowds, crowds-kept}
-use Rattle.elimination.proofs.StretchLaws.{Answers}
-use Rattle.elimination.proofs.Invariants.{AtRun, AtMembers, AtDivision, division-begins, round-less, division-goes-on, division-ends, division-passes}
-use Rattle.elimination.proofs.MembersLaws.{AtMember, PutBack, Comes-to, member-taken, member-inside, member-holds, member-put, member-not-put}
-use Rattle.elimination.proofs.RunLaws.{Goes-to, Stops, Some-open, All-open, None-open, ended, paused, run-open-some, run-paused, run-stopped}
-use Rattle.elimination.proofs.RunLaws.{Preparation, Pivot-in, prepared-as, prepared-done, prepared-stop, prepared-pivot}
-use Rattle.elimination.proofs.RunLaws.{members-first, members-done, members-stop}
-use Rattle.elimination.proofs.run.run.Proof.Places.{Entry, RunTurn, NoneOpen, BranchOpen, RunCrowded, StepPrepared, PivotCrowded, StepStopped}
-use Rattle.elimination.proofs.run.run.Proof.Places.{MembersFound, MembersTurn, MemberTaken, DivisionTurn, RoundDue, RoundTried, RoundDone}
-use Rattle.elimination.proofs.run.run.Proof.Places.{WordsFormed, MemberDivided, MemberPut, StepDone}
-use Rattle.elimination.proofs.run.run.Proof.Places.{to-entry, none-in, to-turn, crowded-run, to-step, open-of, to-due, to-run}
-use Rattle.elimination.proofs.run.run.Proof.Places.{crowded-in, stopped-in, to-prepared, run-of, entry-of}
-use Rattle.elimination.proofs.run.run.Proof.Places.{to-found, to-left, to-members, found-of, to-taken, division-of, to-division}
-use Rattle.elimination.proofs.run.run.Proof.Places.{tried-of, to-tried, to-round, round-of, to-rounded, divided-in, to-divided, put-of, done-in}
-use Rattle.elimination.proofs.run.run.Proof.Places.{prepare-call, take-call, round-call, put-call}
-use Rattle.elimination.proofs.run.run.Proof.Places.{at-entry, at-turn, at-prepared, at-found, at-members}
-use Rattle.elimination.proofs.run.run.Proof.Places.{at-taken, at-division, at-rounded, at-put, at-done}
+use Rattle.run.specs.declared.Outcome.the-variants.{Refused}
+use Rattle.run.proofs.Slices.{Kept, kept-then, Suits, suits-kept, Crowds, crowds-kept}
+use Rattle.run.proofs.Invariants.{AtRun, AtMembers, AtDivision, division-begins, round-less, division-goes-on, division-ends, division-passes}
+use Rattle.run.proofs.MembersLaws.{AtMember, PutBack, Comes-to, member-taken, member-inside, member-holds, member-put, member-not-put}
+use Rattle.run.proofs.RunLaws.{Goes-to, Stops, Some-open, All-open, None-open, ended, paused, Answers, run-open-some, run-paused, run-stopped}
+use Rattle.run.proofs.RunLaws.{Preparation, Pivot-in, prepared-as, prepared-done, prepared-stop, prepared-pivot}
+use Rattle.run.proofs.RunLaws.{members-first, members-done, members-stop}
+use Rattle.run.proofs.run.Proof.Places.{Entry, RunTurn, NoneOpen, BranchOpen, RunCrowded, StepPrepared, PivotCrowded, StepStopped}
+use Rattle.run.proofs.run.Proof.Places.{MembersFound, MembersTurn, MemberTaken, DivisionTurn, RoundDue, RoundTried, RoundDone}
+use Rattle.run.proofs.run.Proof.Places.{WordsFormed, MemberDivided, MemberPut, StepDone}
+use Rattle.run.proofs.run.Proof.Places.{to-entry, none-in, to-turn, crowded-run, to-step, open-of, to-due, to-run}
+use Rattle.run.proofs.run.Proof.Places.{crowded-in, stopped-in, to-prepared, run-of, entry-of}
+use Rattle.run.proofs.run.Proof.Places.{to-found, to-left, to-members, found-of, to-taken, division-of, to-division}
+use Rattle.run.proofs.run.Proof.Places.{tried-of, to-tried, to-round, round-of, to-rounded, divided-in, to-divided, put-of, done-in}
+use Rattle.run.proofs.run.Proof.Places.{prepare-call, take-call, round-call, put-call}
+use Rattle.run.proofs.run.Proof.Places.{at-entry, at-turn, at-prepared, at-found, at-members}
+use Rattle.run.proofs.run.Proof.Places.{at-taken, at-division, at-rounded, at-put, at-done}
 
 -- ── the function begins ──
 module _ (m : Entry) where

@@ -8,13 +8,18 @@ ghost use Rattle.branches.specs.Area.{Area, Held, capacity};
 ghost use Rattle.rules.specs.Run.{run};
 ghost use Rattle.representation.specs.Represent.{state-of};
 ghost use Rattle.representation.specs.Ready.{Ready, Modulus, limits-in};
-ghost use Rattle.elimination.specs.Answer.{Stretches};
-ghost use Rattle.elimination.specs.declared.run.Ending.the-variants.{Paused};
-use crate::Outcome;
+ghost use Rattle.run.specs.Stretch.{Stretches};
+ghost use Rattle.run.specs.declared.Ending.the-variants.{Paused};
 use branches::turn;
 use polynomials::Formed;
 use steps::Prepared;
 use tables::Reason;
+
+// How an elimination ends: with so many systems, or refused for a reason at a record.
+pub enum Outcome {
+    Systems(u32),
+    Refused(Reason, u32),
+}
 
 // How a stretch of the run ends: with the run's outcome, or with a pause between two steps, where the lent scratch is too short.
 pub enum Ending {

@@ -1,8 +1,4 @@
-// Products, gathered in temporary buffers: a row, one term of the shorter factor times the other, is added at a time.
-//
-// What is gathered can pass 256 terms and come back by cancelling. But a row cancels no more terms than it has, so the gathering
-// stops once the rows left can't bring it back: half of all term products is the most that a buffer must hold. Mostly it is far less:
-// a gathering goes on until a row finds no room, and only then starts anew in longer buffers.
+// Products by the rows of the shorter factor: gathered in the lent buffers, and where these are too short anew in longer ones.
 ghost use mathlib.Core.Path.{_≡_};
 ghost use mathlib.Core.Bool.{false};
 ghost use Prim.Native.Nat.{_≤_, _<_};
@@ -11,16 +7,9 @@ ghost use Rattle.polynomials.specs.Poly.{product};
 ghost use Rattle.polynomials.specs.Bounds.{standard, at-most, bounded-product, degrees-over, tested};
 ghost use Rattle.polynomials.specs.Packed.{terms};
 ghost use Rattle.polynomials.specs.Working.{Holds, Forms};
-ghost use Rattle.products.specs.Gathers.{Gathers, room-for};
 ghost use Rattle.products.specs.Lent.{lent-for-product};
+use gathering::Gathered;
 use polynomials::Formed;
-
-// How a gathering ends: with so many words, with more than 256 terms certain, or where the lent buffers are too short.
-pub enum Gathered {
-    Words(usize),
-    OverTerms,
-    Short,
-}
 
 // f times g, in the first words of x; z is lent besides. Stack: none to speak of where x and z hold what is gathered, as they do wherever
 // all term products fit; else 1.1 MiB, of which 128 KiB are cleared up to 8,192 words.
@@ -59,7 +48,7 @@ fn rows(p: u64, f: &[u64], g: &[u64], x: &mut [u64], z: &mut [u64]) -> Formed
     if f.len() == 2 {
         return Formed::Words(sums::add_multiple(p, f[0], f[1], g, &f[..0], x));
     }
-    let ended = gather(p, f, g, x, z);
+    let ended = gathering::gather(p, f, g, x, z);
     match ended {
         Gathered::Words(n) => Formed::Words(n),
         Gathered::OverTerms => Formed::OverTerms,
@@ -67,39 +56,7 @@ fn rows(p: u64, f: &[u64], g: &[u64], x: &mut [u64], z: &mut [u64]) -> Formed
     }
 }
 
-// The rows of f added up, from the last on, in x and z by turns: at the end in x. It ends early where a row finds no room;
-// x has room for one.
-fn gather(p: u64, f: &[u64], g: &[u64], x: &mut [u64], z: &mut [u64]) -> Gathered
-    requires { ⌜ (1 ≤ p) × (p < 2147483648) ⌝ }
-    requires { ⌜ Holds p (now f) × (0 < length (now f)) ⌝ }
-    requires { ⌜ Holds p (now g) × (degrees-over (at-most 255) (terms (now f)) (terms (now g)) ≡ false) ⌝ }
-    requires { ⌜ length (now g) ≤ length (now x) ⌝ }
-    ensures { λ r. ⌜ Gathers (product p (terms (now (f .entry))) (terms (now (g .entry)))) (room-for (length (now (f .entry))) (length (now (g .entry)))) r (now (x .exit)) (now (z .exit)) ⌝ }
-{
-    let mut i = f.len();
-    let mut n = 0;
-    if i % 4 == 2 {
-        i -= 2;
-        n = sums::add_multiple(p, f[i], f[i + 1], g, &f[..0], x);
-    }
-    while 0 < i {
-        i -= 4;
-        if z.len() < n + g.len() {
-            return Gathered::Short;
-        }
-        let m = sums::add_multiple(p, f[i + 2], f[i + 3], g, &x[..n], z);
-        if x.len() < m + g.len() {
-            return Gathered::Short;
-        }
-        n = sums::add_multiple(p, f[i], f[i + 1], g, &z[..m], x);
-        if 512 + i / 2 * g.len() < n {
-            return Gathered::OverTerms;
-        }
-    }
-    Gathered::Words(n)
-}
-
-// `gather` in buffers of its own.
+// `gathering::gather` in buffers of its own.
 fn gather_apart(p: u64, f: &[u64], g: &[u64], x: &mut [u64]) -> Formed
     requires { ⌜ (1 ≤ p) × (p < 2147483648) ⌝ }
     requires { ⌜ Holds p (now f) × (0 < length (now f)) ⌝ }
@@ -109,7 +66,7 @@ fn gather_apart(p: u64, f: &[u64], g: &[u64], x: &mut [u64]) -> Formed
 {
     let mut a = [0u64; 8192];
     let mut b = [0u64; 8192];
-    let ended = gather(p, f, g, &mut a, &mut b);
+    let ended = gathering::gather(p, f, g, &mut a, &mut b);
     match ended {
         Gathered::Words(n) => {
             sums::copy(&a[..n], 0, x, 0);
@@ -120,7 +77,7 @@ fn gather_apart(p: u64, f: &[u64], g: &[u64], x: &mut [u64]) -> Formed
     }
 }
 
-// `gather` in buffers that hold whatever is gathered: it is never `Short` here.
+// `gathering::gather` in buffers that hold whatever is gathered: it is never `Short` here.
 fn gather_large(p: u64, f: &[u64], g: &[u64], x: &mut [u64]) -> Formed
     requires { ⌜ (1 ≤ p) × (p < 2147483648) ⌝ }
     requires { ⌜ Holds p (now f) × (0 < length (now f)) ⌝ }
@@ -130,7 +87,7 @@ fn gather_large(p: u64, f: &[u64], g: &[u64], x: &mut [u64]) -> Formed
 {
     let mut a = [0u64; 66816];
     let mut b = [0u64; 66816];
-    let ended = gather(p, f, g, &mut a, &mut b);
+    let ended = gathering::gather(p, f, g, &mut a, &mut b);
     match ended {
         Gathered::Words(n) => {
             sums::copy(&a[..n], 0, x, 0);

@@ -12,7 +12,7 @@ use Rattle.products.proofs.ProductLaws.{exchanged, lent-exchanged, row-
 use Rattle.products.proofs.rows.Reads as rows
 use Rattle.products.proofs.rows.Kinds as rows-kinds
 use Rattle.products.proofs.+rows.Lts-rows as rows-lts
-use Rattle.products.proofs.gather.Reads as gather-reads
+use Rattle.gathering.proofs.gather.Reads as gather-reads
 use Rattle.products.proofs.gather_apart.Reads as gather-apart-reads
 use Rattle.sums.proofs.add_multiple.Reads as add-multiple-reads
 use Rattle.products.proofs.+rows.{statement}

@@ -1,4 +1,4 @@
--- `products::gather` meets its contract. The invariant, `Gathering`: x holds the product of the rows from word i on, an even number of them is left, and
+-- `gather` meets its contract. The invariant, `Gathering`: x holds the product of the rows from word i on, an even number of them is left, and
 -- those can still bring it back to 256 terms. The measure is i.
 use borrow.Author.Needs.{needs}
 use native.Mathlib.Omega.{arith}
@@ -7,9 +7,9 @@ use mathlib.Core.Logic.{⊎-elim, inl, inr}
 use Prim.Native.Nat.{ℕ, _+_, _-_, _*_, _/_, _≤_}
 use lib.ListN.{length}
 use lib.Seq.{length-take-le}
-use Rattle.products.proofs.ProductLaws.{Gathering, small, first-asks, first-gathering, none-gathering, no-room, upper-asks, upper-words, lower-asks, again, stopped, gathered}
-use Rattle.products.proofs.gather.Statement.{statement}
-use Rattle.products.proofs.gather.Tie as tie
+use Rattle.gathering.proofs.GatherLaws.{Gathering, small, first-asks, first-gathering, none-gathering, no-room, upper-asks, upper-words, lower-asks, again, stopped, gathered}
+use Rattle.gathering.proofs.gather.Statement.{statement}
+use Rattle.gathering.proofs.gather.Tie as tie
 
 abbrev Inv-loop : tie.InvT-loop
 Inv-loop p f g x₀ z₀ i₀ n₀ x z i n = Gathering p f g x₀ z₀ x z i n

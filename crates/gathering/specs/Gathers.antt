@@ -7,8 +7,8 @@ use Rattle.polynomials.specs.Poly.{Poly}
 use Rattle.polynomials.specs.Bounds.{standard, tested}
 use Rattle.polynomials.specs.Working.{Forms}
 use Rattle.polynomials.specs.declared.Formed.the-variants as formed
-use Rattle.products.specs.declared.Gathered.{Gathered}
-use Rattle.products.specs.declared.Gathered.the-variants.{Words, OverTerms, Short}
+use Rattle.gathering.specs.declared.Gathered.{Gathered}
+use Rattle.gathering.specs.declared.Gathered.the-variants.{Words, OverTerms, Short}
 
 -- The words that a buffer must have to hold what is gathered of factors of a and b words: all term products, or half of them with two rows and 256 words more.
 abbrev pub room-for : ℕ → ℕ → ℕ

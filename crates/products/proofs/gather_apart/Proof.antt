@@ -27,7 +27,7 @@ gather-requires c κs =
     (s .pre .0, (s .pre .1 .0, (s .pre .1 .1 .0, omega (arith, s .pre .1 .1 .0 .0 .few))))
 
 enum-known-ended : tie.Need-enum-known-ended
-enum-known-ended c = search needs
+enum-known-ended c = c .match .keys1
 
 array-share-prefix-a : tie.Need-array-share-prefix-a
 array-share-prefix-a c =
@@ -49,16 +49,16 @@ copy-requires c κs =
     copy-asks _ _ _ (s .args .x .now) w (s .pre .1 .1 .1)
 
 enum-told : tie.Need-enum-told
-enum-told c = search needs
+enum-told c = c .match .keys2
 
 enum-told-2 : tie.Need-enum-told-2
-enum-told-2 c = search needs
+enum-told-2 c = c .match .keys3
 
 gather-large-requires : tie.Need-gather-large-requires
 gather-large-requires c κs = search needs
 
 same-length : tie.Need-same-length
-same-length c = search needs
+same-length c = c .before .before .copy .kept .1 .1 .0
 
 returns : tie.Need-returns
 returns c =

@@ -1,5 +1,7 @@
 -- `products::gather_large` meets its contract: what `gather` forms in a local buffer is copied. 66,816 words suffice for any two factors.
-use mathlib.Core.Path.{sym}
+use mathlib.Core.Path.{_≡_, sym, _∙_, subst}
+use Prim.Native.Nat.{ℕ, _≤_}
+use lib.ListN.{length, replicate, length-replicate}
 use native.Mathlib.Omega.{arith}
 use borrow.Author.Needs.{needs}
 use lib.Seq.{length-take-le}
@@ -14,12 +16,16 @@ entry c = c .before .before .before .before .before .before
 abbrev gathered : tie.After-ended → tie.After-gather
 gathered c = c .before .before .before .before
 
+-- A buffer keeps its length. That of so many words is had by the law, not by counting them out.
+room : {a n need : ℕ} → a ≡ length (replicate {A = ℕ} n 0) → need ≤ n → need ≤ a
+room {a} {n} {need} e h = subst (λ k. need ≤ k) (sym (e ∙ length-replicate {A = ℕ} n 0)) h
+
 -- ── the needs ──
 slice-aggregate-gather : tie.Need-slice-aggregate-gather
-slice-aggregate-gather c = search needs
+slice-aggregate-gather c = sym (length-replicate {A = ℕ} _ 0)
 
 slice-aggregate-gather-2 : tie.Need-slice-aggregate-gather-2
-slice-aggregate-gather-2 c = search needs
+slice-aggregate-gather-2 c = sym (length-replicate {A = ℕ} _ 0)
 
 gather-requires : tie.Need-gather-requires
 gather-requires c κs =
@@ -27,7 +33,7 @@ gather-requires c κs =
     (s .pre .0, (s .pre .1 .0, (s .pre .1 .1 .0, omega (arith, s .pre .1 .1 .0 .0 .few))))
 
 enum-known-ended : tie.Need-enum-known-ended
-enum-known-ended c = search needs
+enum-known-ended c = c .match .keys1
 
 array-share-prefix-a : tie.Need-array-share-prefix-a
 array-share-prefix-a c =
@@ -49,13 +55,13 @@ copy-requires c κs =
     copy-asks _ _ _ (s .args .x .now) w (s .pre .1 .1 .1)
 
 enum-told : tie.Need-enum-told
-enum-told c = search needs
+enum-told c = c .match .keys2
 
 enum-told-2 : tie.Need-enum-told-2
-enum-told-2 c = search needs
+enum-told-2 c = c .match .keys3
 
 same-length : tie.Need-same-length
-same-length c = search needs
+same-length c = c .before .before .copy .kept .1 .1 .0
 
 returns : tie.Need-returns
 returns c =
@@ -71,7 +77,7 @@ returns-3 c =
     let s = c .before .before .before .before .before .before .before .before .before .before in
     let enough = buffers-suffice _ _ (s .pre .1 .0 .0 .few) (s .pre .1 .1 .0 .0 .few) in
     let g = c .before .before .before .before .gather in
-    absurd (never-short _ _ _ _ _ (g .ensures) (c .enum-told2 .given .1) (omega (arith, enough, g .kept)) (omega (arith, enough, g .kept)))
+    absurd (never-short _ _ _ _ _ (g .ensures) (c .enum-told2 .given .1) (room (g .kept .1 .1 .1 .0) enough) (room (g .kept .1 .1 .1 .1 .0) enough))
 
 pub gather-large-spec : {M : Type 1} → statement M
 gather-large-spec =

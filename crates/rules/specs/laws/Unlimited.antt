@@ -1,5 +1,5 @@
 -- A run that finished is the run without limits, given as many steps. So an accepted list and its count of steps are the table's alone.
-use mathlib.Core.Path.{_≡_, refl, sym, _∙_, ap, subst}
+use mathlib.Core.Path.{_≡_, refl, sym, _∙_, ap, ap₂}
 use mathlib.Core.List.{List, [], _∷_}
 use Prim.Native.Nat.{ℕ, zero, suc, _+_, _≤_}
 use native.Mathlib.Omega.{arith}
@@ -125,11 +125,6 @@ accepted-alike w work work′ output output′ limit limit′ n n′ ss ss′ wo
     let d = listed-delivered w work output limit n ss words e in
     let d′ = listed-delivered w work′ output′ limit′ n′ ss′ words′ e′ in
     let q : good (d .input) ≡ good (d′ .input) = sym (d .accepted) ∙ d′ .accepted in
-    let same : d .input ≡ d′ .input = cc in
-    go (d .input) (d′ .input) same (d .ended) (d′ .ended) (d .written) (d′ .written)
-  where
-    go : (t t′ : Input) → t ≡ t′ → run-of (limits-of work) limit t ≡ finished n ss → run-of (limits-of work′) limit′ t′ ≡ finished n′ ss′ →
-        words ≡ list-words (listing t ss) → words′ ≡ list-words (listing t′ ss′) → (n ≡ n′) × (ss ≡ ss′) × (words ≡ words′)
-    go t t′ q f f′ g g′ =
-        let same = finished-alike (limits-of work) (limits-of work′) limit limit′ t n n′ ss ss′ f (subst (λ (u : Input). run-of (limits-of work′) limit′ u ≡ finished n′ ss′) (sym q) f′) in
-        (same .0, same .1, cc)
+    let t : d .input ≡ d′ .input = cc in
+    let same = finished-alike (limits-of work) (limits-of work′) limit limit′ (d .input) n n′ ss ss′ (d .ended) (ap (run-of (limits-of work′) limit′) t ∙ d′ .ended) in
+    (same .0, same .1, d .written ∙ ap₂ (λ t ss. list-words (listing t ss)) t (same .1) ∙ sym (d′ .written))

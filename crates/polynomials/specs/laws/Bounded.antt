@@ -138,9 +138,6 @@ canonical-round p h k d G R = canonical-difference p _ (product p (factor k d R)
 pub product-few : (p : ℕ) (f g h : Poly) → bounded-product standard p f g ≡ within h → length h ≤ 256
 product-few p f g h e = over-at-most 256 (length h) (product-formed standard p f g h e .few)
 
-pub difference-few : (p : ℕ) (f g h : Poly) → bounded-difference standard p f g ≡ within h → length h ≤ 256
-difference-few p f g h e = over-at-most 256 (length h) (difference-formed standard p f g h e .few)
-
 pub round-few : (p k d : ℕ) (G R h : Poly) → bounded-round standard p k d G R ≡ within h → length h ≤ 256
 round-few p k d G R h e = over-at-most 256 (length h) (round-formed standard p k d G R h e .few)
 

@@ -10,7 +10,7 @@ use native.Mathlib.Omega.{arith}
 use lib.Dec.{T, eqb, leb, eqb→eq, eqb-refl, leb→le, nleb→lt}
 use lib.ListN.{getD, set}
 use Rattle.residues.specs.Field.{CommRing, cast}
-use Rattle.residues.specs.laws.Ring.{ring-laws, add-nil, nil-add, mul-nil, add-neg}
+use Rattle.residues.specs.laws.Ring.{ring-laws, add-nil, nil-add, add-left-comm, mul-nil, add-neg}
 use Rattle.residues.specs.laws.Residues.{Residues, char}
 use Rattle.polynomials.specs.Poly.{Exponents, Poly, order, join, keep, insert, add-multiple, product}
 use Rattle.polynomials.specs.Canonical.{Canonical, All}
@@ -111,19 +111,16 @@ module _ {ℓ} {K : Type ℓ} (𝓡 : CommRing K) where
       c : K
       c = cast 𝓡 (t .coef)
 
-      law₁ : (m a b : K) → m ⊕ (a ⊕ b) ≡ m ⊕ a ⊕ b
-      law₁ m a b = simp ring-laws
-
-      law₂ : (m a b : K) → m ⊕ (a ⊕ b) ≡ a ⊕ (m ⊕ b)
-      law₂ m a b = simp ring-laws
+      law : (m a b : K) → m ⊕ (a ⊕ b) ≡ m ⊕ a ⊕ b
+      law m a b = simp ring-laws
 
       go : weigh 𝓡 w f ≡ weigh 𝓡 u (coefficient k d f) ⊕ weigh 𝓡 w (without k d f) →
           (b : Bool) → (T b → getD (t .exps) k 0 ≡ d) →
           c ⊗ w (t .exps) ⊕ weigh 𝓡 w f
           ≡ weigh 𝓡 u (elim b [ true ↦ record { coef = t .coef; exps = set (t .exps) k 0 } ∷ coefficient k d f | false ↦ coefficient k d f ])
           ⊕ weigh 𝓡 w (elim b [ true ↦ without k d f | false ↦ t ∷ without k d f ])
-      go ih true q = ap₂ (λ x y. c ⊗ w x ⊕ y) (sym (pure-power-set k d (t .exps) h (q tt))) ih ∙ law₁ (c ⊗ u (set (t .exps) k 0)) (weigh 𝓡 u (coefficient k d f)) (weigh 𝓡 w (without k d f))
-      go ih false q = ap (λ y. c ⊗ w (t .exps) ⊕ y) ih ∙ law₂ (c ⊗ w (t .exps)) (weigh 𝓡 u (coefficient k d f)) (weigh 𝓡 w (without k d f))
+      go ih true q = ap₂ (λ x y. c ⊗ w x ⊕ y) (sym (pure-power-set k d (t .exps) h (q tt))) ih ∙ law (c ⊗ u (set (t .exps) k 0)) (weigh 𝓡 u (coefficient k d f)) (weigh 𝓡 w (without k d f))
+      go ih false q = ap (λ y. c ⊗ w (t .exps) ⊕ y) ih ∙ add-left-comm 𝓡 (c ⊗ w (t .exps)) (weigh 𝓡 u (coefficient k d f)) (weigh 𝓡 w (without k d f))
 
 join-left-comm : (a b c : Exponents) → join a (join b c) ≡ join b (join a c)
 join-left-comm a b c = sym (join-assoc a b c) ∙ ap (λ z. join z c) (join-comm a b) ∙ join-assoc b a c
@@ -264,13 +261,5 @@ degree-product k p f g =
     (λ a b x y. omega (arith, at-join k a b)) (all-degree k (degree k f) f (omega arith)) (all-degree k (degree k g) g (omega arith)))
 
 -- ── degrees of the parts ──
-pub degree-coefficient : (k d : ℕ) (f : Poly) → degree k (coefficient k d f) ≡ 0
-unfolding degree
-degree-coefficient k d f = none (coefficient k d f) (all-coefficient k d f)
-  where
-    none : (g : Poly) → All (λ a. getD a k 0 ≡ 0) g → degree k g ≡ 0
-    none [] u = refl
-    none (t ∷ g) u = omega (arith, u .0, none g (u .1))
-
 pub degree-without : (k d : ℕ) (f : Poly) → 1 ≤ d → degree k f ≤ d → degree k (without k d f) < d
 degree-without k d f l h = low-degree 1 (le-refl 1) k d (without k d f) l (all-without k d f (all-degree k d f h))

@@ -10,7 +10,7 @@ use Rattle.residues.specs.Prime.{Prime}
 use Rattle.residues.specs.Residue.{inverse}
 use Rattle.residues.specs.Field.{CommRing, Field, cast, pow}
 use Rattle.residues.specs.laws.Inverse.{inverse-ok}
-use Rattle.residues.specs.laws.Ring.{cast-one, cast-product, ring-laws, nil-mul, nil-add, add-nil, one-mul, mul-one, mul-nil, mul-comm, mul-zero, pow-nonzero, unit-nonzero}
+use Rattle.residues.specs.laws.Ring.{cast-one, cast-product, ring-laws, nil-mul, nil-add, add-nil, add-left-comm, one-mul, mul-one, mul-nil, mul-comm, mul-left-comm, mul-zero, pow-nonzero, unit-nonzero}
 use Rattle.polynomials.specs.Poly.{Exponents, Term, Poly, join, sum, difference, product, monic}
 use Rattle.polynomials.specs.Division.{degree, coefficient, without, constant-one, power, factor, round, remainder, rounds, multiple}
 use Rattle.polynomials.specs.Value.{weigh, monomial-value, value}
@@ -49,7 +49,7 @@ module _ {ℓ} {K : Type ℓ} (𝓡 : CommRing K) (p : ℕ) (v : Poly → K) (�
         ap (λ z. v (round p k d G R) ⊕ z) (sym (𝓥 .of-product (factor k d R) G))
         ∙ of-difference-add (product p (coefficient k d G) R) (product p (factor k d R) G) ∙ 𝓥 .of-product (coefficient k d G) R
 
-    -- Request 6: with s rounds, I^s R is a multiple of G plus the remainder.
+    -- With s rounds, I^s R is a multiple of G plus the remainder.
     pub division : (n : ℕ) (R : Poly) → pow 𝓡 (v (coefficient k d G)) (rounds p k d G n R) ⊗ v R ≡ v (multiple p k d G n R) ⊗ v G ⊕ v (remainder p k d G n R)
     unfolding rounds multiple remainder pow
     division zero R = one-mul 𝓡 (v R) ∙ sym (nil-add 𝓡 (v R)) ∙ ap (λ z. z ⊕ v R) (sym (nil-mul 𝓡 (v G)) ∙ ap (λ z. z ⊗ v G) (sym (𝓥 .of-nil)))
@@ -114,10 +114,7 @@ module _ {ℓ} {K : Type ℓ} (𝓡 : CommRing K) where
   monomial-set [] e k = sym (mul-one 𝓡 _ ∙ pow-one (getD e k 0))
   monomial-set (x ∷ xs) [] k = sym (mul-one 𝓡 𝟙)
   monomial-set (x ∷ xs) (n ∷ e) zero = sym (ap (λ z. pow 𝓡 x n ⊗ z) (one-mul 𝓡 (monomial-value 𝓡 xs e)))
-  monomial-set (x ∷ xs) (n ∷ e) (suc k) = ap (λ z. pow 𝓡 x n ⊗ z) (monomial-set xs e k) ∙ law (pow 𝓡 x n) (pow 𝓡 (getD xs k 𝟙) (getD e k 0)) (monomial-value 𝓡 xs (set e k 0))
-    where
-      law : (a b c : K) → a ⊗ (b ⊗ c) ≡ b ⊗ (a ⊗ c)
-      law a b c = simp ring-laws
+  monomial-set (x ∷ xs) (n ∷ e) (suc k) = ap (λ z. pow 𝓡 x n ⊗ z) (monomial-set xs e k) ∙ mul-left-comm 𝓡 (pow 𝓡 x n) (pow 𝓡 (getD xs k 𝟙) (getD e k 0)) (monomial-value 𝓡 xs (set e k 0))
 
   -- f is its initial times the power, plus the rest: at any power d.
   pub value-split : (k d : ℕ) (f : Poly) (x : List K) → value 𝓡 f x ≡ pow 𝓡 (getD x k 𝟙) d ⊗ value 𝓡 (coefficient k d f) x ⊕ value 𝓡 (without k d f) x
@@ -131,11 +128,8 @@ module _ {ℓ} {K : Type ℓ} (𝓡 : CommRing K) where
       c : K
       c = cast 𝓡 (t .coef)
 
-      law₁ : (c p m a b : K) → c ⊗ (p ⊗ m) ⊕ (p ⊗ a ⊕ b) ≡ p ⊗ (c ⊗ m ⊕ a) ⊕ b
-      law₁ c p m a b = simp ring-laws
-
-      law₂ : (m a b : K) → m ⊕ (a ⊕ b) ≡ a ⊕ (m ⊕ b)
-      law₂ m a b = simp ring-laws
+      law : (c p m a b : K) → c ⊗ (p ⊗ m) ⊕ (p ⊗ a ⊕ b) ≡ p ⊗ (c ⊗ m ⊕ a) ⊕ b
+      law c p m a b = simp ring-laws
 
       go : value 𝓡 f x ≡ P ⊗ value 𝓡 (coefficient k d f) x ⊕ value 𝓡 (without k d f) x →
           (b : Bool) → (T b → getD (t .exps) k 0 ≡ d) →
@@ -144,8 +138,8 @@ module _ {ℓ} {K : Type ℓ} (𝓡 : CommRing K) where
           ⊕ value 𝓡 (elim b [ true ↦ without k d f | false ↦ t ∷ without k d f ]) x
       go ih true h =
           ap₂ (λ y z. c ⊗ y ⊕ z) (monomial-set x (t .exps) k ∙ ap (λ z. pow 𝓡 (getD x k 𝟙) z ⊗ monomial-value 𝓡 x (set (t .exps) k 0)) (h tt)) ih
-          ∙ law₁ c P (monomial-value 𝓡 x (set (t .exps) k 0)) (value 𝓡 (coefficient k d f) x) (value 𝓡 (without k d f) x)
-      go ih false h = ap (λ z. c ⊗ monomial-value 𝓡 x (t .exps) ⊕ z) ih ∙ law₂ (c ⊗ monomial-value 𝓡 x (t .exps)) (P ⊗ value 𝓡 (coefficient k d f) x) (value 𝓡 (without k d f) x)
+          ∙ law c P (monomial-value 𝓡 x (set (t .exps) k 0)) (value 𝓡 (coefficient k d f) x) (value 𝓡 (without k d f) x)
+      go ih false h = ap (λ z. c ⊗ monomial-value 𝓡 x (t .exps) ⊕ z) ih ∙ add-left-comm 𝓡 (c ⊗ monomial-value 𝓡 x (t .exps)) (P ⊗ value 𝓡 (coefficient k d f) x) (value 𝓡 (without k d f) x)
 
 -- In a field that contains the prime field.
 module _ {ℓ} {K : Type ℓ} (F : Field K) (p : ℕ) (char : cast (F .ring) p ≡ F .ring .nil) (1≤p : 1 ≤ p) (x : List K) where

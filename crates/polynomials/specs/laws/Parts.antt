@@ -270,8 +270,3 @@ shift-append k m (t ∷ f) g = ap (λ h. record { coef = t .coef; exps = join (p
 pub initial-first : (p k n : ℕ) (t : Term) (f : Poly) → Canonical p (t ∷ f) → Places n (t ∷ f) → leader (t ∷ f) ≡ k + 1 → initial k (t ∷ f) ≡ cleared k t ∷ coefficient k (degree k (t ∷ f)) f
 unfolding initial
 initial-first p k n t f c u e = coefficient-of k (degree k (t ∷ f)) t f (sym (degree-first p k n t f c u (λ j l. above-leader (t ∷ f) j (omega arith))))
-
-pub initial-nonzero : (p k n : ℕ) (f : Poly) → Canonical p f → Places n f → leader f ≡ k + 1 → initial k f ≢ []
-unfolding leader degrees highest
-initial-nonzero p k n [] c u e q = omega arith
-initial-nonzero p k n (t ∷ f) c u e q = let z : _≡_ {A = ℕ} 0 1 = cc (initial-first p k n t f c u e) in omega arith

@@ -171,7 +171,8 @@ module _ (p : ℕ) (h : 1 ≤ p) where
       go true ih = ih
       go false ih = c
 
-  -- Request 6, as an equation of polynomials: lists of terms in canonical form, with no bound on terms or exponents.
+  -- With s rounds, the initial to the power s, times R, is a multiple of G plus the remainder: as polynomials, lists of terms in canonical form, with no bound on
+  -- terms or exponents.
   pub division-polynomials : (k d : ℕ) (G : Poly) (n : ℕ) (R : Poly) → Canonical p R →
       product p (power p (coefficient k d G) (rounds p k d G n R)) R ≡ sum p (product p (multiple p k d G n R) G) (remainder p k d G n R)
   division-polynomials k d G n R c =

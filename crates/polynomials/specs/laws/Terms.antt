@@ -5,7 +5,7 @@ use Prim.Native.Nat.{ℕ, zero, suc, _+_, _*_, _/_, _%_, _<_}
 use native.Mathlib.Numerals.{add-one}
 use native.Mathlib.Omega.{arith}
 use lib.ListN.{length, take, drop, getD, set, length-take, length-set}
-use lib.Seq.{take-suc-set, drop-cons, take-nil, drop-nil}
+use lib.Seq.{take-suc-set, drop-cons, drop-nil}
 use Rattle.polynomials.specs.Packed.{term, terms}
 use Rattle.polynomials.specs.Working.{Pairs}
 
@@ -24,19 +24,7 @@ terms-append [] t h = refl
 terms-append (c ∷ []) t h = absurd (omega arith)
 terms-append (c ∷ (m ∷ s)) t h = ap (λ z. term c m ∷ z) (terms-append s t (omega arith))
 
--- n words, an even number, are taken.
-pub terms-take : (n : ℕ) (s : List ℕ) → n % 2 ≡ 0 → terms (take n s) ≡ take (n / 2) (terms s)
-unfolding terms
-terms-take zero s h = refl
-terms-take (suc zero) s h = absurd (omega arith)
-terms-take (suc (suc n)) [] h = sym (take-nil (suc (suc n) / 2))
-terms-take (suc (suc n)) (c ∷ []) h = sym (take-nil (suc (suc n) / 2))
-terms-take (suc (suc n)) (c ∷ (m ∷ s)) h =
-    ap (λ z. term c m ∷ z) (terms-take n s (omega arith)) ∙ ap (λ (k : ℕ). take k (term c m ∷ terms s)) half
-  where
-    half : suc (n / 2) ≡ suc (suc n) / 2
-    half = omega arith
-
+-- n words, an even number, are dropped.
 pub terms-drop : (n : ℕ) (s : List ℕ) → n % 2 ≡ 0 → terms (drop n s) ≡ drop (n / 2) (terms s)
 unfolding terms
 terms-drop zero s h = refl

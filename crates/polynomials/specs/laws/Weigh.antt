@@ -6,7 +6,7 @@ use mathlib.Core.Bool.{Bool, true, false}
 use Prim.Native.Nat.{ℕ, _+_, _-_, _*_, _%_, _≤_, Ordering, Ordering·lt, Ordering·eq, Ordering·gt}
 use lib.Dec.{T, eqb, eqb→eq}
 use Rattle.residues.specs.Field.{CommRing, cast, pow}
-use Rattle.residues.specs.laws.Ring.{cast-zero, ring-laws, nil-mul, nil-add, add-nil, cast-sum, cast-product, cast-one, cast-minus-one, one-mul, mul-one, mul-nil, pow-add, mul-comm}
+use Rattle.residues.specs.laws.Ring.{cast-zero, ring-laws, nil-mul, nil-add, add-nil, add-left-comm, cast-sum, cast-product, cast-one, cast-minus-one, one-mul, mul-one, mul-nil, pow-add, mul-comm}
 use Rattle.polynomials.specs.Poly.{Exponents, Poly, order, join, keep, insert, add-multiple, sum, difference, product}
 use Rattle.polynomials.specs.Value.{weigh, monomial-value, value}
 use Rattle.polynomials.specs.laws.Order.{order-eq}
@@ -62,9 +62,6 @@ module _ {ℓ} {K : Type ℓ} (𝓡 : CommRing K) where
     weigh-insert w c e [] = weigh-keep w c e []
     weigh-insert w c e (t ∷ f) = go (weigh-insert w c e f) (order e (t .exps)) (order-eq e (t .exps))
       where
-        swap : (a b x : K) → a ⊕ (b ⊕ x) ≡ b ⊕ (a ⊕ x)
-        swap a b x = simp ring-laws
-
         law : (a b v x : K) → (a ⊕ b) ⊗ v ⊕ x ≡ a ⊗ v ⊕ (b ⊗ v ⊕ x)
         law a b v x = simp ring-laws
 
@@ -72,7 +69,7 @@ module _ {ℓ} {K : Type ℓ} (𝓡 : CommRing K) where
             (o : Ordering) → (o ≡ Ordering·eq → e ≡ t .exps) →
             weigh 𝓡 w (elim o [ Ordering·lt ↦ t ∷ insert p c e f | Ordering·eq ↦ keep ((c + t .coef) % p) e f | Ordering·gt ↦ keep c e (t ∷ f) ])
             ≡ cast 𝓡 c ⊗ w e ⊕ (cast 𝓡 (t .coef) ⊗ w (t .exps) ⊕ weigh 𝓡 w f)
-        go ih Ordering·lt h = ap (λ z. cast 𝓡 (t .coef) ⊗ w (t .exps) ⊕ z) ih ∙ swap (cast 𝓡 (t .coef) ⊗ w (t .exps)) (cast 𝓡 c ⊗ w e) (weigh 𝓡 w f)
+        go ih Ordering·lt h = ap (λ z. cast 𝓡 (t .coef) ⊗ w (t .exps) ⊕ z) ih ∙ add-left-comm 𝓡 (cast 𝓡 (t .coef) ⊗ w (t .exps)) (cast 𝓡 c ⊗ w e) (weigh 𝓡 w f)
         go ih Ordering·eq h =
             weigh-keep w ((c + t .coef) % p) e f ∙ ap (λ z. z ⊗ w e ⊕ weigh 𝓡 w f) (cast-sum 𝓡 p char c (t .coef))
             ∙ law (cast 𝓡 c) (cast 𝓡 (t .coef)) (w e) (weigh 𝓡 w f) ∙ ap (λ z. cast 𝓡 c ⊗ w e ⊕ (cast 𝓡 (t .coef) ⊗ w z ⊕ weigh 𝓡 w f)) (h refl)

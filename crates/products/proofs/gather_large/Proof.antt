@@ -3,7 +3,6 @@ use mathlib.Core.Path.{_≡_, sym, _∙_, subst}
 use Prim.Native.Nat.{ℕ, _≤_}
 use lib.ListN.{length, replicate, length-replicate}
 use native.Mathlib.Omega.{arith}
-use borrow.Author.Needs.{needs}
 use lib.Seq.{length-take-le}
 use Rattle.products.proofs.ProductLaws.{buffers-suffice, never-short, formed, words-ended, over-terms-ended, words-formed, copy-asks, copied}
 use Rattle.products.proofs.gather_large.Statement.{statement}

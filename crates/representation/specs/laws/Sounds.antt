@@ -8,9 +8,9 @@ use Rattle.polynomials.specs.Canonical.{Canonical}
 use Rattle.polynomials.specs.Packed.{terms}
 use Rattle.polynomials.specs.Working.{Pairs}
 use Rattle.stored.specs.Stored.{Storable}
-use Rattle.branches.specs.Area.{Stored, All-storable, Branches-storable, empty, put-into-P, put-into-Q, without-P, without-Q, closed, aside, split-area}
+use Rattle.branches.specs.Area.{Stored, empty, put-into-P, put-into-Q, without-P, without-Q, closed, aside, split-area}
 use Rattle.branches.specs.Words.{put-P, remove}
-use Rattle.representation.specs.Represent.{Sound, All-sound, Branch-sound, Branches-sound, Area-sound}
+use Rattle.representation.specs.Represent.{Sound, Branch-sound, Branches-sound, Area-sound}
 use Rattle.representation.specs.laws.Lists.{remove-sound, put-P-sound, put-Q-before-sound, sound-at}
 
 module _ (p : ℕ) where
@@ -62,12 +62,3 @@ module _ (p : ℕ) (word : p ≤ 4294967296) where
     few = h .holds .few;
     coefficients = coefficient-below s (h .holds .pairs) (h .holds .canonical);
   }
-
-  pub all-storable : (fs : List (List ℕ)) → All-sound p fs → All-storable fs
-  all-storable [] h = tt
-  all-storable (f ∷ fs) h = (sound-storable f (h .0), all-storable fs (h .1))
-
-  pub branches-storable : (bs : List Stored) → Branches-sound p bs → Branches-storable bs
-  branches-storable [] h = tt
-  branches-storable (b ∷ bs) h =
-      (all-storable (b .P) (h .0 .in-P), all-storable (b .Q) (h .0 .in-Q), all-storable (b .T) (h .0 .in-T), branches-storable bs (h .1))

@@ -3,7 +3,7 @@ use mathlib.Core.Path.{_≡_, sym, _∙_, ap}
 use mathlib.Core.Logic.{_≢_, _⊎_, inl, inr}
 use mathlib.Core.Bool.{Bool, true, false, not}
 use Prim.Native.Nat.{ℕ, zero, suc, _+_, _-_, _*_, _/_, _%_, _≤_, _<_}
-use native.Mathlib.Nat.{mod-add-div, add-mul-mod-self-left, add-mod-right, mod-lt, mod-eq-of-lt, mul-comm, mul-assoc, mul-one, one-mul, zero-mul, zero-mod, div-le-self}
+use native.Mathlib.Nat.{mod-add-div, add-mul-mod-self-left, add-mod-right, mod-lt, mod-eq-of-lt, mul-comm, mul-assoc, mul-right-comm, mul-one, one-mul, zero-mul, zero-mod, div-le-self}
 use native.Mathlib.Decide.{ℕ-discrete}
 use native.Mathlib.Omega.{arith}
 use lib.Dec.{T, ltb, ltb→lt, nltb→le}
@@ -86,11 +86,8 @@ euclid p a b P e n =
     let i = inverse p (a % p) in
     let u : (a % p * i) % p ≡ 1 = inverse-ok p (a % p) P (omega arith) (mod-lt a p0) in
     ap (λ z. z % p) (sym (one-mul b)) ∙ ap (λ z. (z * b) % p) (sym u) ∙ mul-mod-l (a % p * i) b p
-    ∙ ap (λ z. z % p) (regroup (a % p) i b) ∙ sym (mul-mod-l (a % p * b) i p) ∙ ap (λ z. (z * i) % p) (mul-mod-l a b p ∙ e)
+    ∙ ap (λ z. z % p) (mul-right-comm (a % p) i b) ∙ sym (mul-mod-l (a % p * b) i p) ∙ ap (λ z. (z * i) % p) (mul-mod-l a b p ∙ e)
     ∙ ap (λ z. z % p) (zero-mul i) ∙ zero-mod p
-  where
-    regroup : (x y z : ℕ) → x * y * z ≡ x * z * y
-    regroup x y z = omega arith
 
 pub euclid-or : (p a b : ℕ) → Prime p → (a * b) % p ≡ 0 → (a % p ≡ 0) ⊎ (b % p ≡ 0)
 euclid-or p a b P e = elim (ℕ-discrete (a % p) 0) [ yes h ↦ inl h | no h ↦ inr (euclid p a b P e h) ]

@@ -2,7 +2,7 @@
 use mathlib.Core.Path.{_≡_, refl, sym, _∙_, ap, ap₂}
 use mathlib.Core.Logic.{_≢_, _⊎_, inl, inr}
 use mathlib.Core.List.{List, [], _∷_}
-use mathlib.Core.Bool.{Bool, true, false, not, _&&_, _||_}
+use mathlib.Core.Bool.{Bool, true, false, not, _&&_, _||_, false≢true}
 use Prim.Native.Nat.{ℕ, zero, suc, _-_, _≤_, max}
 use native.Mathlib.Decide.{ℕ-discrete}
 use native.Mathlib.Omega.{arith}
@@ -61,12 +61,9 @@ pivot-led k f (g ∷ fs) = go (better k (pivot k g fs .poly) f) refl (pivot-led 
     go true e ih = inl (better-led k (pivot k g fs .poly) f e)
     go false e ih = elim (ℕ-discrete (leader f) (suc k)) [ yes q ↦ inl q | no n ↦ other-wise n ih ]
       where
-        differ : false ≡ true → ⊥
-        differ q = let z : _≡_ {A = ℕ} 0 1 = cc in omega arith
-
         other-wise : leader f ≢ suc k → (leader (pivot k g fs .poly) ≡ suc k) ⊎ Each (λ g. leader g ≢ suc k) (g ∷ fs) →
             (leader f ≡ suc k) ⊎ Each (λ g. leader g ≢ suc k) (f ∷ (g ∷ fs))
-        other-wise n (inl q) = absurd (differ (sym e ∙ led-better k (pivot k g fs .poly) f q n))
+        other-wise n (inl q) = absurd (false≢true (sym e ∙ led-better k (pivot k g fs .poly) f q n))
         other-wise n (inr u) = inr (n, u)
 
 -- "Let vk be the highest leading variable in P. The pivot is the polynomial led by vk .."

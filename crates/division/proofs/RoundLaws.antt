@@ -1,5 +1,5 @@
--- The laws behind `division`, on values and lists: the words lent, a factor of 1, a row taken off, the factor of a round, the round from what its calls
--- answered, and a round apart.
+-- The laws behind `division`, on values and lists: the words lent, a factor of 1, a row taken off, the factor of a round, and the round from what its calls
+-- answered.
 use mathlib.Core.Path.{_≡_, refl, sym, _∙_, ap, ap₂, subst}
 use mathlib.Core.List.{List, [], _∷_}
 use mathlib.Core.Bool.{Bool, true, false}
@@ -48,7 +48,6 @@ use Rattle.polynomials.specs.laws.Bounded.{at-most-over, product-within, produc
 use Rattle.polynomials.specs.laws.Answers.{Answered, then-formed, then-degree, then-terms}
 use Rattle.sums.proofs.MergeLaws.{formed, refused}
 use Rattle.products.specs.Lent.{lent-for-product}
-use Rattle.products.proofs.ProductLaws.{copied}
 use Rattle.division.specs.Lent.{lent-for-difference, lent-for-round}
 
 byte-zero : (n k : ℕ) → getD (bytes n 0) k 0 ≡ 0
@@ -258,29 +257,10 @@ module _ (p k d : ℕ) (G R I : Poly) (initial : I ≡ coefficient k d G) (s : L
   pub round-terms : (r : Formed) (x : List ℕ) → r ≡ OverTerms → Forms (bounded-product standard p I R) r x → Forms (bounded-round standard p k d G R) OverTerms s
   round-terms r x q F = subst (λ B. Forms B OverTerms s) round-is (then-terms (bounded-product standard p I R) after s r x q F)
 
--- ── a round apart: R is copied to other words, and what is formed there copied back ──
+-- ── words that hold a polynomial ──
 -- The first n words of s, as `copied` takes them.
 pub first-written : (p n : ℕ) (s : List ℕ) → n ≤ length s → Holds p (take n s) → Written (terms (take n s)) n s × (n ≤ 512)
 first-written p n s inside H = (record { within = inside; pairs = omega (arith, taken, words-of-terms (take n s) (H .pairs)); holds = refl }, omega (arith, taken, H .few))
   where
     taken : length (take n s) ≡ n
     taken = length-take-le n s inside
-
-pub copied-back : (p : ℕ) (B : Bounded) (m : ℕ) (a r s : List ℕ) → Answered p B m a → 512 ≤ length r → s ≡ paste r 0 (drop 0 (take m a)) (length (take m a) - 0) → Forms B (Words m) s
-copied-back p B m a r s A room e = subst (λ B. Forms B (Words m) s) (sym (A .is)) (ap Words (W .pairs), subst (λ k. Written (terms (take m a)) k s) (W .pairs) W)
-  where
-    W : Written (terms (take m a)) m s
-    W = copied (terms (take m a)) m a r (first-written p m a (A .inside) (A .holds)) room s e
-
--- A refusal says nothing of the words.
-module _ (B : Bounded) (q : Formed) (a s : List ℕ) where
-  alone : (B : Bounded) → and-then B within ≡ B
-  alone (within f) = refl
-  alone degree-passed = refl
-  alone terms-passed = refl
-
-  pub degree-refused : q ≡ OverDegree → Forms B q a → Forms B OverDegree s
-  degree-refused e F = subst (λ B. Forms B OverDegree s) (alone B) (then-degree B within s q a e F)
-
-  pub terms-refused : q ≡ OverTerms → Forms B q a → Forms B OverTerms s
-  terms-refused e F = subst (λ B. Forms B OverTerms s) (alone B) (then-terms B within s q a e F)

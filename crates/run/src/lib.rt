@@ -91,10 +91,10 @@ pub fn run(
                         if e < degree {
                             break 'division;
                         }
-                        if !division::round_fits(n, initial, pivot, x.len()) {
+                        if !rounds::round_fits(n, initial, pivot, x.len()) {
                             crowded = true;
                         }
-                        match division::round_anywhere(
+                        match rounds::round_anywhere(
                             p,
                             k,
                             degree,

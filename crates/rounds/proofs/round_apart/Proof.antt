@@ -13,9 +13,10 @@ use Rattle.polynomials.specs.Packed.{terms}
 use Rattle.polynomials.specs.Working.{Written, Forms}
 use Rattle.polynomials.specs.laws.Answers.{Answered, round-answered, written-holds}
 use Rattle.products.proofs.ProductLaws.{copied}
-use Rattle.division.proofs.RoundLaws.{first-written, copied-back, degree-refused, terms-refused}
-use Rattle.division.proofs.round_apart.Statement.{statement}
-use Rattle.division.proofs.round_apart.Tie as tie
+use Rattle.division.proofs.RoundLaws.{first-written}
+use Rattle.rounds.proofs.ApartLaws.{copied-back, degree-refused, terms-refused}
+use Rattle.rounds.proofs.round_apart.Statement.{statement}
+use Rattle.rounds.proofs.round_apart.Tie as tie
 
 abbrev start : tie.After-copy → tie.Start
 start c = c .before .before .before .before .before .before

@@ -7,9 +7,9 @@ use Prim.Native.Nat.{ℕ, _+_, _*_, _/_, _≤_, _<_, min}
 use native.Mathlib.Nat.{add-le-add, mul-le-mul}
 use native.Mathlib.Omega.{arith}
 use lib.Dec.{leb}
 use Rattle.division.specs.Lent.{lent-for-round}
-use Rattle.division.proofs.round_fits.Statement.{statement}
-use Rattle.division.proofs.round_fits.Tie as tie
+use Rattle.rounds.proofs.round_fits.Statement.{statement}
+use Rattle.rounds.proofs.round_fits.Tie as tie
 
 short-test : (need words : ℕ) → words < 1024 → leb need words ≡ leb (min 1024 need) words
 short-test need words short = go (leb need words) (leb-true need words) (leb-false need words)

@@ -6,9 +6,9 @@ use Prim.Native.Nat.{_≤_}
 use native.Mathlib.Omega.{arith}
 use lib.ListN.{length}
 use lib.Seq.{length-take-le}
 use Rattle.division.specs.Lent.{lent-for-round}
-use Rattle.division.proofs.round_anywhere.Statement.{statement}
-use Rattle.division.proofs.round_anywhere.Tie as tie
+use Rattle.rounds.proofs.round_anywhere.Statement.{statement}
+use Rattle.rounds.proofs.round_anywhere.Tie as tie
 
 -- Where `round_fits` has answered, and where the function began.
 abbrev entry : tie.After-slice-known4 → tie.Start

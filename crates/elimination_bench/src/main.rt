@@ -11,11 +11,10 @@ ghost use Rattle.elimination.specs.Numbers.{outcome-numbers};
 ghost use Rattle.lines.specs.Text.{Ends};
 use elimination::Answer;
 use elimination::Outcome;
+use input::Filled;
+use input::Input;
+use input::Words;
 use lines::Turn;
-use lines::input;
-use lines::input::Filled;
-use lines::input::Input;
-use lines::input::Words;
 use lines::text;
 use timing::Timing;
 
@@ -32,7 +31,7 @@ fn outcome_number(answer: Answer) -> u32
     let outcome = answer.outcome;
     match outcome {
         Outcome::Systems(_) => 0,
-        Outcome::Refused(why, _) => lines::number(why),
+        Outcome::Refused(why, _) => numbers::number(why),
     }
 }
 

@@ -17,7 +17,7 @@ use Rattle.elimination_jobs.specs.declared.job.Shape.{Shape}
 use Rattle.elimination_jobs.specs.declared.job.Job.{Job}
 use Rattle.elimination_jobs.specs.declared.job.Job.the-variants.{Next}
 use Rattle.elimination_jobs.specs.Heading.{nonzero, heading, Shaped}
-use Rattle.lines.specs.declared.input.Input.{Input}
+use Rattle.input.specs.declared.Input.{Input}
 
 -- ── words that are not zero ──
 pub none-counted : (w : List ℕ) → 0 ≡ nonzero (drop (length w) w)

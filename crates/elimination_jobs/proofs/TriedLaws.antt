@@ -5,8 +5,8 @@ use Prim.Native.Nat.{ℕ}
 use Rattle.tables.specs.declared.Trial.{Trial}
 use Rattle.tables.specs.declared.Placing.{Placing}
 use Rattle.tables.specs.Solve.{trial, placing, try-input, try-systems}
-use Rattle.lines.specs.declared.Line.{Line}
-use Rattle.lines.specs.Line.{trial-line, place-line}
+use Rattle.numbers.specs.declared.Line.{Line}
+use Rattle.numbers.specs.Line.{trial-line, place-line}
 use Rattle.elimination_jobs.specs.declared.tries.Tried.{Tried}
 use Rattle.elimination_jobs.specs.Tried.{tried}
 

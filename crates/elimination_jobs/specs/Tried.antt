@@ -2,7 +2,7 @@
 use mathlib.Core.List.{List}
 use Prim.Native.Nat.{ℕ}
 use Rattle.tables.specs.Solve.{trial, placing, try-input, try-systems}
-use Rattle.lines.specs.Line.{trial-line, place-line}
+use Rattle.numbers.specs.Line.{trial-line, place-line}
 use Rattle.elimination_jobs.specs.declared.tries.Tried.{Tried}
 
 -- The point x against the table w, then against the list `systems`.

@@ -9,11 +9,10 @@ ghost use Rattle.lines.specs.Text.{LineAdded};
 ghost use Rattle.elimination_jobs.specs.Heading.{heading-of, nonzero, Shaped};
 use elimination::Answer;
 use elimination::Outcome;
-use lines::input;
-use lines::input::Filled;
-use lines::input::Input;
-use lines::input::Word;
-use lines::input::Words;
+use input::Filled;
+use input::Input;
+use input::Word;
+use input::Words;
 use lines::text;
 
 // What a job asks: words of the table, of the work area and of the output; what the latter two hold before; the words that the list is read
@@ -114,7 +113,7 @@ fn head_of(answer: Answer, count: u32) -> Heading
             nonzero: count,
         },
         Outcome::Refused(why, record) => Heading {
-            outcome: lines::number(why),
+            outcome: numbers::number(why),
             steps: answer.steps,
             value: record,
             nonzero: count,

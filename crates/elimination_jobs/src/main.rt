@@ -11,11 +11,10 @@ mod tries;
 ghost use Prim.Native.Nat.{_≤_};
 ghost use lib.ListN.{length};
 ghost use Rattle.lines.specs.Text.{Ends};
+use input::Input;
 use job::Job;
 use job::Shape;
 use lines::Turn;
-use lines::input;
-use lines::input::Input;
 use lines::text;
 
 // Answers a job: its first line, the line of the output, and a line for each point.

@@ -5,12 +5,11 @@ ghost use Prim.Native.Nat.{_+_, _≤_};
 ghost use lib.ListN.{length};
 ghost use Rattle.lines.specs.Text.{LineAdded, Ends};
 ghost use Rattle.elimination_jobs.specs.Tried.{tried};
-use lines::Line;
+use input::Input;
+use input::Words;
 use lines::Turn;
-use lines::input;
-use lines::input::Input;
-use lines::input::Words;
 use lines::text;
+use numbers::Line;
 
 // What the table and what the list answer.
 pub struct Tried {
@@ -27,8 +26,8 @@ fn try_both(table: &[u32], systems: &[u32], numbers: &[u32]) -> Tried
     let placing = lists::try_list(systems, numbers);
     let second = placing.outcome;
     Tried {
-        trial: lines::trial_line(first),
-        place: lines::place_line(second),
+        trial: numbers::trial_line(first),
+        place: numbers::place_line(second),
     }
 }
 

@@ -11,7 +11,7 @@ use borrow.Author.Tests.{eq-eqb, ne-eqb}
 use lib.ListN.{length, take, drop, set, getD, length-append}
 use lib.Seq.{take-at, take-length, take-suc-set, drop-cons, drop-length, length-take-le}
 use Rattle.io.specs.Digits.{glyph, digits, Fewest}
-use Rattle.lines.specs.declared.input.Input.{Input}
+use Rattle.input.specs.declared.Input.{Input}
 use Rattle.lines.specs.declared.Turn.{Turn}
 use Rattle.lines.specs.declared.Turn.the-variants.{Next, End}
 use Rattle.lines.specs.Text.{digits-of, decimal, rest-text, line-text, Ends}

@@ -1,3 +1,1 @@
-pub mod Line
-pub mod Input
 pub mod Text

@@ -7,8 +7,8 @@ use Rattle.tables.specs.declared.Trial.{Trial}
 use Rattle.tables.specs.declared.Placing.{Placing}
 use Rattle.tables.specs.Read.{read-table}
 use Rattle.tables.specs.Solve.{reading, trial, placing, try-input, try-systems}
-use Rattle.lines.specs.declared.Line.{Line}
-use Rattle.lines.specs.Line.{read-line, trial-line, place-line}
+use Rattle.numbers.specs.declared.Line.{Line}
+use Rattle.numbers.specs.Line.{read-line, trial-line, place-line}
 use Rattle.table_jobs.specs.Line.{line}
 
 module _ {l : Line} (k : ℕ) (w x : List ℕ) where

@@ -3,8 +3,8 @@ use mathlib.Core.List.{List}
 use Prim.Native.Nat.{ℕ, zero, suc}
 use Rattle.tables.specs.Read.{read-table}
 use Rattle.tables.specs.Solve.{reading, trial, placing, try-input, try-systems}
-use Rattle.lines.specs.declared.Line.{Line}
-use Rattle.lines.specs.Line.{read-line, trial-line, place-line}
+use Rattle.numbers.specs.declared.Line.{Line}
+use Rattle.numbers.specs.Line.{read-line, trial-line, place-line}
 
 -- Kind 0 reads the table w, kind 1 tries the point x against it, any other tries x against the list w.
 unfoldable pub line : ℕ → List ℕ → List ℕ → Line

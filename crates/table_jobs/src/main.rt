@@ -8,13 +8,12 @@ ghost use Prim.Native.Nat.{_+_, _≤_};
 ghost use lib.ListN.{length};
 ghost use Rattle.lines.specs.Text.{LineAdded, Ends};
 ghost use Rattle.table_jobs.specs.Line.{line};
-use lines::Line;
+use input::Input;
+use input::Word;
+use input::Words;
 use lines::Turn;
-use lines::input;
-use lines::input::Input;
-use lines::input::Word;
-use lines::input::Words;
 use lines::text;
+use numbers::Line;
 use tables::read;
 
 // The line of a job.
@@ -24,16 +23,16 @@ fn answer(kind: u32, table: &[u32], numbers: &[u32]) -> Line
     if kind == 0 {
         let reading = read::read_table(table);
         let outcome = reading.outcome;
-        return lines::read_line(outcome);
+        return numbers::read_line(outcome);
     }
     if kind == 1 {
         let trial = points::try_table(table, numbers);
         let outcome = trial.outcome;
-        return lines::trial_line(outcome);
+        return numbers::trial_line(outcome);
     }
     let placing = lists::try_list(table, numbers);
     let outcome = placing.outcome;
-    lines::place_line(outcome)
+    numbers::place_line(outcome)
 }
 
 // Adds a line to the text.

@@ -10,7 +10,6 @@ ghost use Rattle.triangularize.specs.Said.{records-text, said};
 use elimination::Answer;
 use elimination::Outcome;
 use libc::STDIN_FILENO;
-use lines::input;
 use lines::text;
 
 // Adds a line for each of the first n records of a list.
@@ -37,7 +36,7 @@ fn put_answer(text: &mut [u8], answer: Answer, output: &[u32]) -> usize
     let outcome = answer.outcome;
     match outcome {
         Outcome::Refused(why, record) => {
-            let first = [lines::number(why), answer.steps, record];
+            let first = [numbers::number(why), answer.steps, record];
             text::print_line(text, 0, &first)
         }
         Outcome::Systems(count) => {

@@ -2,7 +2,7 @@
 use mathlib.Core.Path.{sym}
 use borrow.Author.Needs.{needs}
 use lib.Seq.{length-take-le}
-use Rattle.lines.proofs.InputLaws.{within, within-take}
+use Rattle.input.proofs.InputLaws.{within, within-take}
 use Rattle.elimination_bench.proofs.run_job.Statement.{statement}
 use Rattle.elimination_bench.proofs.run_job.Tie as tie
 

@@ -1,7 +1,7 @@
 -- The counted words lie within the buffers, so their first words can be lent.
 use mathlib.Core.Path.{_∙_}
 use borrow.Author.Needs.{needs}
-use Rattle.lines.proofs.InputLaws.{within, within-take}
+use Rattle.input.proofs.InputLaws.{within, within-take}
 use Rattle.table_jobs.proofs.run_job.Statement.{statement}
 use Rattle.table_jobs.proofs.run_job.Tie as tie
 

@@ -1,6 +1,6 @@
 -- The counted words lie within the slice.
 use borrow.Author.Needs.{needs}
-use Rattle.lines.proofs.InputLaws.{within}
+use Rattle.input.proofs.InputLaws.{within}
 use Rattle.elimination_jobs.proofs.job.read.Statement.{statement}
 use Rattle.elimination_jobs.proofs.job.read.Tie as tie
 

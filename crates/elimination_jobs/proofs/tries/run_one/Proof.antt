@@ -1,6 +1,6 @@
 -- The counted numbers lie within the buffer, so its first can be lent.
 use borrow.Author.Needs.{needs}
-use Rattle.lines.proofs.InputLaws.{within, within-take}
+use Rattle.input.proofs.InputLaws.{within, within-take}
 use Rattle.elimination_jobs.proofs.tries.run_one.Statement.{statement}
 use Rattle.elimination_jobs.proofs.tries.run_one.Tie as tie
 

@@ -3,7 +3,7 @@ use Rattle.tables.specs.Numbers.{Numbers, reading-numbers, trial-numbers, place
 use Rattle.tables.specs.declared.ReadOutcome.{ReadOutcome}
 use Rattle.tables.specs.declared.TrialOutcome.{TrialOutcome}
 use Rattle.tables.specs.declared.PlaceOutcome.{PlaceOutcome}
-use Rattle.lines.specs.declared.Line.{Line}
+use Rattle.numbers.specs.declared.Line.{Line}
 
 abbrev pub line-of : Numbers → Line
 line-of n = record { outcome = n .outcome; value = n .value }

@@ -3,11 +3,11 @@ use mathlib.Core.Path.{_≡_, refl}
 use mathlib.Core.List.{List, [], _∷_}
 use Prim.Native.Nat.{ℕ, zero, suc, _+_, _*_, _-_, _/_, _≤_}
 use lib.ListN.{length, getD}
-use Rattle.lines.specs.declared.input.Input.{Input}
-use Rattle.lines.specs.declared.input.Word.{Word}
-use Rattle.lines.specs.declared.input.Word.the-variants.{Read, End}
-use Rattle.lines.specs.declared.input.Words.{Words}
-use Rattle.lines.specs.declared.input.Words.the-variants.{First, CutShort}
+use Rattle.input.specs.declared.Input.{Input}
+use Rattle.input.specs.declared.Word.{Word}
+use Rattle.input.specs.declared.Word.the-variants.{Read, End}
+use Rattle.input.specs.declared.Words.{Words}
+use Rattle.input.specs.declared.Words.the-variants.{First, CutShort}
 
 -- The number that the four bytes from byte i on spell, the lowest first.
 abbrev pub word-at : List ℕ → ℕ → ℕ

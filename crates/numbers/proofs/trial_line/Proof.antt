@@ -1,9 +1,9 @@
 -- Each arm returns the line of its outcome.
 use mathlib.Core.Path.{sym, _∙_, ap}
 use borrow.Author.Needs.{needs}
-use Rattle.lines.specs.Line.{trial-line}
-use Rattle.lines.proofs.trial_line.Statement.{statement}
-use Rattle.lines.proofs.trial_line.Tie as tie
+use Rattle.numbers.specs.Line.{trial-line}
+use Rattle.numbers.proofs.trial_line.Statement.{statement}
+use Rattle.numbers.proofs.trial_line.Tie as tie
 
 enum-told : tie.Need-enum-told
 enum-told c = search needs

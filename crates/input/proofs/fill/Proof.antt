@@ -4,8 +4,8 @@ use Prim.Native.Nat.{_-_, _≤_}
 use native.Mathlib.Omega.{arith}
 use borrow.Author.Needs.{needs}
 use lib.ListN.{length, length-set}
-use Rattle.lines.proofs.input.fill.Statement.{statement}
-use Rattle.lines.proofs.input.fill.Tie as tie
+use Rattle.input.proofs.fill.Statement.{statement}
+use Rattle.input.proofs.fill.Tie as tie
 
 abbrev Inv-loop : tie.InvT-loop
 Inv-loop buffer₀ words₀ rest₀ i₀ buffer words rest i = (i ≤ length words) × (length words ≡ length words₀) × (length buffer ≡ length buffer₀)

@@ -2,8 +2,8 @@
 use borrow.Author.Needs.{needs}
 use mathlib.Core.Path.{sym, ap}
 use Rattle.tables.specs.Reason.{number}
-use Rattle.lines.proofs.number.Statement.{statement}
-use Rattle.lines.proofs.number.Tie as tie
+use Rattle.numbers.proofs.number.Statement.{statement}
+use Rattle.numbers.proofs.number.Tie as tie
 
 pub number-spec : {M : Type 1} → statement M
 unfolding number

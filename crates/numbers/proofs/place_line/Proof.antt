@@ -1,9 +1,9 @@
 -- Each arm returns the line of its outcome.
 use mathlib.Core.Path.{sym, _∙_, ap}
 use borrow.Author.Needs.{needs}
-use Rattle.lines.specs.Line.{place-line}
-use Rattle.lines.proofs.place_line.Statement.{statement}
-use Rattle.lines.proofs.place_line.Tie as tie
+use Rattle.numbers.specs.Line.{place-line}
+use Rattle.numbers.proofs.place_line.Statement.{statement}
+use Rattle.numbers.proofs.place_line.Tie as tie
 
 enum-known-outcome : tie.Need-enum-known-outcome
 enum-known-outcome c = search needs

@@ -4,10 +4,10 @@ use mathlib.Core.Logic.{⊎-elim}
 use native.Mathlib.Omega.{arith}
 use borrow.Author.Needs.{needs}
 use borrow.Author.Tests.{leb-true, leb-false}
-use Rattle.lines.specs.Input.{Left}
-use Rattle.lines.proofs.InputLaws.{read-next, same-word}
-use Rattle.lines.proofs.input.next.Statement.{statement}
-use Rattle.lines.proofs.input.next.Tie as tie
+use Rattle.input.specs.Input.{Left}
+use Rattle.input.proofs.InputLaws.{read-next, same-word}
+use Rattle.input.proofs.next.Statement.{statement}
+use Rattle.input.proofs.next.Tie as tie
 
 -- Where the tests did not all hold, no whole word is left.
 none-left : (c : tie.Joined1) → Left (c .before .before .args .input) (c .before .before .args .buffer .now) → ⊥

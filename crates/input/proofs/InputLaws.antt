@@ -6,11 +6,11 @@ use native.Mathlib.Omega.{arith}
 use native.Mathlib.Numerals.{add-one}
 use lib.ListN.{length, take, set}
 use lib.Seq.{take-suc-set, length-take-le}
-use Rattle.lines.specs.declared.input.Input.{Input}
-use Rattle.lines.specs.declared.input.Word.the-variants.{Read}
-use Rattle.lines.specs.declared.input.Words.{Words}
-use Rattle.lines.specs.declared.input.Words.the-variants.{First}
-use Rattle.lines.specs.Input.{word-at, words-from, Before, Within}
+use Rattle.input.specs.declared.Input.{Input}
+use Rattle.input.specs.declared.Word.the-variants.{Read}
+use Rattle.input.specs.declared.Words.{Words}
+use Rattle.input.specs.declared.Words.the-variants.{First}
+use Rattle.input.specs.Input.{word-at, words-from, Before, Within}
 
 -- The first i of n words of the bytes are put; with those that are left they are all.
 abbrev pub Decoded : List ℕ → ℕ → ℕ → List ℕ → Type 0

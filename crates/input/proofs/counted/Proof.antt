@@ -2,8 +2,8 @@
 use mathlib.Core.Path.{sym}
 use borrow.Author.Needs.{needs}
 use lib.Seq.{length-take-le}
-use Rattle.lines.proofs.input.counted.Statement.{statement}
-use Rattle.lines.proofs.input.counted.Tie as tie
+use Rattle.input.proofs.counted.Statement.{statement}
+use Rattle.input.proofs.counted.Tie as tie
 
 next-requires : tie.Need-next-requires
 next-requires c κs = search needs

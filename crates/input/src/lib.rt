@@ -3,7 +3,7 @@
 ghost use mathlib.Core.Path.{_≡_};
 ghost use Prim.Native.Nat.{_+_, _*_, _-_, _/_, _≤_};
 ghost use lib.ListN.{length, take, drop};
-ghost use Rattle.lines.specs.Input.{word-at, words-of, Reached, Left, Within};
+ghost use Rattle.input.specs.Input.{word-at, words-of, Reached, Left, Within};
 use libc::STDIN_FILENO;
 
 // The bytes of a buffer that are read and not yet used: from `at` up to `end`.

@@ -2,8 +2,8 @@
 use mathlib.Core.Path.{ap}
 use Prim.Native.Nat.{ℕ}
 use borrow.Author.Needs.{needs}
-use Rattle.lines.proofs.refused.Statement.{statement}
-use Rattle.lines.proofs.refused.Tie as tie
+use Rattle.numbers.proofs.refused.Statement.{statement}
+use Rattle.numbers.proofs.refused.Tie as tie
 
 number-requires : tie.Need-number-requires
 number-requires c κs = search needs

@@ -1,11 +1,13 @@
 -- What the functions that read words say of them.
 use mathlib.Core.Path.{_≡_, refl}
 use mathlib.Core.List.{List, [], _∷_}
-use Prim.Native.Nat.{ℕ, zero, suc, _+_, _*_, _-_, _/_, _≤_}
-use lib.ListN.{length, getD}
+use Prim.Native.Nat.{ℕ, zero, suc, _+_, _*_, _-_, _/_, _≤_, _<_}
+use lib.ListN.{length, getD, drop}
 use Rattle.input.specs.declared.Input.{Input}
 use Rattle.input.specs.declared.Word.{Word}
 use Rattle.input.specs.declared.Word.the-variants.{Read, End}
+use Rattle.input.specs.declared.Filled.{Filled}
+use Rattle.input.specs.declared.Filled.the-variants.{Full, CutShort as FilledShort}
 use Rattle.input.specs.declared.Words.{Words}
 use Rattle.input.specs.declared.Words.the-variants.{First, CutShort}
 
@@ -26,10 +28,18 @@ low-byte-first : words-of (7 ∷ 0 ∷ 0 ∷ 0 ∷ 1 ∷ 1 ∷ 0 ∷ 0 ∷ 9 ∷
 unfolding words-of words-from
 low-byte-first = refl
 
--- A whole word of the buffer's bytes is not yet used.
-pub record Left (i : Input) (b : List ℕ) : Type 0 where
+-- So many whole words of the buffer's bytes are not yet used.
+pub record Enough (n : ℕ) (i : Input) (b : List ℕ) : Type 0 where
   pub within : i .end ≤ length b
-  pub some : i .at + 4 ≤ i .end
+  pub some : i .at + 4 * n ≤ i .end
+
+-- A whole word is not yet used.
+abbrev pub Left : Input → List ℕ → Type 0
+Left = Enough 1
+
+-- Behind n words more.
+abbrev pub further : ℕ → Input → Input
+further n i = record { at = i .at + 4 * n; end = i .end }
 
 -- A word that was read stands in the buffer right before the bytes that are not yet used.
 pub record Before (x : ℕ) (i : Input) (b : List ℕ) : Type 0 where
@@ -41,6 +51,17 @@ pub record Before (x : ℕ) (i : Input) (b : List ℕ) : Type 0 where
 abbrev pub Reached : Word → List ℕ → Type 0
 Reached (Read x i) b = Before x i b
 Reached End b = Unit {0}
+
+-- The last of the words that were read stands in the buffer right before the bytes that are not yet used.
+abbrev pub Ended : Filled → List ℕ → List ℕ → Type 0
+Ended (Full i) xs b = 0 < length xs → Before (getD xs (length xs - 1) 0) i b
+Ended FilledShort xs b = Unit {0}
+
+-- The words xs stood in the buffer, all that were asked for: none is skipped, and the buffer stays as it is.
+pub record Taken (i : Input) (b : List ℕ) (r : Filled) (b′ xs : List ℕ) : Type 0 where
+  pub full : r ≡ Full (further (length xs) i)
+  pub same : b′ ≡ b
+  pub words : xs ≡ words-from (drop (i .at) b) 0 (length xs)
 
 -- A count of words lies within the slice.
 abbrev pub Within : Words → List ℕ → Type 0

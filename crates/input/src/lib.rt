@@ -3,7 +3,7 @@
 ghost use mathlib.Core.Path.{_≡_};
 ghost use Prim.Native.Nat.{_+_, _*_, _-_, _/_, _≤_};
 ghost use lib.ListN.{length, take, drop};
-ghost use Rattle.input.specs.Input.{word-at, words-of, Reached, Left, Within};
+ghost use Rattle.input.specs.Input.{word-at, words-of, Reached, Enough, Left, Ended, Taken, Within};
 use libc::STDIN_FILENO;
 
 // The bytes of a buffer that are read and not yet used: from `at` up to `end`.
@@ -88,7 +88,10 @@ pub fn next(buffer: &mut [u8], input: Input) -> Word
 }
 
 // Reads as many words as the slice has.
-pub fn fill(buffer: &mut [u8], input: Input, words: &mut [u32]) -> Filled {
+pub fn fill(buffer: &mut [u8], input: Input, words: &mut [u32]) -> Filled
+    ensures { λ r. ⌜ Ended r (now (words .exit)) (now (buffer .exit)) ⌝ }
+    ensures { λ r. ⌜ (Enough (length (now (words .entry))) input (now (buffer .entry)) → Taken input (now (buffer .entry)) r (now (buffer .exit)) (now (words .exit))) ⌝ }
+{
     let mut rest = input;
     let mut i = 0;
     while i < words.len() {

@@ -15,8 +15,6 @@ ghost use Rattle.rules.specs.Run.{start};
 ghost use Rattle.branches.specs.Area.{Stored, Held, Opened, Leaves, capacity, with-open};
 ghost use Rattle.representation.specs.Ready.{limits-in};
 ghost use Rattle.loading.specs.Started.{Loaded, put-into, put-heads, Alone, Filled, Started};
-use branches::open;
-use branches::turn;
 use tables::words;
 
 // Loads the polynomial with its head in record `head` into the first words of `out`; how many.
@@ -55,9 +53,9 @@ fn put_one(work: &mut [u32], f: &[u64], in_q: bool) -> bool
         → Leaves (capacity (now (work .entry))) (with-open (put-into in_q (now (f .entry)) b) bs ss) r (view (now (work .exit)))) ⌝ }
 {
     if in_q {
-        return open::put_q(work, 0, f);
+        return changes::put_q(work, 0, f);
     }
-    open::put_p(work, f)
+    changes::put_p(work, f)
 }
 
 // Puts the polynomials from the index `first` on, which the header holds, into Q or into P; whether there is room.
@@ -100,7 +98,7 @@ pub fn start(table: &[u32], work: &mut [u32], r: &mut [u64]) -> bool
     }
     let p = table[0];
     let n = table[1];
-    turn::begin(work);
+    turns::begin(work);
     if !put_heads(table, p, n, table[2], work, r, false) {
         return false;
     }

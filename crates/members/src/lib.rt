@@ -11,7 +11,6 @@ ghost use Rattle.branches.specs.Area.{Stored, Held, Leaves, Opened, capacity, w
 ghost use Rattle.representation.specs.Represent.{Sound};
 ghost use Rattle.representation.specs.Ready.{Modulus};
 ghost use Rattle.members.specs.Members.{Has-left, Has-behind, next-member, taken-out, put-in};
-use branches::open;
 
 // How many members Q has.
 pub fn count_q(w: &[u32]) -> usize
@@ -33,12 +32,12 @@ pub fn take(w: &mut [u32], closing: bool, place: usize, left: usize, r: &mut [u6
 {
     if closing {
         let j = count_q(w) - left;
-        let n = open::load_q(w, j, r);
-        open::remove_q(w, j);
+        let n = branches::load_q(w, j, r);
+        changes::remove_q(w, j);
         return n;
     }
-    let n = open::load_p(w, place, r);
-    open::remove_p(w, place);
+    let n = branches::load_p(w, place, r);
+    changes::remove_p(w, place);
     n
 }
 
@@ -53,7 +52,7 @@ pub fn put_back(w: &mut [u32], p: u64, closing: bool, left: usize, r: &mut [u64]
 {
     sums::monic(p, &mut r[..n]);
     if closing {
-        return open::put_q(w, left, &r[..n]);
+        return changes::put_q(w, left, &r[..n]);
     }
-    open::put_p(w, &r[..n])
+    changes::put_p(w, &r[..n])
 }

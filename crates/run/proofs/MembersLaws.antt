@@ -21,7 +21,7 @@ use Rattle.records.specs.Records.{view}
 use Rattle.branches.specs.Words.{put-Q, put-Q-before, remove}
 use Rattle.branches.specs.Area.{Stored, Held, Opened, with-open, without-P, without-Q, capacity}
 use Rattle.branches.proofs.LengthLaws.{same-capacity}
-use Rattle.branches.proofs.OpenLaws.{length-remove}
+use Rattle.branches.specs.laws.Words.{length-remove}
 use Rattle.representation.specs.Represent.{Sound, branch-of, system-of, state-of, with-new, Monic}
 use Rattle.representation.specs.laws.Lists.{each-remove, sound-at}
 use Rattle.representation.specs.laws.Sounds.{put-into-P-sound, put-into-Q-sound, without-P-sound, without-Q-sound}

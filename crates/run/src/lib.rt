@@ -10,7 +10,6 @@ ghost use Rattle.representation.specs.Represent.{state-of};
 ghost use Rattle.representation.specs.Ready.{Ready, Modulus, limits-in};
 ghost use Rattle.run.specs.Stretch.{Stretches};
 ghost use Rattle.run.specs.declared.Ending.the-variants.{Paused};
-use branches::turn;
 use polynomials::Formed;
 use steps::Prepared;
 use tables::Reason;
@@ -59,7 +58,7 @@ pub fn run(
     let mut steps: u32 = from;
     let mut crowded = false;
     let ending = 'run: loop {
-        if !turn::is_open(w) {
+        if !turns::is_open(w) {
             break 'run Ending::Final(Outcome::Systems(records::get3(w, 0)));
         }
         if limit <= steps {

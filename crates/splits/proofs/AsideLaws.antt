@@ -15,8 +15,8 @@ use Rattle.branches.specs.laws.Words.{put-Q-before-none}
 use Rattle.branches.specs.Area.{Stored, Area, Held, Leaves, stack, branch-records, with-open, size}
 use Rattle.branches.specs.Area.{kept-open, aside, put-into-P, put-into-Q, without-P, split-area}
 use Rattle.branches.proofs.AreaLaws.{p-is}
-use Rattle.branches.proofs.OpenLaws.{remove-in-parts, length-remove}
-use Rattle.branches.proofs.PutLaws.{put-Q-new}
+use Rattle.branches.specs.laws.Words.{remove-in-parts, length-remove}
+use Rattle.changes.proofs.PutLaws.{put-Q-new}
 
 -- ── lists of polynomials ──
 -- A put only adds behind.

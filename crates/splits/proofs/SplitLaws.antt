@@ -13,7 +13,7 @@ use Rattle.stored.specs.laws.Stored.{skip-to-polys-records, polys-records-appen
 use Rattle.branches.specs.Area.{Stored, Held, Leaves, stack, branch-records, systems-records, with-open, size, kept-open, Branches-storable}
 use Rattle.splits.proofs.PieceLaws.{Grown, grow-copied, grow-stored, top-left, last-part}
 use Rattle.branches.proofs.AreaLaws.{storable-take, at-of, own-of, most-inside}
-use Rattle.branches.proofs.PutLaws.{storable-append, storable-drop}
+use Rattle.changes.proofs.PutLaws.{storable-append, storable-drop}
 
 -- ── the parts of P ──
 abbrev pub front-P : ℕ → Stored → List Rec

@@ -9,7 +9,6 @@ ghost use Rattle.records.specs.Records.{room, view, moved};
 ghost use Rattle.stored.specs.Stored.{member, poly-records, Storable};
 ghost use Rattle.branches.specs.Words.{is-one};
 ghost use Rattle.branches.specs.Area.{Stored, Held, Leaves, Opened, capacity, with-open, kept-open, split-area};
-use branches::open;
 
 // The initial goes into Q, and a branch is set aside with P without its member at place i, which is f, then the initial, then the rest; with Q as it
 // was; with T. Whether there is room. The open branch is made the one set aside, and the other is built on top of it.
@@ -25,11 +24,11 @@ pub fn split(w: &mut [u32], i: usize, f: &[u64], initial: &[u64], rest: &[u64]) 
 {
     let at = records::get0(w, 0) as usize;
     let p = records::get0(w, at) as usize;
-    open::remove_p(w, i);
-    if !open::put_p(w, initial) {
+    changes::remove_p(w, i);
+    if !changes::put_p(w, initial) {
         return false;
     }
-    if !open::put_p(w, rest) {
+    if !changes::put_p(w, rest) {
         return false;
     }
     keep_open(w, i, p - 1, f, initial)

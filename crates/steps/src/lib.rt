@@ -19,8 +19,6 @@ ghost use Rattle.representation.specs.Represent.{Sound, branch-of, system-of, c
 ghost use Rattle.steps.specs.declared.Prepared.the-variants.{Crowded};
 ghost use Rattle.representation.specs.Ready.{Ready, Modulus, limits-in};
 ghost use Rattle.steps.specs.Pending.{division-of, aimed, Leads, Prepares};
-use branches::open;
-use branches::turn;
 use survey::Choice;
 use survey::Other;
 use tables::Reason;
@@ -69,7 +67,7 @@ fn prepare_division(w: &mut [u32], k: u32, place: usize, t: &[u64], initial: usi
             };
         }
         Other::None => {
-            open::close(w, place, t);
+            changes::close(w, place, t);
             let q = members::count_q(w);
             return Division {
                 k: k,
@@ -94,7 +92,7 @@ fn is_settled(w: &[u32], f: &[u64]) -> bool
     if f.len() == 2 && f[0] == 1 && f[1] == 0 {
         return true;
     }
-    open::find_q(w, f)
+    branches::find_q(w, f)
 }
 
 // Rule 3 for the pivot t, which stands in P at `place`, and its initial i. Whether there is room.
@@ -143,10 +141,10 @@ fn with_pivot(
         q (now (t .exit)) (now (i .exit)) (view (now (w .exit))) (capacity (now (w .entry))) bs ss) ⌝ }
     ensures { λ q. ⌜ (q ≡ Crowded → (length (now (t .entry)) < 512) × (now (w .exit) ≡ now (w .entry))) ⌝ }
 {
-    if t.len() < open::words_p(w, place) {
+    if t.len() < branches::words_p(w, place) {
         return Prepared::Crowded;
     }
-    let n = open::load_p(w, place, t);
+    let n = branches::load_p(w, place, t);
     let m = terms::initial(&t[..n], k, i);
     if is_settled(w, &i[..m]) {
         let d = prepare_division(w, k, place, &t[..n], m);
@@ -170,11 +168,11 @@ pub fn prepare(w: &mut [u32], p: u64, t: &mut [u64], i: &mut [u64], r: &mut [u64
 {
     match survey::choose(w) {
         Choice::Drop => {
-            turn::drop(w);
+            turns::drop(w);
             return Prepared::Done;
         }
         Choice::List => {
-            turn::list(w);
+            turns::list(w);
             return Prepared::Done;
         }
         Choice::Pivot(k, place) => {

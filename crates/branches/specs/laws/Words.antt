@@ -1,11 +1,11 @@
--- Putting into Q before its last members.
+-- Putting into Q before its last members, and taking a member out.
 use mathlib.Core.Path.{_≡_, refl, sym, ap, ap₂, _∙_}
-use mathlib.Core.List.{List, [], _++_, append-nil}
-use Prim.Native.Nat.{ℕ, _-_}
+use mathlib.Core.List.{List, [], _∷_, _++_, append-nil}
+use Prim.Native.Nat.{ℕ, zero, suc, _+_, _-_, _<_}
 use native.Mathlib.Omega.{arith}
-use lib.ListN.{length, length-append}
+use lib.ListN.{length, take, drop, length-append}
 use lib.Seq.{take-at, drop-at}
-use Rattle.branches.specs.Words.{put-Q, put-Q-before}
+use Rattle.branches.specs.Words.{put-Q, put-Q-before, remove}
 
 -- The members before the last `left` are put to, the others stay.
 pub put-Q-before-in-parts : (left : ℕ) (f : List ℕ) (new old : List (List ℕ)) → length old ≡ left → put-Q-before left f (new ++ old) ≡ put-Q f new ++ old
@@ -18,3 +18,17 @@ put-Q-before-in-parts left f new old q =
 pub put-Q-before-none : (f : List ℕ) (fs : List (List ℕ)) → put-Q-before 0 f fs ≡ put-Q f fs
 unfolding put-Q-before
 put-Q-before-none f fs = ap (put-Q-before 0 f) (sym (append-nil fs)) ∙ put-Q-before-in-parts 0 f fs [] refl ∙ append-nil (put-Q f fs)
+
+-- A list without its member at place i.
+pub remove-in-parts : (i : ℕ) (fs : List (List ℕ)) → remove i fs ≡ take i fs ++ drop (suc i) fs
+unfolding remove
+remove-in-parts zero [] = refl
+remove-in-parts (suc i) [] = refl
+remove-in-parts zero (f ∷ fs) = refl
+remove-in-parts (suc i) (f ∷ fs) = ap (λ (l : List (List ℕ)). f ∷ l) (remove-in-parts i fs)
+
+pub length-remove : (i : ℕ) (fs : List (List ℕ)) → i < length fs → length (remove i fs) + 1 ≡ length fs
+unfolding remove
+length-remove i [] h = absurd (omega arith)
+length-remove zero (f ∷ fs) h = omega arith
+length-remove (suc i) (f ∷ fs) h = omega (arith, length-remove i fs (omega arith))

@@ -10,7 +10,7 @@ use Rattle.stored.specs.Stored.{skip-to}
 use Rattle.branches.specs.Area.{Stored, Held, capacity, with-open}
 use Rattle.branches.proofs.LengthLaws.{inside-room}
 use Rattle.branches.proofs.AreaLaws as area
-use Rattle.branches.proofs.OpenLaws.{w2-is, Read, start-is, ends, free-is}
+use Rattle.branches.proofs.ControlLaws.{w2-is, Read, start-is, ends, free-is}
 use Rattle.splits.proofs.SplitLaws.{end-front, end-back, end-P, end-Q, Placed, Ordered, ordered, to-back, to-Q, to-T, parts-inside, kept}
 use Rattle.splits.proofs.PieceLaws.{Reached, reach, reach-last, first-fits}
 use Rattle.splits.proofs.keep_open.Tie as tie

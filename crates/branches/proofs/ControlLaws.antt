@@ -1,0 +1,73 @@
+-- The words of a record, and of the control record: where the open branch starts and ends, and the free records behind it.
+use mathlib.Core.Path.{_≡_, ap, _∙_}
+use mathlib.Core.List.{List}
+use Prim.Native.Nat.{ℕ, _+_, _-_, _≤_, _<_}
+use native.Mathlib.Omega.{arith}
+use mir.Syntax.{w32, w64}
+use mir.Val.{Fits}
+use lib.ListN.{length, getD}
+use Rattle.records.specs.Records.{Rec, mk, nul}
+use Rattle.branches.specs.Area.{Stored, Held, with-open}
+use Rattle.branches.proofs.AreaLaws.{lies, first-is, at-of, end-of, room-is, at-is}
+
+pub mk-equal : {a b c d a₁ b₁ c₁ d₁ : ℕ} → a ≡ a₁ → b ≡ b₁ → c ≡ c₁ → d ≡ d₁ → mk a b c d ≡ mk a₁ b₁ c₁ d₁
+mk-equal p q r s = λ t. mk (p t) (q t) (r t) (s t)
+
+module _ {r : Rec} {x₀ x₁ x₂ x₃ n : ℕ} (e : r ≡ mk x₀ x₁ x₂ x₃) where
+  pub w0-is : n ≡ r .w0 → n ≡ x₀
+  w0-is h = h ∙ ap (λ (u : Rec). u .w0) e
+
+  pub w1-is : n ≡ r .w1 → n ≡ x₁
+  w1-is h = h ∙ ap (λ (u : Rec). u .w1) e
+
+  pub w2-is : n ≡ r .w2 → n ≡ x₂
+  w2-is h = h ∙ ap (λ (u : Rec). u .w2) e
+
+  pub w3-is : n ≡ r .w3 → n ≡ x₃
+  w3-is h = h ∙ ap (λ (u : Rec). u .w3) e
+
+pub fits-wide : {n : ℕ} → Fits w32 n → Fits w64 n
+fits-wide f = omega (arith, f .fits)
+
+-- What the control record says first: where the open branch starts and where it ends.
+pub record Read (v : List Rec) (at end : ℕ) : Type 0 where
+  pub at-word : at ≡ getD v 0 nul .w0
+  pub end-word : end ≡ getD v 0 nul .w1
+
+module _ {v : List Rec} {most : ℕ} {b : Stored} {bs ss : List Stored} (H : Held v most (with-open b bs ss)) {at end : ℕ} (R : Read v at end) where
+  pub start-is : at ≡ at-of bs
+  start-is = at-is H at (R .at-word)
+
+  pub ends : end ≡ end-of b bs
+  ends = w1-is (first-is (lies H)) (R .end-word)
+
+  -- The free records are those from the branch's end to the systems.
+  pub free-is : (top : ℕ) → top ≡ getD v 0 nul .w2 → top ≡ end + length (H .free)
+  free-is top e = omega (arith, w2-is (first-is (lies H)) e, ends)
+
+  -- What fits into them, and what does not.
+  module _ {top : ℕ} (e : top ≡ getD v 0 nul .w2) where
+    pub end-le-top : end ≤ top
+    end-le-top = omega (arith, free-is top e)
+
+    pub bounds-inside : (at < end) × (end ≤ top) × (top ≤ most)
+    bounds-inside = (omega (arith, start-is, ends), end-le-top, omega (arith, free-is top e, ends, room-is H))
+
+    pub fits-free : {n : ℕ} → n ≤ top - end → n ≤ length (H .free)
+    fits-free h = omega (arith, free-is top e)
+
+    pub over-free : {n : ℕ} → top - end < n → length (H .free) < n
+    over-free h = omega (arith, free-is top e)
+
+  -- What is written into the records fits a word.
+  pub fits-word : {n : ℕ} → n ≤ most → Fits w32 n
+  fits-word h = omega (arith, H .few)
+
+  pub next-fits : {x n : ℕ} → x ≡ n → n < most → Fits w32 (x + 1)
+  next-fits e h = fits-word (omega arith)
+
+  pub at-fits : Fits w32 at
+  at-fits = fits-word (omega (arith, start-is, room-is H))
+
+  pub top-fits : (top : ℕ) → top ≡ getD v 0 nul .w2 → Fits w32 top
+  top-fits top e = fits-word (omega (arith, free-is top e, ends, room-is H))

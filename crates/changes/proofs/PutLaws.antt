@@ -1,0 +1,191 @@
+-- When a put into P or Q keeps the branch, when it adds the polynomial, and when there is no room for it.
+use mathlib.Core.Path.{_≡_, refl, sym, ap, ap₂, _∙_, subst}
+use mathlib.Core.Bool.{Bool, true, false, _&&_, _||_}
+use mathlib.Core.List.{List, [], _∷_, _++_, append-assoc}
+use Prim.Native.Nat.{ℕ, zero, suc, _+_, _-_, _/_, _<_}
+use native.Mathlib.Omega.{arith}
+use borrow.Author.Tests.{le-leb, lt-leb}
+use lib.Dec.{eqb}
+use lib.ListN.{length, take, drop, getD, length-append, take-append-drop}
+use Rattle.records.specs.Records.{Rec}
+use Rattle.stored.specs.Stored.{member, same, skip-to, polys-at, Storable}
+use Rattle.stored.specs.laws.Stored.{equal-of-same, length-le-polys-records}
+use Rattle.branches.specs.Words.{put-P, put-Q, put-Q-before, is-zero, is-one, unless, remove}
+use Rattle.branches.specs.Area.{Stored, Area, Held, Leaves, size, with-open, All-storable, put-into-P, put-into-Q, without-P, closed}
+use Rattle.branches.proofs.AreaLaws.{place, place-add, at-of, end-is, room-is, storable-take, storable-member, parted-Q, in-Q, skip-Q}
+use Rattle.changes.proofs.ChangeLaws.{Storable-branch, storable-remove, More, more-ends}
+
+-- ── the answers ──
+pub leaves-held : {v : List Rec} {most : ℕ} {a : Area} → Held v most a → Leaves most a true v
+unfolding size
+leaves-held {v} {most} {a} H = record { answer = sym (le-leb (size a) most (omega (arith, H .fits))); held = λ e. H }
+
+nothing : false ≡ true → ⊥
+nothing e = let z : _≡_ {A = ℕ} 0 1 = cc in omega arith
+
+module _ {v : List Rec} {most : ℕ} {b : Stored} {bs ss : List Stored} (H : Held v most (with-open b bs ss)) where
+  pub no-room : {b₁ : Stored} {xs : List (List ℕ)} {f : List ℕ} {ys : List (List ℕ)} → More b b₁ xs f ys → length (H .free) < length f / 2 + 1
+      → Leaves most (with-open b₁ bs ss) false v
+  unfolding size
+  no-room {b₁} m h =
+      record {
+        answer = sym (lt-leb (size (with-open b₁ bs ss)) most (omega (arith, room-is H, end-is b₁ bs, more-ends m bs)));
+        held = λ e. absurd (nothing e);
+      }
+
+  -- The counts of the open branch are small.
+  pub counts-small : (length (b .P) < most) × (length (b .Q) < most) × (length (b .T) < most)
+  counts-small =
+      let p = length-le-polys-records (b .P) in
+      let q = length-le-polys-records (b .Q) in
+      let t = length-le-polys-records (b .T) in
+      let first = place-add (at-of bs) (b .P) (b .Q ++ b .T) in
+      let second = place-add (at-of bs) (b .Q) (b .T) in
+      let room = room-is H in
+      (omega arith, omega arith, omega arith)
+
+  pub leaves-same : (b₁ : Stored) → b ≡ b₁ → Leaves most (with-open b₁ bs ss) true v
+  leaves-same b₁ e = leaves-held (subst (λ (x : Stored). Held v most (with-open x bs ss)) e H)
+
+-- ── lists ──
+pub storable-append : (xs ys : List (List ℕ)) → All-storable xs → All-storable ys → All-storable (xs ++ ys)
+storable-append [] ys h k = k
+storable-append (f ∷ xs) ys h k = (h .0, storable-append xs ys (h .1) k)
+
+-- ── P ──
+pub put-P-zero : (f : List ℕ) (fs : List (List ℕ)) → length f ≡ 0 → put-P f fs ≡ fs
+unfolding put-P is-zero
+put-P-zero [] fs h = refl
+put-P-zero (x ∷ f) fs h = absurd (omega arith)
+
+pub put-P-found : (f : List ℕ) (fs : List (List ℕ)) → member f fs ≡ true → put-P f fs ≡ fs
+unfolding put-P is-zero
+put-P-found [] fs h = refl
+put-P-found (x ∷ f) fs h = ap (λ (t : Bool). unless t (x ∷ f) fs) h
+
+pub put-P-new : (f : List ℕ) (fs : List (List ℕ)) → (length f ≡ 0 → ⊥) → member f fs ≡ false → put-P f fs ≡ fs ++ (f ∷ [])
+unfolding put-P is-zero
+put-P-new [] fs n h = absurd (n refl)
+put-P-new (x ∷ f) fs n h = ap (λ (t : Bool). unless t (x ∷ f) fs) h
+
+module _ (f : List ℕ) (b : Stored) where
+  pub kept-P : put-P f (b .P) ≡ b .P → b ≡ put-into-P f b
+  kept-P e = λ t. record { P = sym e t; Q = b .Q; T = b .T }
+
+  module _ (e : put-P f (b .P) ≡ b .P ++ (f ∷ [])) where
+    pub adds-P : More b (put-into-P f b) (b .P) f (b .Q ++ b .T)
+    adds-P = record { less = refl; more = ap (λ (l : List (List ℕ)). l ++ (b .Q ++ b .T)) e ∙ append-assoc (b .P) (f ∷ []) (b .Q ++ b .T) }
+
+    pub count-P : length (put-P f (b .P)) ≡ length (b .P) + 1
+    count-P = ap length e ∙ length-append (b .P) (f ∷ [])
+
+    pub storable-P : Storable-branch b → Storable f → Storable-branch (put-into-P f b)
+    storable-P h k = (subst All-storable (sym e) (storable-append (b .P) (f ∷ []) (h .0) (k, tt)), h .1, h .2)
+
+-- ── Q ──
+pub one : (f : List ℕ) → length f ≡ 2 → eqb (getD f 0 0) 1 ≡ true → eqb (getD f 1 0) 0 ≡ true → is-one f ≡ true
+unfolding is-one same
+one [] l x y = absurd (omega arith)
+one (c ∷ []) l x y = absurd (omega arith)
+one (c ∷ (m ∷ [])) l x y = ap₂ _&&_ x (ap (λ (t : Bool). t && true) y)
+one (c ∷ (m ∷ (d ∷ f))) l x y = absurd (omega arith)
+
+is-false : (t : Bool) → (t ≡ true → ⊥) → t ≡ false
+is-false true h = absurd (h refl)
+is-false false h = refl
+
+ones : (f : List ℕ) → is-one f ≡ true → f ≡ 1 ∷ 0 ∷ []
+unfolding is-one
+ones f e = equal-of-same f (1 ∷ 0 ∷ []) e
+
+pub not-one-by-length : (f : List ℕ) → (length f ≡ 2 → ⊥) → is-one f ≡ false
+not-one-by-length f h = is-false (is-one f) (λ e. h (ap length (ones f e)))
+
+pub not-one-by-coefficient : (f : List ℕ) → eqb (getD f 0 0) 1 ≡ false → is-one f ≡ false
+not-one-by-coefficient f h = is-false (is-one f) (λ e. nothing (sym h ∙ ap (λ (l : List ℕ). eqb (getD l 0 0) 1) (ones f e)))
+
+pub not-one-by-monomial : (f : List ℕ) → eqb (getD f 1 0) 0 ≡ false → is-one f ≡ false
+not-one-by-monomial f h = is-false (is-one f) (λ e. nothing (sym h ∙ ap (λ (l : List ℕ). eqb (getD l 1 0) 0) (ones f e)))
+
+pub put-Q-one : (f : List ℕ) (fs : List (List ℕ)) → is-one f ≡ true → put-Q f fs ≡ fs
+unfolding put-Q
+put-Q-one f fs h = ap (λ (t : Bool). unless (t || member f fs) f fs) h
+
+pub put-Q-found : (f : List ℕ) (fs : List (List ℕ)) → member f fs ≡ true → put-Q f fs ≡ fs
+unfolding put-Q
+put-Q-found f fs h = go (is-one f)
+  where
+    go : (t : Bool) → unless (t || member f fs) f fs ≡ fs
+    go true = refl
+    go false = ap (λ (m : Bool). unless m f fs) h
+
+pub put-Q-new : (f : List ℕ) (fs : List (List ℕ)) → is-one f ≡ false → member f fs ≡ false → put-Q f fs ≡ fs ++ (f ∷ [])
+unfolding put-Q
+put-Q-new f fs n h = ap₂ (λ (t m : Bool). unless (t || m) f fs) n h
+
+pub storable-drop : (k : ℕ) (fs : List (List ℕ)) → All-storable fs → All-storable (drop k fs)
+storable-drop zero fs h = h
+storable-drop (suc k) [] h = h
+storable-drop (suc k) (f ∷ fs) h = storable-drop k fs (h .1)
+
+-- How many members of Q are looked at.
+abbrev pub seen : ℕ → Stored → ℕ
+seen left b = length (b .Q) - left
+
+-- They lie behind P.
+module _ {v : List Rec} {most : ℕ} {b : Stored} {bs ss : List Stored} (H : Held v most (with-open b bs ss)) (left : ℕ) {from q : ℕ}
+    (e : from ≡ place (at-of bs) (b .P)) (n : q ≡ length (b .Q)) where
+  pub seen-Q : polys-at v from (q - left) ≡ take (seen left b) (b .Q)
+  seen-Q = ap (λ (k : ℕ). polys-at v from (k - left)) n ∙ in-Q H from (seen left b) e (omega arith)
+
+  pub behind-seen : skip-to v from (q - left) ≡ place (at-of bs) (b .P ++ take (seen left b) (b .Q))
+  behind-seen = ap (λ (k : ℕ). skip-to v from (k - left)) n ∙ skip-Q H from (seen left b) e (omega arith)
+
+module _ (left : ℕ) (f : List ℕ) (b : Stored) where
+  pub kept-Q : put-Q f (take (seen left b) (b .Q)) ≡ take (seen left b) (b .Q) → b ≡ put-into-Q left f b
+  unfolding put-Q-before
+  kept-Q e = λ t. record {
+    P = b .P;
+    Q = sym (ap (λ (l : List (List ℕ)). l ++ drop (seen left b) (b .Q)) e ∙ take-append-drop (seen left b) (b .Q)) t;
+    T = b .T;
+  }
+
+  module _ (e : put-Q f (take (seen left b) (b .Q)) ≡ take (seen left b) (b .Q) ++ (f ∷ [])) where
+    new-Q : put-Q-before left f (b .Q) ≡ take (seen left b) (b .Q) ++ (f ∷ drop (seen left b) (b .Q))
+    unfolding put-Q-before
+    new-Q =
+        ap (λ (l : List (List ℕ)). l ++ drop (seen left b) (b .Q)) e ∙ append-assoc (take (seen left b) (b .Q)) (f ∷ []) (drop (seen left b) (b .Q))
+
+    pub adds-Q : More b (put-into-Q left f b) (b .P ++ take (seen left b) (b .Q)) f (drop (seen left b) (b .Q) ++ b .T)
+    adds-Q = record {
+      less = parted-Q b (seen left b);
+      more = ap (λ (l : List (List ℕ)). b .P ++ (l ++ b .T)) new-Q
+          ∙ ap (λ (l : List (List ℕ)). b .P ++ l) (append-assoc (take (seen left b) (b .Q)) (f ∷ drop (seen left b) (b .Q)) (b .T))
+          ∙ sym (append-assoc (b .P) (take (seen left b) (b .Q)) (f ∷ (drop (seen left b) (b .Q) ++ b .T)));
+    }
+
+    pub count-Q : length (put-Q-before left f (b .Q)) ≡ length (b .Q) + 1
+    count-Q =
+        let xs : List (List ℕ) = take (seen left b) (b .Q) in
+        let ys : List (List ℕ) = drop (seen left b) (b .Q) in
+        ap length new-Q ∙ omega (arith, length-append xs (f ∷ ys), length-append xs ys, ap length (take-append-drop (seen left b) (b .Q)))
+
+    pub storable-Q : Storable-branch b → Storable f → Storable-branch (put-into-Q left f b)
+    storable-Q h k =
+        let xs = storable-take (seen left b) (b .Q) (h .1) in
+        let ys = storable-drop (seen left b) (b .Q) (h .1) in
+        (h .0, subst All-storable (sym new-Q) (storable-append (take (seen left b) (b .Q)) (f ∷ drop (seen left b) (b .Q)) xs (k, ys)), h .2)
+
+-- ── a member of P moved to the front of T ──
+module _ (b : Stored) (i : ℕ) where
+  pub adds-T : More (without-P i b) (closed i b) (remove i (b .P) ++ b .Q) (getD (b .P) i []) (b .T)
+  adds-T = record {
+    less = sym (append-assoc (remove i (b .P)) (b .Q) (b .T));
+    more = sym (append-assoc (remove i (b .P)) (b .Q) (getD (b .P) i [] ∷ b .T));
+  }
+
+  pub count-T : {n : ℕ} → n ≡ length (b .T) → n + 1 ≡ length (closed i b .T)
+  count-T e = omega arith
+
+  pub storable-T : i < length (b .P) → Storable-branch b → Storable-branch (closed i b)
+  storable-T l h = (storable-remove i (b .P) (h .0), h .1, (storable-member (b .P) i l (h .0), h .2))

@@ -1,0 +1,41 @@
+-- `turn::begin`: `begun` with the words read.
+use mathlib.Core.Path.{_≡_, ap, _∙_}
+use mathlib.Core.Logic.{⊎-elim}
+use Prim.Native.Nat.{ℕ}
+use native.Mathlib.Omega.{arith}
+use lib.ListN.{set}
+use Rattle.records.specs.Records.{mk, view}
+use Rattle.records.proofs.Rows.{length-view}
+use Rattle.branches.specs.Area.{capacity}
+use Rattle.turns.proofs.TurnLaws.{begun}
+use borrow.Author.Needs.{needs}
+use Rattle.turns.proofs.begin.Statement.{statement}
+use Rattle.turns.proofs.begin.Tie as tie
+
+most-is : (c : tie.Joined1) → c .if1 .most ≡ capacity (c .before .before .args .w .now)
+most-is c = ⊎-elim (λ w. omega arith) (λ w. omega arith) (c .if1 .came)
+
+cast-put-rec : tie.Need-cast-put-rec
+cast-put-rec c = omega (arith, most-is (c .before .before))
+
+put-rec-requires : tie.Need-put-rec-requires
+put-rec-requires c κs = search needs
+
+put-rec-requires-2 : tie.Need-put-rec-requires-2
+put-rec-requires-2 c κs = search needs
+
+same-length : tie.Need-same-length
+same-length c = search needs
+
+returns : tie.Need-returns
+returns c =
+    let s = c .before .before .before .before .before .before .before .before .before .before .before in
+    let w = s .args .w .now in
+    let v = view w in
+    let p = c .before .before .before .before .before .before in
+    begun v _ _ (capacity w) (s .pre) (omega (arith, length-view w)) (omega arith)
+    (p .put-rec .ensures ∙ ap (λ (k : ℕ). set v 0 (mk 1 2 k 0)) (most-is (p .before .before .before))) (c .before .before .put-rec2 .ensures)
+
+pub begin-spec : {M : Type 1} → statement M
+begin-spec =
+    tie.close (tie.spec cast-put-rec put-rec-requires put-rec-requires-2 same-length returns)

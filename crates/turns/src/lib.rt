@@ -1,0 +1,58 @@
+// The first branch, and what becomes of an open branch at its end: it is dropped, or listed as a system.
+ghost use mathlib.Core.Path.{_≡_};
+ghost use mathlib.Core.List.{List, [], _∷_};
+ghost use Prim.Native.Nat.{_≤_};
+ghost use Rattle.records.specs.Records.{view};
+ghost use Rattle.branches.specs.Area.{Stored, Area, Held, Opened, capacity, with-open, empty, has-branch};
+
+// An empty first branch, whatever the words were.
+pub fn begin(w: &mut [u32])
+    requires { ⌜ 2 ≤ capacity (now w) ⌝ }
+    ensures { λ _. ⌜ Held (view (now (w .exit))) (capacity (now (w .entry))) (with-open empty [] []) ⌝ }
+{
+    let all = w.len() / 4;
+    let most = if all < 65536 { all } else { 65536 };
+    records::put_rec(w, 0, 1, 2, most as u32, 0);
+    records::put_rec(w, 1, 0, 0, 0, 0);
+}
+
+// Whether a branch is left.
+pub fn is_open(w: &[u32]) -> bool
+    requires { ⌜ ((a : Area) × Held (view (now w)) (capacity (now w)) a) ⌝ }
+    ensures { λ r. ⌜ ((a : Area) → Held (view (now (w .entry))) (capacity (now (w .entry))) a → r ≡ has-branch a) ⌝ }
+{
+    records::get0(w, 0) != 0
+}
+
+// Drops the open branch.
+pub fn drop(w: &mut [u32])
+    requires { ⌜ Opened (view (now w)) (capacity (now w)) ⌝ }
+    ensures { λ _. ⌜ ((b : Stored) (bs ss : List Stored) → Held (view (now (w .entry))) (capacity (now (w .entry))) (with-open b bs ss)
+        → Held (view (now (w .exit))) (capacity (now (w .entry))) (record { branches = bs; systems = ss })) ⌝ }
+{
+    let at = records::get0(w, 0) as usize;
+    let under = records::get3(w, at);
+    let top = records::get2(w, 0);
+    let systems = records::get3(w, 0);
+    records::put_rec(w, 0, under, at as u32, top, systems);
+}
+
+// Lists the open branch, whose P is empty, as a system.
+pub fn list(w: &mut [u32])
+    requires { ⌜ Opened (view (now w)) (capacity (now w)) ⌝ }
+    ensures { λ _. ⌜ ((b : Stored) (bs ss : List Stored) → Held (view (now (w .entry))) (capacity (now (w .entry))) (with-open b bs ss)
+        → Held (view (now (w .exit))) (capacity (now (w .entry))) (record { branches = bs; systems = b ∷ ss })) ⌝ }
+{
+    let at = records::get0(w, 0) as usize;
+    let end = records::get1(w, 0) as usize;
+    let top = records::get2(w, 0) as usize;
+    let systems = records::get3(w, 0);
+    let p = records::get0(w, at);
+    let q = records::get1(w, at);
+    let t = records::get2(w, at);
+    let under = records::get3(w, at);
+    let to = top - (end - at);
+    records::move_up(w, at, end - at, to);
+    records::put_rec(w, to, p, q, t, 0);
+    records::put_rec(w, 0, under, at as u32, to as u32, systems + 1);
+}

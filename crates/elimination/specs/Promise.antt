@@ -1,5 +1,6 @@
 -- Demand 3 as a single claim about calls of the operations, over every table, limit, work area, output and point. A call is known by its
--- contract alone, and its answer by its numbers. `Promise` states the claim; it is drawn from the claim on the definitions in
+-- contract alone, and its answer by its numbers: `Eliminates` is what `eliminate` ensures, and `Tries` and `Places` are, word for word, what
+-- `points::try_table` and `lists::try_list` do. `Promise` states the claim; it is drawn from the claim on the definitions in
 -- rules/specs/Promise.antt, whose records `ListPromise` and `PointPromise` say the same of them.
 use mathlib.Core.Path.{_≡_, refl, sym, _∙_, ap, subst}
 use mathlib.Core.Logic.{_↔_}
@@ -7,7 +8,7 @@ use mathlib.Core.Bool.{Bool, true, false, true≢false, false≢true}
 use mathlib.Core.List.{List}
 use Prim.Native.Nat.{ℕ, _*_, _≤_}
 use native.Mathlib.Omega.{arith}
-use lib.ListN.{length, take, replicate}
+use lib.ListN.{length, take}
 use Rattle.residues.specs.Each.{Each}
 use Rattle.tables.specs.Read.{good, Input, System, read-table}
 use Rattle.tables.specs.Solve.{solves, first-solved, try-input, try-systems, trial, placing}
@@ -25,14 +26,10 @@ use Rattle.rules.specs.Promise.{ListPromise, PointPromise, promise}
 use Rattle.elimination.specs.declared.Answer.{Answer}
 use Rattle.run.specs.declared.Outcome.the-variants.{Systems}
 use Rattle.elimination.specs.Answer.{answer-of}
+use Rattle.elimination.specs.Eliminates.{Eliminates}
 use Rattle.elimination.specs.Numbers.{outcome-numbers}
 
--- ── the calls, by their contracts ──
-pub record Eliminates (table work output : List ℕ) (limit : ℕ) (a : Answer) (work-after output-left : List ℕ) : Type 0 where
-  pub answer : a ≡ answer-of (eliminated table (length work) (length output) limit)
-  pub output-is : output-left ≡ output-after (eliminated table (length work) (length output) limit) output
-  pub cleared : work-after ≡ replicate (length work) 0
-
+-- ── the calls of the point tests, by their contracts ──
 abbrev pub Tries : List ℕ → List ℕ → Trial → Type 0
 Tries table x q = q ≡ trial (try-input table x)
 

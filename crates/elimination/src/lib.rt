@@ -3,17 +3,17 @@ mod deliver;
 
 ghost use mathlib.Core.Path.{_≡_};
 ghost use Prim.Native.Nat.{_-_, _/_, _≤_};
-ghost use lib.ListN.{length, replicate};
+ghost use lib.ListN.{length};
 ghost use Rattle.tables.specs.Read.{Input, good, read-table};
 ghost use Rattle.records.specs.Records.{view};
 ghost use Rattle.branches.specs.Area.{Area, Held, capacity};
 ghost use Rattle.representation.specs.Represent.{state-of};
 ghost use Rattle.rules.specs.Run.{run, run-of};
-ghost use Rattle.rules.specs.Eliminate.{delivered, eliminated, limits-of, output-after};
+ghost use Rattle.rules.specs.Eliminate.{delivered, limits-of};
 ghost use Rattle.representation.specs.Ready.{Ready, Modulus, limits-in};
 ghost use Rattle.run.specs.Stretch.{Ran};
-ghost use Rattle.elimination.specs.Answer.{answer-of};
 ghost use Rattle.elimination.specs.Delivered.{Delivered};
+ghost use Rattle.elimination.specs.Eliminates.{Eliminates};
 use run::Ending;
 pub use run::Outcome;
 use tables::ReadOutcome;
@@ -123,9 +123,7 @@ fn run_long(work: &mut [u32], p: u64, limit: u32, from: u32) -> Answer
 // Eliminates the table: on success the list of systems stands in the first words of the output. The work area may hold anything, and is zero
 // afterwards. Stack: about 90 KiB, of which a small job clears 6; 1.1 MiB more where a product gathers over 1,024 words.
 pub fn eliminate(table: &[u32], work: &mut [u32], output: &mut [u32], limit: u32) -> Answer
-    ensures { λ r. ⌜ r ≡ answer-of (eliminated (now (table .entry)) (length (now (work .entry))) (length (now (output .entry))) limit) ⌝ }
-    ensures { λ _. ⌜ now (output .exit) ≡ output-after (eliminated (now (table .entry)) (length (now (work .entry))) (length (now (output .entry))) limit) (now (output .entry)) ⌝ }
-    ensures { λ _. ⌜ now (work .exit) ≡ replicate (length (now (work .entry))) 0 ⌝ }
+    ensures { λ r. ⌜ Eliminates (now (table .entry)) (now (work .entry)) (now (output .entry)) limit r (now (work .exit)) (now (output .exit)) ⌝ }
 {
     let reading = tables::read::read_table(table);
     let outcome = reading.outcome;

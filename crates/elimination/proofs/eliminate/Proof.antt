@@ -69,7 +69,11 @@ returns : tie.Need-returns
 returns c =
     let m = c .before .before .before .before .before in
     let out = refused-in m .args .output .now in
-    (sym (ap answer-of (refused m)), (sym (ap (λ (d : Eliminated). output-after d out) (refused m)), c .before .before .clear .ensures))
+    record {
+      answer = sym (ap answer-of (refused m));
+      output-is = sym (ap (λ (d : Eliminated). output-after d out) (refused m));
+      cleared = c .before .before .clear .ensures;
+    }
 
 enum-told : tie.Need-enum-told
 enum-told c = search needs
@@ -95,13 +99,12 @@ returns-2 c =
     let k = call c in
     let m = k .before .before .before in
     let out = accepted-in m .args .output .now in
-    let d = k .eliminate-accepted .ensures (accepted m .0) (accepted m .1) in (
-      d .answer ∙ sym (ap answer-of (is-delivered m)),
-      (
-        d .output ∙ sym (ap (λ (d : Eliminated). output-after d out) (is-delivered m)),
-        c .before .before .clear2 .ensures ∙ ap (λ (n : ℕ). replicate n 0) (k .eliminate-accepted .kept .1 .0),
-      ),
-    )
+    let d = k .eliminate-accepted .ensures (accepted m .0) (accepted m .1) in
+    record {
+      answer = d .answer ∙ sym (ap answer-of (is-delivered m));
+      output-is = d .output ∙ sym (ap (λ (d : Eliminated). output-after d out) (is-delivered m));
+      cleared = c .before .before .clear2 .ensures ∙ ap (λ (n : ℕ). replicate n 0) (k .eliminate-accepted .kept .1 .0);
+    }
 
 pub eliminate-spec : {M : Type 1} → statement M
 eliminate-spec =

@@ -95,7 +95,7 @@ returns-3 c =
     let p = c .before .before .put-answer .ensures in (
       p .0,
       answered b w (a .output .now) (length (a .work .now)) (length (a .output .now)) (omega (arith, i .before .if1 .left)) (omega (arith, i .if2 .left))
-          (d .decode .ensures .0) (sym (s .pre .1)) (sym (s .pre .2)) (e .0) (e .1 .0) (p .1),
+          (d .decode .ensures .0) (sym (s .pre .1)) (sym (s .pre .2)) (e .answer) (e .output-is) (p .1),
     )
 
 pub respond-spec : {M : Type 1} → statement M

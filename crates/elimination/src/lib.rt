@@ -39,6 +39,7 @@ fn eliminate_accepted(table: &[u32], work: &mut [u32], output: &mut [u32], limit
         };
     }
     let p = table[0] as u64;
+    // 32 records: the largest table that is run in short scratch first (docs/DECISIONS.md, 16).
     let ran = if table.len() <= 128 {
         run_short(work, p, limit, &mut divided)
     } else {

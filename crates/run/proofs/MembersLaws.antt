@@ -230,7 +230,7 @@ module _ {p k : ℕ} {f : Poly} {closing : Bool} {place left₀ : ℕ} {w₀ w :
             → rest-in (capacity w₀) p closing place left k f b bs ss ≡ if-fits o (rest-in (capacity w₀) p closing place (left - 1) k f after bs ss)
         goes-as o t = goes-on ∙ ap (λ (o : Bool). if-fits o (rest-in (capacity w₀) p closing place (left - 1) k f after bs ss)) t
 
-      pub member-put : q ≡ true → AtMembers p k f closing place left₀ w₀ v (left - 1)
+      member-put : q ≡ true → AtMembers p k f closing place left₀ w₀ v (left - 1)
       member-put t = record {
         same = B .same ∙ A .same;
         some =
@@ -256,10 +256,15 @@ module _ {p k : ℕ} {f : Poly} {closing : Bool} {place left₀ : ℕ} {w₀ w :
             );
       }
 
-      pub member-not-put : q ≡ false → Comes-to p k f closing place left₀ w₀ (stopped Room)
+      member-not-put : q ≡ false → Comes-to p k f closing place left₀ w₀ (stopped Room)
       member-not-put t b₀ bs ss H R M =
           let s = A .all b₀ bs ss H R M in
           sym (s .4) ∙ goes-as (s .0) bs ss (s .1) (s .2) (s .3) false t
+
+      -- Where there is room, the members go on; else the step stops.
+      pub member-put-back :
+          (q ≡ true → AtMembers p k f closing place left₀ w₀ v (left - 1)) × (q ≡ false → Comes-to p k f closing place left₀ w₀ (stopped Room))
+      member-put-back = (member-put, member-not-put)
 
 -- ── where the loop ends ──
 module _ (l : Limits) (p k : ℕ) (f : Poly) (place : ℕ) (b : Stored) (bs ss : List Stored) where

@@ -1,6 +1,5 @@
--- `run` meets its contract: the answers to what is asked at each line of its code. `Places` has the loops' invariants and the places of the code;
--- `Facts` has what is known there.
-mod Places
+-- `run` meets its contract: the answers to what is asked at each line of its code. `Facts` has what is known there; below it, `Places` has the
+-- loops' invariants and the places of the code.
 mod Facts
 use mathlib.Core.Path.{refl, sym, subst}
 use mathlib.Core.Bool.{false≢true}
@@ -17,7 +16,6 @@ use Rattle.run.proofs.MembersLaws.{members-open, members-left, member-o
 use Rattle.run.proofs.RunLaws.{final-not-paused, run-holds-some, run-has-control, run-finished, run-no-steps, run-goes-on}
 use Rattle.run.proofs.run.Statement.{statement}
 use Rattle.run.proofs.run.Tie as tie
-use Places.*
 use Facts.*
 
 -- ── the run ──
@@ -67,7 +65,7 @@ run-again c =
 
 -- ── the members ──
 members-holds : Of tie.Need-members-holds
-members-holds c = (members-begin c, kept-all, crowds-prepared (to-prepared c))
+members-holds c = (members-begin c, kept-all, crowds-at-turn (run-of c))
 
 take-requires : Of tie.Need-take-requires
 take-requires c κs =
@@ -89,7 +87,7 @@ members-less : Of tie.Need-members-less
 members-less c = omega (arith, one-left (to-taken (put-of (c .before))))
 
 members-again : Of tie.Need-members-again
-members-again c = let m = c .before in (member-goes-on m (not-false (fits m) (c .if6 .left)), member-keeps m, crowds-put m)
+members-again c = let m = c .before in (member-goes m .0 (not-false (fits m) (c .if6 .left)), member-keeps m, crowds-division (put-of m))
 
 -- ── the division ──
 division-holds : Of tie.Need-division-holds
@@ -194,7 +192,7 @@ returns-7 c =
 returns-8 : Of tie.Need-returns-8
 returns-8 c =
     let m = c .before in
-    (left-stops (division-of (put-of m)) Room (at-put m .w) (member-stops m (not-true (fits m) (c .if6 .taken))), final-not-paused)
+    (left-stops (division-of (put-of m)) Room (at-put m .w) (member-goes m .1 (not-true (fits m) (c .if6 .taken))), final-not-paused)
 
 -- The needs between the returns: the seven slices lent are as long as they were.
 pub run-spec : {M : Type 1} → statement M

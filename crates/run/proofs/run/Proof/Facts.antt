@@ -1,5 +1,7 @@
 -- What is known at the places of `run`, in the order of the code. That the slices keep their lengths is said of a call (`prepare-keeps`), of what is
--- done since the step was prepared (`division-keeps`), and since the function began (`kept-at-round`).
+-- done since the step was prepared (`division-keeps`), and since the function began (`kept-at-round`). `Places` has the loops' invariants and the
+-- places of the code.
+mod Places
 use mathlib.Core.Path.{_≡_, refl, sym, ap, subst, _∙_}
 use mathlib.Core.Logic.{_⊎_, inl, inr, ⊎-elim}
 use mathlib.Core.Bool.{Bool, true, false}
@@ -29,20 +31,11 @@ use Rattle.steps.specs.Pending.{Pivoted}
 use Rattle.run.specs.declared.Outcome.the-variants.{Refused}
 use Rattle.run.proofs.Slices.{Kept, kept-then, Suits, suits-kept, Crowds, crowds-kept}
 use Rattle.run.proofs.Invariants.{AtRun, AtMembers, AtDivision, division-begins, round-less, division-goes-on, division-ends, division-passes}
-use Rattle.run.proofs.MembersLaws.{AtMember, PutBack, Comes-to, member-taken, member-inside, member-holds, member-put, member-not-put}
+use Rattle.run.proofs.MembersLaws.{AtMember, PutBack, Comes-to, member-taken, member-inside, member-holds, member-put-back}
 use Rattle.run.proofs.RunLaws.{Goes-to, Stops, Some-open, All-open, None-open, ended, paused, Answers, run-open-some, run-paused, run-stopped}
 use Rattle.run.proofs.RunLaws.{Preparation, Pivot-in, prepared-as, prepared-done, prepared-stop, prepared-pivot}
 use Rattle.run.proofs.RunLaws.{members-first, members-done, members-stop}
-use Rattle.run.proofs.run.Proof.Places.{Entry, RunTurn, NoneOpen, BranchOpen, RunCrowded, StepPrepared, PivotCrowded, StepStopped}
-use Rattle.run.proofs.run.Proof.Places.{MembersFound, MembersTurn, MemberTaken, DivisionTurn, RoundDue, RoundTried, RoundDone}
-use Rattle.run.proofs.run.Proof.Places.{WordsFormed, MemberDivided, MemberPut, StepDone}
-use Rattle.run.proofs.run.Proof.Places.{to-entry, none-in, to-turn, crowded-run, to-step, open-of, to-due, to-run}
-use Rattle.run.proofs.run.Proof.Places.{crowded-in, stopped-in, to-prepared, run-of, entry-of}
-use Rattle.run.proofs.run.Proof.Places.{to-found, to-left, to-members, found-of, to-taken, division-of, to-division}
-use Rattle.run.proofs.run.Proof.Places.{tried-of, to-tried, to-round, round-of, to-rounded, divided-in, to-divided, put-of, done-in}
-use Rattle.run.proofs.run.Proof.Places.{prepare-call, take-call, round-call, put-call}
-use Rattle.run.proofs.run.Proof.Places.{at-entry, at-turn, at-prepared, at-found, at-members}
-use Rattle.run.proofs.run.Proof.Places.{at-taken, at-division, at-rounded, at-put, at-done}
+pub use Places.*
 
 -- ── the function begins ──
 module _ (m : Entry) where
@@ -113,9 +106,6 @@ module _ (m : StepPrepared) where
   suits-prepared : Suits (at-prepared m)
   suits-prepared = suits-kept (suits-at-turn (to-run m)) prepare-keeps
 
-  pub crowds-prepared : Crowds (to-run m .run .crowded) (at-prepared m)
-  crowds-prepared = crowds-at-turn (to-run m)
-
   -- The answer is q.
   abbrev Prepares-as : Prepared → Type 0
   Prepares-as q = Preparation (p (to-run m)) (at-turn (to-run m) .w) q (at-prepared m .t) (at-prepared m .i) (at-prepared m .w)
@@ -131,27 +121,22 @@ module _ (m : StepPrepared) where
   run-stops = run-stopped (run-invariant (to-run m)) (all-open (open-of (to-due m))) steps-left
 
 -- ── the pivot does not fit t ──
-module _ (m : PivotCrowded) where
-  pivot-crowded :
-      let r = to-run (crowded-in m) in
-      (length (at-turn r .t) < 512) × (at-prepared (crowded-in m) .w ≡ at-turn r .w)
-  pivot-crowded = prepare-call (crowded-in m) .prepare .ensures .1 (m .enum-told2 .given .1)
-
-  pub pivot-pauses : Pauses (to-run (crowded-in m)) (at-prepared (crowded-in m) .w)
-  pivot-pauses =
-      let r = to-run (crowded-in m) in
-      (run-paused (run-invariant r) _ (pivot-crowded .1), inl (omega (arith, pivot-crowded .0, kept-at-turn r .t)))
+pub pivot-pauses : (m : PivotCrowded) → Pauses (to-run (crowded-in m)) (at-prepared (crowded-in m) .w)
+pivot-pauses m =
+    let r = to-run (crowded-in m) in
+    let short : (length (at-turn r .t) < 512) × (at-prepared (crowded-in m) .w ≡ at-turn r .w) =
+    prepare-call (crowded-in m) .prepare .ensures .1 (m .enum-told2 .given .1) in
+    (run-paused (run-invariant r) _ (short .1), inl (omega (arith, short .0, kept-at-turn r .t)))
 
 -- ── the step is to stop ──
 module _ (m : StepStopped) where
   abbrev reason : Reason
   reason = m .before .why .given .0 .0
 
-  stop-prepared : Prepares-as (stopped-in m) (Stop reason)
-  stop-prepared = prepared-as (preparation (stopped-in m)) (Stop reason) (m .before .why .given .1)
-
   pub step-stops : (v : List ℕ) → Refuses (to-run (stopped-in m)) reason v
-  step-stops v = run-stops (stopped-in m) reason v (prepared-stop reason stop-prepared)
+  step-stops v =
+      let s = stopped-in m in
+      run-stops s reason v (prepared-stop reason (prepared-as (preparation s) (Stop reason) (m .before .why .given .1)))
 
 -- ── members are to be divided ──
 module _ (m : MembersFound) where
@@ -223,9 +208,7 @@ module _ (m : MemberTaken) where
       AtDivision (modulo (found-of m)) (d .k) (d .degree) (pivot (found-of m)) (at-taken m .r) (take-call m .take .result)
 
   pub rounds-begin : Rounds (at-taken m .r) (take-call m .take .result)
-  rounds-begin =
-      let d = found (found-of m) in
-      division-begins (modulo (found-of m)) (d .k) (d .degree) (pivot (found-of m)) _ _ (member-inside member-out) (member-holds member-out)
+  rounds-begin = division-begins _ _ _ _ _ _ (member-inside member-out) (member-holds member-out)
 
   -- What dividing it gives.
   abbrev remainder : Bounded
@@ -248,7 +231,7 @@ module _ (m : DivisionTurn) where
   division-keeps : Kept (at-found (division-of m)) (at-division m)
   division-keeps = kept-then (members-keep (to-members (to-taken m))) (kept-then (take-keeps (to-taken m)) rounds-keep)
 
-  crowds-division : Crowds (m .division .crowded) (at-division m)
+  pub crowds-division : Crowds (m .division .crowded) (at-division m)
   crowds-division = m .division .inv .2
 
   pub suits-division : Suits (at-division m)
@@ -360,9 +343,6 @@ module _ (m : MemberPut) where
   pub kept-at-put : Kept (at-entry (entry-of (division-of (put-of m)))) (at-put m)
   kept-at-put = kept-then (kept-at-prepared (to-prepared (division-of (put-of m)))) member-keeps
 
-  pub crowds-put : Crowds (put-of m .division .crowded) (at-put m)
-  crowds-put = crowds-division (put-of m)
-
   abbrev pub fits : Bool
   fits = put-call m .put-back .result
 
@@ -374,15 +354,10 @@ module _ (m : MemberPut) where
       PutBack (modulo f) (found f .closing) left-then (divided (put-of m)) (at-division (put-of m) .w) fits (at-put m .w)
   put-back = record { same = put-back-keeps .w; puts = put-call m .put-back .ensures }
 
-  pub member-goes-on : fits ≡ true → Left (division-of (put-of m)) (at-put m .w) left-then
-  member-goes-on =
+  pub member-goes : (fits ≡ true → Left (division-of (put-of m)) (at-put m .w) left-then) × (fits ≡ false → Left-comes-to (division-of (put-of m)) (stopped Room))
+  member-goes =
       let d = put-of m in
-      member-put (member-out (to-taken d)) (residues (division-of d) .prime) (division-invariant d .holds) (remainder-stands (to-divided m)) put-back
-
-  pub member-stops : fits ≡ false → Left-comes-to (division-of (put-of m)) (stopped Room)
-  member-stops =
-      let d = put-of m in
-      member-not-put (member-out (to-taken d)) (residues (division-of d) .prime) (division-invariant d .holds) (remainder-stands (to-divided m)) put-back
+      member-put-back (member-out (to-taken d)) (residues (division-of d) .prime) (division-invariant d .holds) (remainder-stands (to-divided m)) put-back
 
 -- ── the step is done ──
 module _ (m : StepDone) where
@@ -400,7 +375,7 @@ module _ (m : StepDone) where
       (λ c. (
         subst Goes (sym (c .2)) (prepared-done (prepared-as P Done (c .1 .given .1))),
         record { w = ap length (c .2); t = refl; i = refl; r = ap length (c .3); x = ap length (c .4); y = ap length (c .5); z = ap length (c .6) },
-        λ e. omega (arith, crowds-prepared (done-in m) (sym (c .7) ∙ e), ap length (c .4)),
+        λ e. omega (arith, crowds-at-turn done-run (sym (c .7) ∙ e), ap length (c .4)),
       ))
       (λ c. (
         subst Goes (sym (c .5)) (members-done (prepared-as P (Members (c .1 .given .0 .0)) (c .1 .given .1)) (c .3 .inv .0) (omega (arith, c .4 .left))),

@@ -1,7 +1,7 @@
 -- What is left of a step when its rule has been found.
 use mathlib.Core.Path.{_≡_}
 use mathlib.Core.Bool.{true, false}
-use mathlib.Core.List.{List, []}
+use mathlib.Core.List.{List, [], map, reverse}
 use Prim.Native.Nat.{ℕ, _+_, _≤_, _<_}
 use lib.ListN.{length, getD, take}
 use Rattle.polynomials.specs.Packed.{terms}
@@ -9,10 +9,11 @@ use Rattle.polynomials.specs.Division.{degree, leader, coefficient}
 use Rattle.polynomials.specs.Working.{Holds}
 use Rattle.rules.specs.Branch.{Found, none, found}
 use Rattle.rules.specs.Room.{Limits}
-use Rattle.rules.specs.Step.{Stepped, next, stopped}
+use Rattle.rules.specs.Rule.{rule-with}
+use Rattle.rules.specs.Step.{Stepped, next, stopped, apply}
 use Rattle.records.specs.Records.{Rec}
 use Rattle.branches.specs.Area.{Stored, Area, Held, with-open, closed}
-use Rattle.representation.specs.Represent.{state-of}
+use Rattle.representation.specs.Represent.{branch-of, system-of, state-of, chosen}
 use Rattle.representation.specs.Ready.{Ready}
 use Rattle.members.specs.Members.{Has-members, rest-of-step}
 use Rattle.steps.specs.declared.Division.{Division}
@@ -27,6 +28,10 @@ division-of (found c) k d n m b = record { k = k; degree = d; pivot = n; initial
 abbrev pub aimed : Found → ℕ → Stored → Stored
 aimed none i b = closed i b
 aimed (found c) i b = b
+
+-- The member of P at `place` is led by v(k+1).
+abbrev pub Leads : ℕ → ℕ → Stored → Type 0
+Leads k place b = (k < 8) × (place < length (b .P)) × (leader (terms (getD (b .P) place [])) ≡ k + 1)
 
 -- t is a pivot of degree d in v(k+1), and i its initial.
 pub record Pivoted (p k d : ℕ) (t i : List ℕ) : Type 0 where
@@ -47,13 +52,18 @@ pub record Comes (l : Limits) (p : ℕ) (S : Stepped) (d : Division) (t i : List
   pub has : Has-members (d .closing) (d .place) (d .left) b
   pub goes : S ≡ rest-of-step l p (d .closing) (d .place) (d .left) (d .k) (terms (take (d .pivot) t)) b bs ss
 
--- What the code answers of the step S: it is done, it comes to a division, or it stops; or the step was not begun.
+-- The step S is that with the pivot of the branch b at `place`, which is longer than t.
+pub record Too-long (l : Limits) (p : ℕ) (S : Stepped) (t : List ℕ) (v : List Rec) (most : ℕ) (b : Stored) (bs ss : List Stored) : Type 0 where
+  pub held : Held v most (with-open b bs ss)
+  pub k : ℕ
+  pub place : ℕ
+  pub leads : Leads k place b
+  pub goes : S ≡ apply l p (map branch-of bs) (reverse (map system-of ss)) (rule-with k (chosen b place) (branch-of b)) (branch-of b)
+  pub longer : length t < length (getD (b .P) place [])
+
+-- What the code answers of the step S: it is done, it comes to a division, or it stops; or it was not begun, since the pivot is longer than t.
 abbrev pub Prepares : Limits → ℕ → Stepped → Prepared → List ℕ → List ℕ → List Rec → ℕ → List Stored → List Stored → Type 0
 Prepares l p S Done t i v most bs ss = (a : Area) × (S ≡ next (state-of a)) × Held v most a × Ready p a
 Prepares l p S (Members d) t i v most bs ss = (b : Stored) × Comes l p S d t i v most b bs ss
 Prepares l p S (Stop why) t i v most bs ss = S ≡ stopped why
-Prepares l p S Crowded t i v most bs ss = Unit {0}
-
--- The member of P at `place` is led by v(k+1).
-abbrev pub Leads : ℕ → ℕ → Stored → Type 0
-Leads k place b = (k < 8) × (place < length (b .P)) × (leader (terms (getD (b .P) place [])) ≡ k + 1)
+Prepares l p S Crowded t i v most bs ss = (b : Stored) × Too-long l p S t v most b bs ss

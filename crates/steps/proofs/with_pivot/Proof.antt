@@ -160,7 +160,17 @@ returns c =
     let s = entry (c .before) in
     let o = s .pre .0 .1 in
     let few = storable-member (o .0 .P) (s .args .place) (o .5 .1) (o .3 .storable .0 .0) .few in (
-      (λ b bs ss H R L. tt),
+      (λ b bs ss H R L. (
+        b,
+        record {
+          held = H;
+          k = s .args .k;
+          place = s .args .place;
+          leads = L;
+          goes = refl;
+          longer = omega (arith, c .if1 .taken, c .before .words-p .ensures b bs ss H);
+        },
+      )),
       (λ e. (omega (arith, c .if1 .taken, c .before .words-p .ensures (o .0) (o .1) (o .2) (o .3), few), refl)),
     )
 

@@ -18,8 +18,8 @@ use Rattle.branches.proofs.AreaLaws.{all-pairs}
 use Rattle.representation.specs.Represent.{system-of}
 use Rattle.representation.specs.laws.Sizes.{length-polys-records-terms}
 use Rattle.writing.specs.Listed.{Stored-at, system-words}
-use Rattle.writing.proofs.Over.{over, paste-over, over-behind, record-behind}
-use Rattle.writing.proofs.Laws.{index-is}
+use Rattle.chains.proofs.Over.{over, paste-over, over-behind, record-behind}
+use Rattle.chains.proofs.Laws.{index-is}
 
 -- The records that a system takes.
 abbrev pub size-of : Stored → ℕ

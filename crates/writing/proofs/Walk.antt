@@ -16,8 +16,8 @@ use Rattle.branches.specs.Area.{Stored, Held, branch-records, systems-records, 
 use Rattle.representation.specs.Represent.{system-of, All-listed}
 use Rattle.representation.specs.laws.Sizes.{length-systems-records, systems-size-reverse}
 use Rattle.writing.specs.Listed.{listing-of, Stored-at, system-words}
-use Rattle.writing.proofs.Over.{over, over-nil, over-front, over-before, paste-over, record-behind}
-use Rattle.writing.proofs.Laws.{index-is}
+use Rattle.chains.proofs.Over.{over, over-nil, over-front, over-before, paste-over, record-behind}
+use Rattle.chains.proofs.Laws.{index-is}
 use Rattle.writing.proofs.Systems.{size-of, length-branch-records, length-system-words}
 
 size-cons : (s : System) (ss : List System) → systems-size (s ∷ ss) ≡ systems-size (s ∷ []) + systems-size ss

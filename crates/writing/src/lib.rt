@@ -1,68 +1,15 @@
 // The written list of systems: from the work area, where they lie newest first, to the output, from its last record to its first.
 ghost use mathlib.Core.Path.{_≡_};
 ghost use mathlib.Core.List.{List, [], _∷_, _++_, map, reverse};
-ghost use Prim.Native.Nat.{_+_, _*_, _-_, _≤_, _<_};
+ghost use Prim.Native.Nat.{_+_, _*_, _≤_};
 ghost use lib.ListN.{length, drop};
 ghost use lib.Seq.{paste};
-ghost use Rattle.polynomials.specs.Packed.{terms};
-ghost use Rattle.rules.specs.Written.{terms-words, heads-words, list-words, list-records};
+ghost use Rattle.rules.specs.Written.{list-words, list-records};
 ghost use Rattle.rules.specs.Room.{systems-size};
-ghost use Rattle.records.specs.Records.{room, view};
-ghost use Rattle.stored.specs.Stored.{size-at, words-at, skip-to, polys-at};
+ghost use Rattle.records.specs.Records.{view};
 ghost use Rattle.branches.specs.Area.{Stored, Held, capacity};
 ghost use Rattle.representation.specs.Represent.{All-listed, system-of};
 ghost use Rattle.writing.specs.Listed.{Stored-at, system-words, listing-of};
-
-// Writes a record of the output.
-fn put_record(out: &mut [u32], i: usize, a: u32, b: u32, c: u32, d: u32)
-    requires { ⌜ 4 * i + 4 ≤ length (now out) ⌝ }
-    ensures { λ _. ⌜ now (out .exit) ≡ paste (now (out .entry)) (4 * i) (a ∷ b ∷ c ∷ d ∷ []) 4 ⌝ }
-{
-    let at = 4 * i;
-    out[at] = a;
-    out[at + 1] = b;
-    out[at + 2] = c;
-    out[at + 3] = d;
-}
-
-// Writes the terms of the polynomial at record `from` of the work area to the records from `to` on.
-fn write_terms(w: &[u32], from: usize, out: &mut [u32], to: usize)
-    requires { ⌜ (from < room (now w)) × (from + 1 + size-at (view (now w)) from ≤ room (now w)) ⌝ }
-    requires { ⌜ (4 * (to + size-at (view (now w)) from) ≤ length (now out)) × (to + size-at (view (now w)) from ≤ 65536) ⌝ }
-    ensures { λ _. ⌜ now (out .exit) ≡ paste (now (out .entry)) (4 * to) (terms-words to (terms (words-at (view (now (w .entry))) from))) (4 * size-at (view (now (w .entry))) from) ⌝ }
-{
-    let n = records::get0(w, from) as usize;
-    let mut i = 0;
-    while i < n {
-        let c = records::get0(w, from + 1 + i);
-        let high = records::get1(w, from + 1 + i);
-        let low = records::get2(w, from + 1 + i);
-        let next = if i + 1 < n { (to + i + 1) as u32 } else { 0 };
-        put_record(out, to + i, c, high, low, next);
-        i += 1;
-    }
-}
-
-// Writes the k polynomials from record `from` of the work area on as a chain of heads from record `to` on, each followed by its terms.
-fn write_heads(w: &[u32], from: usize, k: usize, out: &mut [u32], to: usize)
-    requires { ⌜ skip-to (view (now w)) from k ≤ room (now w) ⌝ }
-    requires { ⌜ (4 * (to + (skip-to (view (now w)) from k - from)) ≤ length (now out)) × (to + (skip-to (view (now w)) from k - from) ≤ 65536) ⌝ }
-    ensures { λ _. ⌜ now (out .exit) ≡ paste (now (out .entry)) (4 * to) (heads-words to (map terms (polys-at (view (now (w .entry))) from k))) (4 * (skip-to (view (now (w .entry))) from k - from)) ⌝ }
-{
-    let mut i = from;
-    let mut at = to;
-    let mut left = k;
-    while 0 < left {
-        let n = records::get0(w, i) as usize;
-        let first = if n == 0 { 0 } else { (at + 1) as u32 };
-        let next = if left == 1 { 0 } else { (at + 1 + n) as u32 };
-        put_record(out, at, first, 0, 0, next);
-        write_terms(w, i, out, at + 1);
-        i = i + 1 + n;
-        at = at + 1 + n;
-        left -= 1;
-    }
-}
 
 // How many records the system at record i takes.
 fn system_size(w: &[u32], i: usize) -> usize
@@ -87,9 +34,9 @@ fn write_system(w: &[u32], i: usize, out: &mut [u32], at: usize, next: u32)
     let to_u = at + 1 + (end - in_t);
     let first_t = if t == 0 { 0 } else { (at + 1) as u32 };
     let first_u = if u == 0 { 0 } else { to_u as u32 };
-    put_record(out, at, first_t, first_u, 0, next);
-    write_heads(w, in_t, t, out, at + 1);
-    write_heads(w, i + 1, u, out, to_u);
+    chains::put_record(out, at, first_t, first_u, 0, next);
+    chains::write_heads(w, in_t, t, out, at + 1);
+    chains::write_heads(w, i + 1, u, out, to_u);
 }
 
 // Writes the list of the systems in the work area.
@@ -105,7 +52,7 @@ pub fn write_list(w: &[u32], p: u32, n: u32, out: &mut [u32])
     let all = w.len() / 4;
     let most = if all < 65536 { all } else { 65536 };
     let first = if count == 0 { 0 } else { 1 };
-    put_record(out, 0, p, n, first, count);
+    chains::put_record(out, 0, p, n, first, count);
     let mut i = top;
     let mut end = 1 + (most - top);
     let mut next: u32 = 0;

@@ -8,7 +8,7 @@ use Rattle.records.proofs.Rows.{length-view}
 use Rattle.stored.specs.Stored.{skip-to}
 use Rattle.branches.specs.Area.{Stored}
 use Rattle.writing.specs.Listed.{Stored-at}
-use Rattle.writing.proofs.Laws.{heads-over}
+use Rattle.chains.proofs.Laws.{heads-over}
 use Rattle.writing.proofs.Systems.{found, Ends, ends, system-written}
 use borrow.Author.Needs.{needs}
 use Rattle.writing.proofs.write_system.Statement.{statement}

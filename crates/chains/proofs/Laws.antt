@@ -15,7 +15,7 @@ use Rattle.records.specs.Records.{Rec, nul}
 use Rattle.stored.specs.Stored.{size-at, pairs-of, words-at, skip-to, polys-at}
 use Rattle.stored.proofs.Laws.{skip-le}
 use Rattle.representation.specs.laws.Sizes.{length-terms-at}
-use Rattle.writing.proofs.Over.{over, over-nil, paste-over, over-behind, record-behind}
+use Rattle.chains.proofs.Over.{over, over-nil, paste-over, over-behind, record-behind}
 
 -- A monomial's two words.
 pub high-word : (hi lo : ℕ) → hi < 4294967296 → lo < 4294967296 → word (drop 4 (bytes 8 (hi * 4294967296 + lo))) ≡ hi

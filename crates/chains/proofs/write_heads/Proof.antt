@@ -11,11 +11,11 @@ use Rattle.rules.specs.laws.Lengths.{length-heads}
 use Rattle.records.specs.Records.{view}
 use Rattle.records.proofs.Rows.{length-view}
 use Rattle.stored.specs.Stored.{size-at, skip-to, polys-at}
-use Rattle.writing.proofs.Over.{over, paste-over}
+use Rattle.chains.proofs.Over.{over, paste-over}
 use Rattle.stored.proofs.Laws.{skip-le}
-use Rattle.writing.proofs.Laws.{heads-end, heads-turn, skip-to-turn, size-polys-at}
-use Rattle.writing.proofs.write_heads.Statement.{statement}
-use Rattle.writing.proofs.write_heads.Tie as tie
+use Rattle.chains.proofs.Laws.{heads-end, heads-turn, skip-to-turn, size-polys-at}
+use Rattle.chains.proofs.write_heads.Statement.{statement}
+use Rattle.chains.proofs.write_heads.Tie as tie
 
 abbrev Inv-loop : tie.InvT-loop
 Inv-loop w from k out₀ to i₀ at₀ left₀ out i at left =

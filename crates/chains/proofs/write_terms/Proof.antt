@@ -11,10 +11,10 @@ use Rattle.records.specs.Records.{view}
 use Rattle.records.proofs.Rows.{length-view}
 use Rattle.stored.specs.Stored.{size-at, words-at}
 use Rattle.representation.specs.laws.Sizes.{length-terms-at}
-use Rattle.writing.proofs.Over.{over, paste-over}
-use Rattle.writing.proofs.Laws.{terms-end, terms-in, terms-turn}
-use Rattle.writing.proofs.write_terms.Statement.{statement}
-use Rattle.writing.proofs.write_terms.Tie as tie
+use Rattle.chains.proofs.Over.{over, paste-over}
+use Rattle.chains.proofs.Laws.{terms-end, terms-in, terms-turn}
+use Rattle.chains.proofs.write_terms.Statement.{statement}
+use Rattle.chains.proofs.write_terms.Tie as tie
 
 abbrev Inv-loop : tie.InvT-loop
 Inv-loop w from out₀ to n i₀ out i =

@@ -3,9 +3,9 @@ use native.Mathlib.Omega.{arith}
 use Prim.Native.Nat.{_*_}
 use borrow.Author.Needs.{needs}
 use lib.ListN.{length-set}
-use Rattle.writing.proofs.Over.{four-stores}
-use Rattle.writing.proofs.put_record.Statement.{statement}
-use Rattle.writing.proofs.put_record.Tie as tie
+use Rattle.chains.proofs.Over.{four-stores}
+use Rattle.chains.proofs.put_record.Statement.{statement}
+use Rattle.chains.proofs.put_record.Tie as tie
 
 mul-at : tie.Need-mul-at
 mul-at c = search needs

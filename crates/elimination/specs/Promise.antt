@@ -1,7 +1,7 @@
 -- Demand 3 as a single claim about calls of the operations, over every table, limit, work area, output and point. A call is known by its
--- contract alone, and its answer by its numbers: `Eliminates` is what `eliminate` ensures, and `Tries` and `Places` are, word for word, what
--- `points::try_table` and `lists::try_list` do. `Promise` states the claim; it is drawn from the claim on the definitions in
--- rules/specs/Promise.antt, whose records `ListPromise` and `PointPromise` say the same of them.
+-- contract alone, and its answer by its numbers: `Eliminates` is what `eliminate` ensures, `Tries` what `points::try_table` does, and `Places`
+-- what `lists::try_list` does. `Promise` states the claim; it is drawn from the claim on the definitions in rules/specs/Promise.antt, whose
+-- records `ListPromise` and `PointPromise` say the same of them.
 use mathlib.Core.Path.{_≡_, refl, sym, _∙_, ap, subst}
 use mathlib.Core.Logic.{_↔_}
 use mathlib.Core.Bool.{Bool, true, false, true≢false, false≢true}
@@ -11,7 +11,7 @@ use native.Mathlib.Omega.{arith}
 use lib.ListN.{length, take}
 use Rattle.residues.specs.Each.{Each}
 use Rattle.tables.specs.Read.{good, Input, System, read-table}
-use Rattle.tables.specs.Solve.{solves, first-solved, try-input, try-systems, trial, placing}
+use Rattle.tables.specs.Solve.{solves, first-solved, try-input, trial, placing, Tries, Places}
 use Rattle.tables.specs.Reason.{number}
 use Rattle.tables.specs.Numbers.{Numbers, trial-numbers, place-numbers}
 use Rattle.tables.specs.declared.Reason.{Reason}
@@ -28,13 +28,6 @@ use Rattle.run.specs.declared.Outcome.the-variants.{Systems}
 use Rattle.elimination.specs.Answer.{answer-of}
 use Rattle.elimination.specs.Eliminates.{Eliminates}
 use Rattle.elimination.specs.Numbers.{outcome-numbers}
-
--- ── the calls of the point tests, by their contracts ──
-abbrev pub Tries : List ℕ → List ℕ → Trial → Type 0
-Tries table x q = q ≡ trial (try-input table x)
-
-abbrev pub Places : List ℕ → List ℕ → Placing → Type 0
-Places list x q = q ≡ placing (try-systems list x)
 
 -- ── the claim ──
 -- At a point of n residues: a trial against the table, and one against the list's own records.

@@ -7,7 +7,7 @@ ghost use Rattle.polynomials.specs.Division.{leader};
 ghost use Rattle.polynomials.specs.Value.{Point};
 ghost use Rattle.tables.specs.Words.{word, records};
 ghost use Rattle.tables.specs.Read.{System, good, read-head, read-triangle, read-system, read-systems, read-list};
-ghost use Rattle.tables.specs.Solve.{checked, solves, first-solved, placing, try-systems};
+ghost use Rattle.tables.specs.Solve.{checked, solves, first-solved, Places};
 ghost use Rattle.tables.specs.Walk.{Readable};
 ghost use Rattle.lists.specs.Count.{counted};
 use tables::Checked;
@@ -160,7 +160,7 @@ fn first_solved(table: &[u32], p: u32, n: u32, point: &[u32]) -> u32
 
 // The place of the first listed system that the point, v1's number first, solves; 0 for none. No buffer is written.
 pub fn try_list(table: &[u32], point: &[u32]) -> Placing
-    ensures { λ r. ⌜ r ≡ placing (try-systems (now (table .entry)) (now (point .entry))) ⌝ }
+    ensures { λ r. ⌜ Places (now (table .entry)) (now (point .entry)) r ⌝ }
 {
     if let Checked::Refused(why, record) = check_list(table) {
         return Placing {

@@ -6,7 +6,7 @@ ghost use Rattle.polynomials.specs.Poly.{Poly};
 ghost use Rattle.polynomials.specs.Value.{value-modulo, Point};
 ghost use Rattle.tables.specs.Words.{word, records};
 ghost use Rattle.tables.specs.Read.{good, read-head, read-heads};
-ghost use Rattle.tables.specs.Solve.{is-point, trial, try-input};
+ghost use Rattle.tables.specs.Solve.{is-point, Tries};
 ghost use Rattle.tables.specs.Walk.{Readable};
 ghost use Rattle.points.specs.Walks.{all-match, plus-term};
 use tables::ReadOutcome;
@@ -86,7 +86,7 @@ pub fn all_match(
 
 // Whether the point, v1's number first, solves the table's input. No buffer is written.
 pub fn try_table(table: &[u32], point: &[u32]) -> Trial
-    ensures { λ r. ⌜ r ≡ trial (try-input (now (table .entry)) (now (point .entry))) ⌝ }
+    ensures { λ r. ⌜ Tries (now (table .entry)) (now (point .entry)) r ⌝ }
 {
     let reading = read::read_table(table);
     let outcome = reading.outcome;

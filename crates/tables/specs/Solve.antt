@@ -1,4 +1,5 @@
 -- Points: which are points of a table, what they solve, and the answers of the operations.
+use mathlib.Core.Path.{_≡_}
 use mathlib.Core.Bool.{Bool, true, false, not, _&&_}
 use mathlib.Core.List.{List, [], _∷_}
 use Prim.Native.Nat.{ℕ, suc}
@@ -77,3 +78,11 @@ trial (refused why at) = record { outcome = TrialRefused why at }
 abbrev pub placing : Read ℕ → Placing
 placing (good k) = record { outcome = Place k }
 placing (refused why at) = record { outcome = PlaceRefused why at }
+
+-- ── calls ──
+-- What a trial of a point answers: the contracts of `try_table` and of `try_list` are these, and demand 3 knows the calls by them.
+abbrev pub Tries : List ℕ → List ℕ → Trial → Type 0
+Tries table x q = q ≡ trial (try-input table x)
+
+abbrev pub Places : List ℕ → List ℕ → Placing → Type 0
+Places list x q = q ≡ placing (try-systems list x)

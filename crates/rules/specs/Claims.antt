@@ -15,15 +15,18 @@ use Rattle.tables.specs.Read.{good, System, Input, read-table, read-list}
 use Rattle.tables.specs.Solve.{solves, first-solved}
 use Rattle.tables.specs.Admissible.{Rising, Admissible, AdmissibleInput}
 use Rattle.tables.specs.declared.Reason.{Reason}
+use Rattle.rules.specs.Branch.{Branch}
 use Rattle.rules.specs.Room.{Limits, unlimited}
-use Rattle.rules.specs.Run.{finished, refused, run-of}
-use Rattle.rules.specs.Eliminate.{limits-of, listed, eliminated}
+use Rattle.rules.specs.Step.{stopped, step}
+use Rattle.rules.specs.Run.{finished, run-of}
+use Rattle.rules.specs.Eliminate.{limits-of, listed, turned-back, steps-of, eliminated}
+use Rattle.rules.specs.Cause.{Cause, Met}
 use Rattle.rules.specs.Jobs
 use Rattle.rules.specs.Solutions.{Some, Solves-input, Solves-system, NonZero-initial, Proper}
 use Rattle.rules.specs.laws.Points
 use Rattle.rules.specs.laws.Initials
 use Rattle.rules.specs.laws.Rising as RisingLaws
-use Rattle.rules.specs.laws.Runs
+use Rattle.rules.specs.laws.Causes
 use Rattle.rules.specs.laws.Answers
 use Rattle.rules.specs.laws.AdmissibleRun
 use Rattle.rules.specs.laws.WrittenAgain
@@ -51,12 +54,28 @@ module _ (l : Limits) (limit : ℕ) (t : Input) (proper : Proper t) (n : ℕ) (s
   pub initials-modulo : (x : List ℕ) → Each (λ s. solves (t .modulus) x (s .T) (s .U) ≡ true → Each (λ f. value-modulo (t .modulus) (initial (leader f - 1) f) x ≢ 0) (s .T)) ss
   initials-modulo x = Answers.initials-modulo l limit t proper n ss ended x
 
--- "Never more than the caller's limit."
-pub finished-steps : (l : Limits) (limit : ℕ) (t : Input) (n : ℕ) (ss : List System) → run-of l limit t ≡ finished n ss → n ≤ limit
-finished-steps l limit t n ss e = Runs.finished-steps l limit t n ss e
+-- A call of elimination, over the words of the table, of the work area and of the output, and the limit.
+module _ (w : List ℕ) (work output limit : ℕ) where
+  -- "Never more than the caller's limit", accepted or refused.
+  pub steps-within : steps-of (eliminated w work output limit) ≤ limit
+  steps-within = Causes.steps-within w work output limit
 
-pub refused-steps : (l : Limits) (limit : ℕ) (t : Input) (n : ℕ) (why : Reason) → run-of l limit t ≡ refused n why → n ≤ limit
-refused-steps l limit t n why e = Runs.refused-steps l limit t n why e
+  module _ (n : ℕ) (why : Reason) (at : ℕ) where
+    -- "No number comes without its cause."
+    pub refused-cause : eliminated w work output limit ≡ turned-back n why at → Cause w work output limit n why at
+    refused-cause e = Causes.refused-cause w work output limit n why at e
+
+    -- "A job that meets a limit stops with that limit's number."
+    pub cause-refuses : Cause w work output limit n why at → eliminated w work output limit ≡ turned-back n why at
+    cause-refuses c = Causes.cause-refuses w work output limit n why at c
+
+-- The same of a step: it stops for what it meets, and for nothing else.
+module _ (work p : ℕ) (waiting : List Branch) (so-far : List System) (b : Branch) (why : Reason) where
+  pub stopped-cause : step (limits-of work) p b waiting so-far ≡ stopped why → Met work p waiting so-far b why
+  stopped-cause e = Causes.stopped-cause work p waiting so-far b why e
+
+  pub cause-stops : Met work p waiting so-far b why → step (limits-of work) p b waiting so-far ≡ stopped why
+  cause-stops m = Causes.cause-stops work p waiting so-far b why m
 
 -- Within the bounds of document 01, each polynomial of a listed system is one that a table can hold, where those of the input are.
 pub admissible-run : (l : Limits) (limit : ℕ) (t : Input) → l .bounds ≡ standard → AdmissibleInput t → (n : ℕ) (ss : List System) → run-of l limit t ≡ finished n ss →

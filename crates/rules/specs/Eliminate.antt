@@ -44,6 +44,10 @@ pub data Eliminated : Type 0 where
   listed : ℕ → List System → List ℕ → Eliminated
   turned-back : ℕ → Reason → ℕ → Eliminated
 
+abbrev pub steps-of : Eliminated → ℕ
+steps-of (listed n ss words) = n
+steps-of (turned-back n why at) = n
+
 abbrev pub delivered : ℕ → Input → Ended → Eliminated
 delivered room t (finished n ss) =
     elim (ltb room (list-records ss)) [

@@ -5,6 +5,7 @@ pub mod Step
 pub mod Run
 pub mod Written
 pub mod Eliminate
+pub mod Cause
 pub mod Writable
 pub mod laws
 pub mod Solutions

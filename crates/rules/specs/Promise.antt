@@ -1,7 +1,7 @@
 -- Demand 3 as a single claim about the words handed in and the words written, over every table, limit, work area, output and point. Quoted
 -- are the sentences of the demand and of document 01 that its parts stand for. `Promise` states the claim and `promise` proves it;
 -- `promise-in-fields` is the zero relation and the initials at the points of every field that contains the prime field.
-use mathlib.Core.Path.{_≡_, sym, _∙_, ap}
+use mathlib.Core.Path.{_≡_, sym, _∙_, ap, subst}
 use mathlib.Core.Logic.{_≢_, _↔_}
 use mathlib.Core.Bool.{true, false}
 use mathlib.Core.List.{List}
@@ -20,10 +20,10 @@ use Rattle.tables.specs.Solved.{PointOf, Solves, Solved, First}
 use Rattle.tables.specs.laws.Solved.{solves-is, place-is, none-is, table-answers, list-answers}
 use Rattle.rules.specs.Run.{finished, run-of}
 use Rattle.rules.specs.Written.{list-records}
-use Rattle.rules.specs.Eliminate.{limits-of, listed, eliminated, output-after}
+use Rattle.rules.specs.Eliminate.{limits-of, listed, steps-of, eliminated, output-after}
 use Rattle.tables.specs.Admissible.{Rising}
 use Rattle.rules.specs.Solutions.{Some, Solves-input, Solves-system, NonZero-initial}
-use Rattle.rules.specs.Claims.{zero-relation, initials, yes-with-place, initials-modulo, finished-steps}
+use Rattle.rules.specs.Claims.{zero-relation, initials, yes-with-place, initials-modulo, steps-within}
 use Rattle.rules.specs.laws.Lengths.{length-list}
 use Rattle.rules.specs.laws.ReadAgain.{read-again}
 use Rattle.rules.specs.laws.WrittenAgain.{Delivered, listed-delivered, listed-writable, accepted-proper}
@@ -115,7 +115,7 @@ module _ (table work output : List ℕ) (limit steps : ℕ) (ss : List System) (
   list-promise =
       record {
         by-the-rules = outcome .ended;
-        within-limit = finished-steps (limits-of (length work)) limit t steps ss (outcome .ended);
+        within-limit = subst (λ o. steps-of o ≤ limit) e (steps-within table (length work) (length output) limit);
         records = whole;
         fits = fits;
         stands = own;

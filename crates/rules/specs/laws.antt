@@ -7,6 +7,7 @@ pub mod Put
 pub mod Pivot
 pub mod Taken
 pub mod Runs
+pub mod Causes
 pub mod Kept
 pub mod Points
 pub mod Initials

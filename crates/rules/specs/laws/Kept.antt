@@ -16,10 +16,11 @@ use Rattle.rules.specs.Branch.{Branch, put-P, put-Q, Chosen}
 use Rattle.rules.specs.Room.{Limits, State}
 use Rattle.rules.specs.Step.{remainder-by}
 use Rattle.rules.specs.Run.{finished, first-branch, run-of}
+use Rattle.rules.specs.Cause.{first-state}
 use Rattle.rules.specs.laws.Lists.{each-remove}
 use Rattle.rules.specs.laws.Put.{put-P-keeps, put-Q-keeps, put-all-keeps}
 use Rattle.rules.specs.laws.Taken.{Pivot, Replaced, remainder-by-is, Taken, by-drop, by-list, by-split, by-divide, by-close}
-use Rattle.rules.specs.laws.Runs.{first-state, run-of-keeps}
+use Rattle.rules.specs.laws.Runs.{run-of-keeps}
 
 -- G is kept by the operations of the rules, the divisor being led by v(k+1).
 pub record Closed (l : Limits) (p : ℕ) (G : Poly → Type 0) : Type 0 where

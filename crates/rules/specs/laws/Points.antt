@@ -23,11 +23,12 @@ use Rattle.rules.specs.Branch.{Branch, put-P, put-Q, member, is-one, som
 use Rattle.rules.specs.Room.{Limits, State}
 use Rattle.rules.specs.Step.{split-open, split-aside, divided, remainder-by}
 use Rattle.rules.specs.Run.{finished, first-branch, run-of}
+use Rattle.rules.specs.Cause.{first-state}
 use Rattle.rules.specs.Solutions.{Some, Zero, NonZero, Solves-input, Solves-system, Proper}
 use Rattle.rules.specs.laws.Lists.{At, some-append, each-remove, each-remove-other}
 use Rattle.rules.specs.laws.Put.{each-member, one-is-nonzero, some-one-refutes, some-zero-refutes, put-P-zero, put-Q-nonzero, put-all-P-zero, put-all-Q-nonzero}
 use Rattle.rules.specs.laws.Taken.{Settled, after-close, Replaced, remainder-by-is, Taken, by-drop, by-list, by-split, by-divide, by-close}
-use Rattle.rules.specs.laws.Runs.{first-state, run-of-keeps}
+use Rattle.rules.specs.laws.Runs.{run-of-keeps}
 use Rattle.rules.specs.laws.Kept.{Of-branch, Of-state, taken-keeps, first-keeps, canonical-by, canonical-closed}
 
 module _ {ℓ} {K : Type ℓ} (F : Field K) (x : List K) where

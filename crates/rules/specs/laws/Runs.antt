@@ -1,105 +1,164 @@
--- What every step keeps holds at the end of a run; a run takes no more steps than its limit.
-use mathlib.Core.Path.{_≡_, refl, subst}
+-- How a run ends: after whole steps that lead from the first state to one where no branch is left, the limit is reached or a step stops.
+-- From this: what every step keeps holds at the end, and a run takes no more steps than its limit.
+use mathlib.Core.Path.{_≡_, refl, sym, _∙_, ap, subst}
+use mathlib.Core.Bool.{Bool, true, false}
 use mathlib.Core.List.{List, [], _∷_}
-use Prim.Native.Nat.{ℕ, zero, suc, _+_, _≤_}
+use Prim.Native.Nat.{ℕ, zero, suc, _+_, _≤_, _<_}
 use native.Mathlib.Omega.{arith}
+use Rattle.polynomials.specs.Bounds.{over}
 use Rattle.tables.specs.Read.{System, Input}
 use Rattle.tables.specs.declared.Reason.{Reason}
+use Rattle.tables.specs.declared.Reason.the-variants.{Room, Steps}
 use Rattle.rules.specs.Branch.{Branch}
-use Rattle.rules.specs.Room.{Limits, State}
+use Rattle.rules.specs.Room.{Limits, State, live}
 use Rattle.rules.specs.Step.{Stepped, next, stopped, step}
-use Rattle.rules.specs.Run.{Ended, finished, refused, after-step, run, first-branch, start, run-of}
-use Rattle.rules.specs.laws.Taken.{Taken, step-taken, within-room-next}
+use Rattle.rules.specs.Run.{Ended, finished, refused, after-step, run, start, run-of}
+use Rattle.rules.specs.Cause.{Leads, first-state}
+use Rattle.rules.specs.laws.Taken.{within-room-is, Taken, step-taken}
+
+-- ── a run from a state ──
+module _ (l : Limits) (p n : ℕ) (s : State) where
+  by-branches : (left : ℕ) (bs : List Branch) → s .branches ≡ bs → run l p left n s ≡ run l p left n (record { branches = bs; systems = s .systems })
+  by-branches left bs e = ap (λ (bs : List Branch). run l p left n (record { branches = bs; systems = s .systems })) e
+
+  -- With no branch left the run is finished, whatever the steps left.
+  pub run-none : (left : ℕ) → s .branches ≡ [] → run l p left n s ≡ finished n (s .systems)
+  unfolding run
+  run-none zero e = by-branches zero [] e
+  run-none (suc left) e = by-branches (suc left) [] e
+
+  module _ (b : Branch) (bs : List Branch) (e : s .branches ≡ b ∷ bs) where
+    pub run-out : run l p 0 n s ≡ refused n Steps
+    unfolding run
+    run-out = by-branches 0 (b ∷ bs) e
+
+    pub run-next : (left : ℕ) (x : Stepped) → step l p b bs (s .systems) ≡ x → run l p (suc left) n s ≡ after-step (run l p left (suc n)) n x
+    unfolding run
+    run-next left x f = by-branches (suc left) (b ∷ bs) e ∙ ap (after-step (run l p left (suc n)) n) f
+
+-- After the steps that lead to it, the run goes on from the state reached.
+run-on : (l : Limits) (p k left n : ℕ) (s s′ : State) → Leads l p k s s′ → run l p (k + left) n s ≡ run l p left (k + n) s′
+run-on l p zero left n s s′ h =
+    ap (λ (m : ℕ). run l p m n s) (omega arith) ∙ ap (run l p left n) h ∙ ap (λ (m : ℕ). run l p left m s′) (omega arith)
+run-on l p (suc k) left n s s′ h =
+    ap (λ (m : ℕ). run l p m n s) (omega arith)
+    ∙ run-next l p n s (h .0) (h .1) (h .3) (k + left) (next (h .2)) (h .4)
+    ∙ run-on l p k left (suc n) (h .2) s′ (h .5)
+    ∙ ap (λ (m : ℕ). run l p left m s′) (omega arith)
+
+-- ── how a run ends ──
+module _ (l : Limits) (p : ℕ) where
+  -- One step more.
+  leads-on : (n : ℕ) (s₀ s : State) (b : Branch) (bs : List Branch) (m : State) → Leads l p n s₀ s → s .branches ≡ b ∷ bs →
+      step l p b bs (s .systems) ≡ next m → Leads l p (suc n) s₀ m
+  leads-on zero s₀ s b bs m h e f =
+      (b, bs, m, ap (λ (s : State). s .branches) h ∙ e, ap (λ (s : State). step l p b bs (s .systems)) h ∙ f, refl)
+  leads-on (suc n) s₀ s b bs m h e f = (h .0, h .1, h .2, h .3, h .4, leads-on n (h .2) s b bs m (h .5) e f)
+
+  -- What holds of each way to end, after whole steps from s₀, holds of the run.
+  module _ {ℓ} (limit : ℕ) (s₀ : State) (C : Ended → Type ℓ)
+      (at-limit : (n : ℕ) (s : State) (b : Branch) (bs : List Branch) → Leads l p n s₀ s → n ≡ limit → s .branches ≡ b ∷ bs → C (refused n Steps))
+      (in-step : (n : ℕ) (s : State) (b : Branch) (bs : List Branch) (why : Reason) → Leads l p n s₀ s → n < limit → s .branches ≡ b ∷ bs →
+      step l p b bs (s .systems) ≡ stopped why → C (refused n why))
+      (at-end : (n : ℕ) (s : State) → Leads l p n s₀ s → n ≤ limit → s .branches ≡ [] → C (finished n (s .systems))) where
+    no-branch-ends : (left n : ℕ) (s : State) → Leads l p n s₀ s → n + left ≡ limit → s .branches ≡ [] → C (run l p left n s)
+    no-branch-ends left n s h q e = subst C (sym (run-none l p n s left e)) (at-end n s h (omega (arith, q)) e)
+
+    run-ends : (left n : ℕ) (s : State) → Leads l p n s₀ s → n + left ≡ limit → C (run l p left n s)
+    run-ends zero n s h q = go (s .branches) refl
+      where
+        go : (bs : List Branch) → s .branches ≡ bs → C (run l p zero n s)
+        go [] e = no-branch-ends zero n s h q e
+        go (b ∷ bs) e = subst C (sym (run-out l p n s b bs e)) (at-limit n s b bs h (omega arith) e)
+    run-ends (suc left) n s h q = go (run-ends left (suc n)) (s .branches) refl
+      where
+        onward : ((m : State) → Leads l p (suc n) s₀ m → suc n + left ≡ limit → C (run l p left (suc n) m)) →
+            (b : Branch) (bs : List Branch) → s .branches ≡ b ∷ bs → (x : Stepped) → step l p b bs (s .systems) ≡ x → C (after-step (run l p left (suc n)) n x)
+        onward ih b bs e (next m) f = ih m (leads-on n s₀ s b bs m h e f) (omega arith)
+        onward ih b bs e (stopped why) f = in-step n s b bs why h (omega arith) e f
+
+        go : ((m : State) → Leads l p (suc n) s₀ m → suc n + left ≡ limit → C (run l p left (suc n) m)) → (bs : List Branch) → s .branches ≡ bs → C (run l p (suc left) n s)
+        go ih [] e = no-branch-ends (suc left) n s h q e
+        go ih (b ∷ bs) e =
+            let x = step l p b bs (s .systems) in
+            subst C (sym (run-next l p n s b bs e left x refl)) (onward ih b bs e x refl)
+
+module _ (l : Limits) (t : Input) where
+  -- Whether the first branch is over the room.
+  abbrev pub Over-first : Bool → Type 0
+  Over-first c = over (l .of-room) (live (first-state t)) ≡ c
+
+  module _ (limit : ℕ) where
+    pub run-of-over : Over-first true → run-of l limit t ≡ refused 0 Room
+    unfolding run-of start
+    run-of-over o = ap (after-step (run l (t .modulus) limit 0) 0) (within-room-is l (first-state t) true o)
+
+    run-of-first : Over-first false → run-of l limit t ≡ run l (t .modulus) limit 0 (first-state t)
+    unfolding run-of start
+    run-of-first o = ap (after-step (run l (t .modulus) limit 0) 0) (within-room-is l (first-state t) false o)
+
+    -- The run goes on from a state that whole steps lead to.
+    pub run-of-on : Over-first false → (n left : ℕ) (s : State) → Leads l (t .modulus) n (first-state t) s → n + left ≡ limit → run-of l limit t ≡ run l (t .modulus) left n s
+    run-of-on o n left s h enough =
+        run-of-first o
+        ∙ ap (λ (m : ℕ). run l (t .modulus) m 0 (first-state t)) (sym enough)
+        ∙ run-on l (t .modulus) n left 0 (first-state t) s h
+        ∙ ap (λ (m : ℕ). run l (t .modulus) left m s) (omega arith)
+
+  module _ {ℓ} (limit : ℕ) (C : Ended → Type ℓ)
+      (in-first-branch : Over-first true → C (refused 0 Room))
+      (at-limit : (n : ℕ) (s : State) (b : Branch) (bs : List Branch) → Over-first false → Leads l (t .modulus) n (first-state t) s → n ≡ limit →
+      s .branches ≡ b ∷ bs → C (refused n Steps))
+      (in-step : (n : ℕ) (s : State) (b : Branch) (bs : List Branch) (why : Reason) → Over-first false → Leads l (t .modulus) n (first-state t) s → n < limit →
+      s .branches ≡ b ∷ bs → step l (t .modulus) b bs (s .systems) ≡ stopped why → C (refused n why))
+      (at-end : (n : ℕ) (s : State) → Over-first false → Leads l (t .modulus) n (first-state t) s → n ≤ limit → s .branches ≡ [] → C (finished n (s .systems))) where
+    pub run-of-ends : C (run-of l limit t)
+    run-of-ends = go (over (l .of-room) (live (first-state t))) refl
+      where
+        go : (c : Bool) → Over-first c → C (run-of l limit t)
+        go true o = subst C (sym (run-of-over limit o)) (in-first-branch o)
+        go false o =
+            subst C (sym (run-of-first limit o))
+            (run-ends l (t .modulus) limit (first-state t) C (λ n s b bs. at-limit n s b bs o) (λ n s b bs why. in-step n s b bs why o) (λ n s. at-end n s o)
+            limit 0 (first-state t) refl (omega arith))
 
 -- ── what every step keeps ──
 module _ {ℓ} (l : Limits) (p : ℕ) (Inv : State → Type ℓ)
     (keeps : (b : Branch) (waiting : List Branch) (listed : List System) (s : State) → step l p b waiting listed ≡ next s →
     Inv (record { branches = b ∷ waiting; systems = listed }) → Inv s) where
-  at-end : (us ss : List System) → us ≡ ss → Inv (record { branches = []; systems = us }) → Inv (record { branches = []; systems = ss })
-  at-end us ss q h = subst (λ (us : List System). Inv (record { branches = []; systems = us })) q h
-
-  pub run-keeps : (left n : ℕ) (s : State) (m : ℕ) (ss : List System) → run l p left n s ≡ finished m ss → Inv s → Inv (record { branches = []; systems = ss })
-  unfolding run
-  run-keeps zero n s m ss e h = go (s .branches) (s .systems) e h
-    where
-      go : (bs : List Branch) (us : List System) → run l p zero n (record { branches = bs; systems = us }) ≡ finished m ss →
-          Inv (record { branches = bs; systems = us }) → Inv (record { branches = []; systems = ss })
-      go [] us e h = at-end us ss (cc) h
-      go (b ∷ bs) us e h = let z : _≡_ {A = ℕ} 0 1 = cc in absurd (omega arith)
-  run-keeps (suc left) n s m ss e h = go (λ s. run-keeps left (suc n) s m ss) (s .branches) (s .systems) e h
-    where
-      onward : ((s : State) → run l p left (suc n) s ≡ finished m ss → Inv s → Inv (record { branches = []; systems = ss })) →
-          (b : Branch) (bs : List Branch) (us : List System) (x : Stepped) → step l p b bs us ≡ x →
-          after-step (run l p left (suc n)) n x ≡ finished m ss → Inv (record { branches = b ∷ bs; systems = us }) → Inv (record { branches = []; systems = ss })
-      onward ih b bs us (next s) f e h = ih s e (keeps b bs us s f h)
-      onward ih b bs us (stopped why) f e h = let z : _≡_ {A = ℕ} 0 1 = cc in absurd (omega arith)
-
-      go : ((s : State) → run l p left (suc n) s ≡ finished m ss → Inv s → Inv (record { branches = []; systems = ss })) →
-          (bs : List Branch) (us : List System) → run l p (suc left) n (record { branches = bs; systems = us }) ≡ finished m ss →
-          Inv (record { branches = bs; systems = us }) → Inv (record { branches = []; systems = ss })
-      go ih [] us e h = at-end us ss (cc) h
-      go ih (b ∷ bs) us e h = onward ih b bs us (step l p b bs us) refl e h
-
--- The state that a run starts from.
-abbrev pub first-state : Input → State
-first-state t = record { branches = first-branch t ∷ []; systems = [] }
-
-started : (l : Limits) (t : Input) (s : State) → start l t ≡ next s → first-state t ≡ s
-unfolding start
-started l t s e = within-room-next l (t .modulus) (first-state t) s e
+  leads-keeps : (n : ℕ) (s s′ : State) → Leads l p n s s′ → Inv s → Inv s′
+  leads-keeps zero s s′ h i = subst Inv h i
+  leads-keeps (suc n) s s′ h i =
+      leads-keeps n (h .2) s′ (h .5) (keeps (h .0) (h .1) (s .systems) (h .2) (h .4) (subst Inv (λ j. record { branches = h .3 j; systems = s .systems }) i))
 
 module _ {ℓ} (l : Limits) (t : Input) (Inv : State → Type ℓ) where
   pub run-of-steps-keep : ((b : Branch) (waiting : List Branch) (listed : List System) (s : State) → step l (t .modulus) b waiting listed ≡ next s →
       Inv (record { branches = b ∷ waiting; systems = listed }) → Inv s) →
-      (limit n : ℕ) (ss : List System) → run-of l limit t ≡ finished n ss → ((s : State) → start l t ≡ next s → Inv s) → Inv (record { branches = []; systems = ss })
-  unfolding run-of
-  run-of-steps-keep keeps limit n ss e h = go (start l t) h e
+      (limit n : ℕ) (ss : List System) → run-of l limit t ≡ finished n ss → (Over-first l t false → Inv (first-state t)) → Inv (record { branches = []; systems = ss })
+  run-of-steps-keep keeps limit n ss e first = subst Kept e kept
     where
-      go : (x : Stepped) → ((s : State) → x ≡ next s → Inv s) → after-step (run l (t .modulus) limit 0) 0 x ≡ finished n ss → Inv (record { branches = []; systems = ss })
-      go (next s) q e = run-keeps l (t .modulus) Inv keeps limit 0 s n ss e (q s refl)
-      go (stopped why) q e = let z : _≡_ {A = ℕ} 0 1 = cc in absurd (omega arith)
+      Kept : Ended → Type ℓ
+      Kept (finished m us) = Inv (record { branches = []; systems = us })
+      Kept (refused m why) = Unit {ℓ}
+
+      kept : Kept (run-of l limit t)
+      kept =
+          run-of-ends l t limit Kept (λ o. tt) (λ m s b bs o h q u. tt) (λ m s b bs why o h q u f. tt)
+          (λ m s o h q u. subst Inv (λ j. record { branches = u j; systems = s .systems }) (leads-keeps l (t .modulus) Inv keeps m (first-state t) s h (first o)))
 
   -- What each rule keeps.
   pub run-of-keeps : ((b : Branch) (waiting : List Branch) (listed : List System) (s : State) → Taken l (t .modulus) b waiting listed s →
       Inv (record { branches = b ∷ waiting; systems = listed }) → Inv s) →
       (limit n : ℕ) (ss : List System) → run-of l limit t ≡ finished n ss → Inv (first-state t) → Inv (record { branches = []; systems = ss })
   run-of-keeps keeps limit n ss e h =
-      run-of-steps-keep (λ b waiting listed s f. keeps b waiting listed s (step-taken l (t .modulus) waiting listed b s f)) limit n ss e
-      (λ s f. subst Inv (started l t s f) h)
+      run-of-steps-keep (λ b waiting listed s f. keeps b waiting listed s (step-taken l (t .modulus) waiting listed b s f)) limit n ss e (λ o. h)
 
 -- ── steps ──
-abbrev steps-of : Ended → ℕ
-steps-of (finished n ss) = n
-steps-of (refused n why) = n
+abbrev pub run-steps : Ended → ℕ
+run-steps (finished n ss) = n
+run-steps (refused n why) = n
 
-run-steps : (l : Limits) (p left n : ℕ) (s : State) → steps-of (run l p left n s) ≤ n + left
-unfolding run
-run-steps l p zero n s = go (s .branches) (s .systems)
-  where
-    go : (bs : List Branch) (us : List System) → steps-of (run l p zero n (record { branches = bs; systems = us })) ≤ n + 0
-    go [] us = omega arith
-    go (b ∷ bs) us = omega arith
-run-steps l p (suc left) n s = go (run-steps l p left (suc n)) (s .branches) (s .systems)
-  where
-    onward : ((s : State) → steps-of (run l p left (suc n) s) ≤ suc n + left) → (x : Stepped) → steps-of (after-step (run l p left (suc n)) n x) ≤ n + suc left
-    onward ih (next s) = omega (arith, ih s)
-    onward ih (stopped why) = omega arith
-
-    go : ((s : State) → steps-of (run l p left (suc n) s) ≤ suc n + left) → (bs : List Branch) (us : List System) →
-        steps-of (run l p (suc left) n (record { branches = bs; systems = us })) ≤ n + suc left
-    go ih [] us = omega arith
-    go ih (b ∷ bs) us = onward ih (step l p b bs us)
-
-run-of-steps : (l : Limits) (limit : ℕ) (t : Input) → steps-of (run-of l limit t) ≤ limit
-unfolding run-of
-run-of-steps l limit t = go (start l t)
-  where
-    go : (x : Stepped) → steps-of (after-step (run l (t .modulus) limit 0) 0 x) ≤ limit
-    go (next s) = omega (arith, run-steps l (t .modulus) limit 0 s)
-    go (stopped why) = omega arith
-
-pub finished-steps : (l : Limits) (limit : ℕ) (t : Input) (n : ℕ) (ss : List System) → run-of l limit t ≡ finished n ss → n ≤ limit
-finished-steps l limit t n ss e = subst (λ r. steps-of r ≤ limit) e (run-of-steps l limit t)
-
-pub refused-steps : (l : Limits) (limit : ℕ) (t : Input) (n : ℕ) (why : Reason) → run-of l limit t ≡ refused n why → n ≤ limit
-refused-steps l limit t n why e = subst (λ r. steps-of r ≤ limit) e (run-of-steps l limit t)
+pub run-of-steps : (l : Limits) (limit : ℕ) (t : Input) → run-steps (run-of l limit t) ≤ limit
+run-of-steps l limit t =
+    run-of-ends l t limit (λ r. run-steps r ≤ limit) (λ o. omega arith) (λ n s b bs o h q u. omega (arith, q)) (λ n s b bs why o h q u f. omega (arith, q))
+    (λ n s o h q u. q)

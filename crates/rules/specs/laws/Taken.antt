@@ -36,10 +36,18 @@ Settled k f b = T (is-one (initial k (f .poly)) || member (initial k (f .poly)) 
 abbrev pub after-close : Chosen → List Poly → Branch → Branch
 after-close f Q b = record { P = remove (f .place) (b .P); Q = Q; T = f .poly ∷ b .T }
 
--- What a test of the room lets through.
-pub room-next : (c : Bool) (x : Stepped) (s : State) → (elim c as (λ c. Stepped) [ true ↦ stopped Room | false ↦ x ]) ≡ next s → x ≡ next s
+-- What follows a test of the room.
+abbrev pub tested : Bool → Stepped → Stepped
+tested c x = elim c as (λ c. Stepped) [ true ↦ stopped Room | false ↦ x ]
+
+-- What it lets through.
+pub room-next : (c : Bool) (x : Stepped) (s : State) → tested c x ≡ next s → x ≡ next s
 room-next true x s e = let z : _≡_ {A = ℕ} 0 1 = cc in absurd (omega arith)
 room-next false x s e = e
+
+pub within-room-is : (l : Limits) (s : State) (c : Bool) → over (l .of-room) (live s) ≡ c → within-room l s ≡ tested c (next s)
+unfolding within-room
+within-room-is l s c e = ap (λ (c : Bool). tested c (next s)) e
 
 module _ (l : Limits) (p : ℕ) where
   -- Out of the list gs and the new Q so far, the whole new Q: remainders by f are put.

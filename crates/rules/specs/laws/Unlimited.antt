@@ -1,7 +1,8 @@
 -- A run that finished is the run without limits, given as many steps. So an accepted list and its count of steps are the table's alone.
-use mathlib.Core.Path.{_≡_, refl, sym, _∙_, ap, ap₂}
+use mathlib.Core.Path.{_≡_, refl, sym, _∙_, ap, ap₂, subst}
+use mathlib.Core.Bool.{false}
 use mathlib.Core.List.{List, [], _∷_}
-use Prim.Native.Nat.{ℕ, zero, suc, _+_, _≤_}
+use Prim.Native.Nat.{ℕ, zero, suc, _+_, _-_, _≤_}
 use native.Mathlib.Omega.{arith}
 use Rattle.polynomials.specs.Poly.{Poly}
 use Rattle.polynomials.specs.Division.{degree}
@@ -11,11 +12,13 @@ use Rattle.tables.specs.Read.{good, System, Input}
 use Rattle.rules.specs.Branch.{Branch}
 use Rattle.rules.specs.Room.{Limits, unlimited, State, polynomials-size, live}
 use Rattle.rules.specs.Rule.{Rule, drop, list, split, divide, close, rule-of}
-use Rattle.rules.specs.Step.{Stepped, next, stopped, within-room, after-division, remainder-by, divided, closed, with-Q, state, replace, apply, step}
-use Rattle.rules.specs.Run.{finished, after-step, run, start, run-of}
+use Rattle.rules.specs.Step.{next, within-room, after-division, remainder-by, divided, closed, with-Q, state, replace, apply, step}
+use Rattle.rules.specs.Run.{Ended, finished, refused, run-of}
 use Rattle.rules.specs.Written.{list-words}
 use Rattle.rules.specs.Eliminate.{limits-of, listed, eliminated}
+use Rattle.rules.specs.Cause.{Leads, first-state}
 use Rattle.rules.specs.laws.Taken.{remainder-by-is, room-next, within-room-next, after-division-next}
+use Rattle.rules.specs.laws.Runs.{Over-first, run-none, run-of-on, run-of-ends}
 use Rattle.rules.specs.laws.WrittenAgain.{listing, listed-delivered}
 
 -- ── a step ──
@@ -56,60 +59,28 @@ module _ (l : Limits) where
       step-unlimited b s e = apply-unlimited (rule-of b) b s e
 
 -- ── the run ──
--- With no branch left the run is finished, whatever the steps left.
-run-no-branch : (l : Limits) (p left n : ℕ) (ss : List System) → run l p left n (record { branches = []; systems = ss }) ≡ finished n ss
-unfolding run
-run-no-branch l p zero n ss = refl
-run-no-branch l p (suc left) n ss = refl
+module _ (l : Limits) (p : ℕ) where
+  leads-unlimited : (n : ℕ) (s s′ : State) → Leads l p n s s′ → Leads unlimited p n s s′
+  leads-unlimited zero s s′ h = h
+  leads-unlimited (suc n) s s′ h = (h .0, h .1, h .2, h .3, step-unlimited l p (h .1) (s .systems) (h .0) (h .2) (h .4), leads-unlimited n (h .2) s′ (h .5))
 
-module _ (l : Limits) (p m : ℕ) (ss : List System) where
-  -- Without limits, m - n steps from this state lead to the end.
-  abbrev Ends : ℕ → State → Type 0
-  Ends n s = (n ≤ m) × ((left : ℕ) → m ≤ n + left → run unlimited p left n s ≡ finished m ss)
-
-  step-ends : (n : ℕ) (b : Branch) (bs : List Branch) (us : List System) (s : State) → step l p b bs us ≡ next s → Ends (suc n) s → Ends n (record { branches = b ∷ bs; systems = us })
-  unfolding run
-  step-ends n b bs us s f (h, ends) = (omega (arith, h), go)
-    where
-      go : (left : ℕ) → m ≤ n + left → run unlimited p left n (record { branches = b ∷ bs; systems = us }) ≡ finished m ss
-      go zero q = absurd (omega (arith, q, h))
-      go (suc left) q = ap (after-step (run unlimited p left (suc n)) n) (step-unlimited l p bs us b s f) ∙ ends left (omega (arith, q))
-
-  no-branch-ends : (left n : ℕ) (us : List System) → run l p left n (record { branches = []; systems = us }) ≡ finished m ss → Ends n (record { branches = []; systems = us })
-  no-branch-ends left n us e =
-      let q : finished n us ≡ finished m ss = sym (run-no-branch l p left n us) ∙ e in
-      let z : n ≡ m = cc in
-      (omega (arith, z), λ left h. run-no-branch unlimited p left n us ∙ q)
-
-  run-ends : (left n : ℕ) (s : State) → run l p left n s ≡ finished m ss → Ends n s
-  unfolding run
-  run-ends zero n s e = go (s .branches) (s .systems) e
-    where
-      go : (bs : List Branch) (us : List System) → run l p zero n (record { branches = bs; systems = us }) ≡ finished m ss → Ends n (record { branches = bs; systems = us })
-      go [] us e = no-branch-ends zero n us e
-      go (b ∷ bs) us e = let z : _≡_ {A = ℕ} 0 1 = cc in absurd (omega arith)
-  run-ends (suc left) n s e = go (run-ends left (suc n)) (s .branches) (s .systems) e
-    where
-      onward : ((s : State) → run l p left (suc n) s ≡ finished m ss → Ends (suc n) s) → (b : Branch) (bs : List Branch) (us : List System) (x : Stepped) →
-          step l p b bs us ≡ x → after-step (run l p left (suc n)) n x ≡ finished m ss → Ends n (record { branches = b ∷ bs; systems = us })
-      onward ih b bs us (next s) f e = step-ends n b bs us s f (ih s e)
-      onward ih b bs us (stopped why) f e = let z : _≡_ {A = ℕ} 0 1 = cc in absurd (omega arith)
-
-      go : ((s : State) → run l p left (suc n) s ≡ finished m ss → Ends (suc n) s) → (bs : List Branch) (us : List System) →
-          run l p (suc left) n (record { branches = bs; systems = us }) ≡ finished m ss → Ends n (record { branches = bs; systems = us })
-      go ih [] us e = no-branch-ends (suc left) n us e
-      go ih (b ∷ bs) us e = onward ih b bs us (step l p b bs us) refl e
+-- Without limits the first branch has room.
+first-unlimited : (t : Input) → Over-first unlimited t false
+unfolding over
+first-unlimited t = refl
 
 pub finished-unlimited : (l : Limits) (limit : ℕ) (t : Input) (n : ℕ) (ss : List System) → run-of l limit t ≡ finished n ss →
     (m : ℕ) → n ≤ m → run-of unlimited m t ≡ finished n ss
-unfolding run-of start
-finished-unlimited l limit t n ss e m h = go (start l t) refl e
+finished-unlimited l limit t n ss e m = subst Same e (run-of-ends l t limit Same (λ o. tt) (λ n s b bs o h q u. tt) (λ n s b bs why o h q u f. tt) same)
   where
-    go : (x : Stepped) → start l t ≡ x → after-step (run l (t .modulus) limit 0) 0 x ≡ finished n ss → run-of unlimited m t ≡ finished n ss
-    go (next s) f e =
-        ap (after-step (run unlimited (t .modulus) m 0) 0) (room-unlimited l _ s f)
-        ∙ run-ends l (t .modulus) n ss limit 0 s e .1 m (omega (arith, h))
-    go (stopped why) f e = let z : _≡_ {A = ℕ} 0 1 = cc in absurd (omega arith)
+    Same : Ended → Type 0
+    Same (finished n ss) = n ≤ m → run-of unlimited m t ≡ finished n ss
+    Same (refused n why) = Unit {0}
+
+    same : (n : ℕ) (s : State) → Over-first l t false → Leads l (t .modulus) n (first-state t) s → n ≤ limit → s .branches ≡ [] → Same (finished n (s .systems))
+    same n s o h q u j =
+        run-of-on unlimited t m (first-unlimited t) n (m - n) s (leads-unlimited l (t .modulus) n (first-state t) s h) (omega (arith, j))
+        ∙ run-none unlimited (t .modulus) n s (m - n) u
 
 pub finished-alike : (l l′ : Limits) (limit limit′ : ℕ) (t : Input) (n n′ : ℕ) (ss ss′ : List System) →
     run-of l limit t ≡ finished n ss → run-of l′ limit′ t ≡ finished n′ ss′ → (n ≡ n′) × (ss ≡ ss′)

@@ -11,15 +11,15 @@ use Rattle.polynomials.specs.Poly.{Poly}
 use Rattle.polynomials.specs.Division.{initial}
 use Rattle.polynomials.specs.Bounds.{at-most, over}
 use Rattle.tables.specs.Read.{System, Input}
-use Rattle.tables.specs.declared.Reason.the-variants.{Room}
 use Rattle.rules.specs.Branch.{Branch, member, is-one, some-one, some-zero, highest-leader, Chosen, pivot, remove, Found, none, found, other}
 use Rattle.rules.specs.Room.{Limits, State, polynomials-size, branch-size, branches-size, systems-size, live}
 use Rattle.rules.specs.Rule.{Rule, drop, list, split, divide, close, divide-or-close, rule-with, rule-of-P, rule-of}
-use Rattle.rules.specs.Step.{Stepped, next, stopped, within-room, split-open, split-aside, divided, closed, with-Q, state, remainder-by, replace, apply, step}
-use Rattle.rules.specs.Run.{finished, start, run-of}
+use Rattle.rules.specs.Step.{Stepped, next, within-room, split-open, split-aside, divided, closed, with-Q, state, remainder-by, replace, apply, step}
+use Rattle.rules.specs.Run.{finished, run-of}
+use Rattle.rules.specs.Cause.{first-state}
 use Rattle.rules.specs.laws.Lists.{At}
 use Rattle.rules.specs.laws.Pivot.{pivot-stands}
-use Rattle.rules.specs.laws.Taken.{after-division-next}
+use Rattle.rules.specs.laws.Taken.{tested, after-division-next}
 use Rattle.rules.specs.laws.Runs.{run-of-steps-keep}
 
 -- ── sizes ──
@@ -69,10 +69,6 @@ rule-stands b = go (some-one (b .P) || some-zero (b .Q))
     go false = of-P (b .P) refl
 
 -- ── the live count ──
--- Over the room the run stops.
-abbrev tested : Bool → Stepped → Stepped
-tested c x = elim c as (λ c. Stepped) [ true ↦ stopped Room | false ↦ x ]
-
 module _ (l : Limits) (m : ℕ) (bound : l .of-room ≡ at-most m) where
   over-room : (n : ℕ) (x : Stepped) (s : State) → tested (over (l .of-room) n) x ≡ next s → (n ≤ m) × (x ≡ next s)
   unfolding over
@@ -111,9 +107,9 @@ module _ (l : Limits) (m : ℕ) (bound : l .of-room ≡ at-most m) where
         live-replace k (f .poly) (b .Q) (closed l p f b) s (omega (arith, size-remove (f .place) (f .poly) (b .P) a)) e
 
   pub listed-within : (limit : ℕ) (t : Input) (n : ℕ) (ss : List System) → run-of l limit t ≡ finished n ss → systems-size ss ≤ m
-  unfolding step start live branches-size
+  unfolding step over live branches-size
   listed-within limit t n ss e =
       let h : live (record { branches = []; systems = ss }) ≤ m =
       run-of-steps-keep l t (λ s. live s ≤ m) (λ b waiting listed s f h. live-apply (t .modulus) waiting listed (rule-of b) b s (rule-stands b) h f) limit n ss e
-      (λ s f. live-within _ s f) in
+      (λ o. ltb-false m (live (first-state t)) (subst (λ r. over r (live (first-state t)) ≡ false) bound o)) in
       omega arith

@@ -1,0 +1,85 @@
+-- What a refusal of an elimination comes from. "A job that meets a limit stops with that limit's number, and no number comes without its
+-- cause" (demand 1): the claims `refused-cause` and `cause-refuses` of Claims.antt, and of a step `stopped-cause` and `cause-stops`. Quoted
+-- are document 01's "Eliminate" and "Room".
+use mathlib.Core.Path.{_≡_}
+use mathlib.Core.Logic.{_⊎_}
+use mathlib.Core.List.{List, [], _∷_}
+use Prim.Native.Nat.{ℕ, zero, suc, _+_, _/_, _≤_, _<_}
+use Rattle.polynomials.specs.Poly.{Poly}
+use Rattle.polynomials.specs.Bounds.{within, degree-passed, terms-passed}
+use Rattle.tables.specs.Read.{good, Input, System, read-table}
+use Rattle.tables.specs.Read as tables
+use Rattle.tables.specs.declared.Reason.{Reason}
+use Rattle.tables.specs.declared.Reason.the-variants.{Terms, Degree, Room, Steps, Output}
+use Rattle.rules.specs.Branch.{Branch, Chosen}
+use Rattle.rules.specs.Room.{Limits, State, polynomials-size, live}
+use Rattle.rules.specs.Rule.{split, divide, close, rule-of}
+use Rattle.rules.specs.Step.{next, stopped, remainder-by, split-open, split-aside, divided, closed, with-Q, state, step}
+use Rattle.rules.specs.Run.{first-branch}
+use Rattle.rules.specs.Written.{list-records}
+use Rattle.rules.specs.Eliminate.{room-of, limits-of}
+
+-- ── of a call ──
+-- n whole steps lead from one state to another.
+module _ (l : Limits) (p : ℕ) where
+  abbrev pub Leads : ℕ → State → State → Type 0
+  Leads zero s s′ = s ≡ s′
+  Leads (suc n) s s′ = (b : Branch) × (bs : List Branch) × (m : State) × (s .branches ≡ b ∷ bs) × (step l p b bs (s .systems) ≡ next m) × Leads n m s′
+
+-- The state that a run starts from: the first branch alone.
+abbrev pub first-state : Input → State
+first-state t = record { branches = first-branch t ∷ []; systems = [] }
+
+-- The table w is read, its first branch has room, and n whole steps lead from there to s.
+pub record Reached (w : List ℕ) (work n : ℕ) (s : State) : Type 0 where
+  pub input : Input
+  pub accepted : read-table w ≡ good input
+  pub has-room : live (first-state input) ≤ room-of work
+  pub by-steps : Leads (limits-of work) (input .modulus) n (first-state input) s
+
+-- The numbers that a step can stop with: "9, 10 and 11".
+abbrev pub Of-step : Reason → Type 0
+Of-step why = (why ≡ Terms) ⊎ ((why ≡ Degree) ⊎ (why ≡ Room))
+
+-- The cause of a call's refusal, by the steps reported, the reason and the record. "The record is .. 0 for refusals outside reading."
+pub data Cause (w : List ℕ) (work output limit : ℕ) : ℕ → Reason → ℕ → Type 0 where
+  -- "The refusals of reading." "Steps are 0 for refusals before the run."
+  in-reading : (why : Reason) (at : ℕ) → read-table w ≡ tables.refused why at → Cause w work output limit 0 why at
+  -- "11 already while the first branch is put."
+  in-first-branch : (t : Input) → read-table w ≡ good t → room-of work < live (first-state t) → Cause w work output limit 0 Room 0
+  -- "Before each step 12 if the limit is reached and a branch is left."
+  at-limit : (n : ℕ) (s : State) (b : Branch) (bs : List Branch) → Reached w work n s → n ≡ limit → s .branches ≡ b ∷ bs → Cause w work output limit n Steps 0
+  -- "Inside a step 9, 10 and 11 as they are met."
+  in-step : (n : ℕ) (s : State) (b : Branch) (bs : List Branch) (why : Reason) (r : Reached w work n s) → n < limit → s .branches ≡ b ∷ bs →
+      step (limits-of work) (r .input .modulus) b bs (s .systems) ≡ stopped why → Of-step why → Cause w work output limit n why 0
+  -- "At the end 13 if the output has fewer whole records than the list needs."
+  at-end : (n : ℕ) (s : State) → Reached w work n s → n ≤ limit → s .branches ≡ [] → output / 4 < list-records (s .systems) → Cause w work output limit n Output 0
+
+-- ── of a step ──
+module _ (work p : ℕ) (waiting : List Branch) (listed : List System) where
+  abbrev l : Limits
+  l = limits-of work
+
+  -- "Each member of Q in turn is replaced by its remainder by the pivot f in v(k+1)": what is met at the first of the members left, or at a
+  -- later one. The branch holds the new Q so far; the members still to be replaced are live.
+  pub data Met-replacing (k : ℕ) (f : Poly) : List Poly → Branch → Reason → Type 0 where
+    degree-met : (g : Poly) (gs : List Poly) (b : Branch) → remainder-by l p k f g ≡ degree-passed → Met-replacing k f (g ∷ gs) b Degree
+    terms-met : (g : Poly) (gs : List Poly) (b : Branch) → remainder-by l p k f g ≡ terms-passed → Met-replacing k f (g ∷ gs) b Terms
+    room-met : (g : Poly) (gs : List Poly) (b : Branch) (r : Poly) → remainder-by l p k f g ≡ within r →
+        room-of work < polynomials-size gs + live (state l p waiting listed (with-Q l p r b)) → Met-replacing k f (g ∷ gs) b Room
+    met-later : (g : Poly) (gs : List Poly) (b : Branch) (why : Reason) (r : Poly) → remainder-by l p k f g ≡ within r →
+        polynomials-size gs + live (state l p waiting listed (with-Q l p r b)) ≤ room-of work →
+        Met-replacing k f gs (with-Q l p r b) why → Met-replacing k f (g ∷ gs) b why
+
+  -- What a step of the open branch b meets, by its rule and the reason.
+  pub data Met (b : Branch) : Reason → Type 0 where
+    -- 3. The open branch with the initial in its Q, and the one set aside.
+    splitting : (k : ℕ) (f : Chosen) → rule-of b ≡ split k f →
+        room-of work < live (record { branches = split-open l p k f b ∷ (split-aside l p k f b ∷ waiting); systems = listed }) → Met b Room
+    -- 4. The remainder of another polynomial of P by the pivot, and the branch with it put.
+    dividing-degree : (k : ℕ) (f g : Chosen) → rule-of b ≡ divide k f g → remainder-by l p k (f .poly) (g .poly) ≡ degree-passed → Met b Degree
+    dividing-terms : (k : ℕ) (f g : Chosen) → rule-of b ≡ divide k f g → remainder-by l p k (f .poly) (g .poly) ≡ terms-passed → Met b Terms
+    dividing-room : (k : ℕ) (f g : Chosen) (r : Poly) → rule-of b ≡ divide k f g → remainder-by l p k (f .poly) (g .poly) ≡ within r →
+        room-of work < live (state l p waiting listed (divided l p g r b)) → Met b Room
+    -- 5. The remainders of the members of Q by the pivot.
+    closing : (k : ℕ) (f : Chosen) (why : Reason) → rule-of b ≡ close k f → Met-replacing k (f .poly) (b .Q) (closed l p f b) why → Met b why

@@ -27,7 +27,7 @@ use Rattle.rules.specs.Claims.{zero-relation, initials, yes-with-place, 
 use Rattle.rules.specs.laws.Lengths.{length-list}
 use Rattle.rules.specs.laws.ReadAgain.{read-again}
 use Rattle.rules.specs.laws.WrittenAgain.{Delivered, listed-delivered, listed-writable, accepted-proper}
-use Rattle.rules.specs.laws.Promised.{fits-output, says, place-some, no-zero}
+use Rattle.rules.specs.laws.Promised.{says, place-some, no-zero}
 
 -- ── the claim ──
 -- The output after an elimination.
@@ -87,7 +87,7 @@ pub record FieldPromise {ℓ} {K : Type ℓ} (F : Field K) (ss : List System) (t
 
 -- ── its proof ──
 module _ (table work output : List ℕ) (limit steps : ℕ) (ss : List System) (words : List ℕ) (e : eliminated table (length work) (length output) limit ≡ listed steps ss words) where
-  abbrev outcome : Delivered table (length work) limit steps ss words
+  abbrev outcome : Delivered table (length work) (length output) limit steps ss words
   outcome = listed-delivered table (length work) (length output) limit steps ss words e
 
   abbrev t : Input
@@ -106,7 +106,7 @@ module _ (table work output : List ℕ) (limit steps : ℕ) (ss : List System) (
       ∙ take-append-seam words _
 
   fits : length words ≤ length output
-  fits = omega (arith, whole, fits-output table (length work) (length output) limit steps ss words t (outcome .accepted) (outcome .ended) e)
+  fits = omega (arith, whole, outcome .fits)
 
   read-back : read-list (own-records table work output limit ss) ≡ good (record { modulus = t .modulus; variables = t .variables; systems = ss })
   read-back = ap read-list (own ∙ outcome .written) ∙ read-again _ (listed-writable table (length work) limit t steps ss (outcome .accepted) (outcome .ended))

@@ -6,6 +6,7 @@ pub mod Lists
 pub mod Put
 pub mod Pivot
 pub mod Taken
+pub mod Calls
 pub mod Runs
 pub mod Causes
 pub mod Kept

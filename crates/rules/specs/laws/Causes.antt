@@ -6,35 +6,32 @@ use mathlib.Core.List.{List, [], _∷_}
 use Prim.Native.Nat.{ℕ, suc, _+_, _-_, _/_, _≤_, _<_}
 use native.Mathlib.Omega.{arith}
 use borrow.Author.Tests.{ltb-true, ltb-false, lt-ltb, le-ltb}
-use lib.Dec.{ltb}
 use Rattle.polynomials.specs.Poly.{Poly}
 use Rattle.polynomials.specs.Bounds.{over, Bounded, within, degree-passed, terms-passed}
-use Rattle.tables.specs.Read.{Read, good, Input, System, read-table}
-use Rattle.tables.specs.Read as tables
+use Rattle.tables.specs.Read.{good, Input, System, read-table}
 use Rattle.tables.specs.declared.Reason.{Reason}
-use Rattle.tables.specs.declared.Reason.the-variants.{Terms, Degree, Room, Steps, Output}
+use Rattle.tables.specs.declared.Reason.the-variants.{Terms, Degree, Room, Steps}
 use Rattle.rules.specs.Branch.{Branch}
 use Rattle.rules.specs.Room.{Limits, State, polynomials-size, live}
 use Rattle.rules.specs.Rule.{Rule, drop, list, split, divide, close, rule-of}
 use Rattle.rules.specs.Step.{Stepped, next, stopped, within-room, after-division, remainder-by, split-open, split-aside, divided, closed, with-Q, state, replace, apply, step}
 use Rattle.rules.specs.Run.{Ended, finished, refused, run, run-of}
-use Rattle.rules.specs.Written.{list-words, list-records}
 use Rattle.rules.specs.Eliminate.{room-of, limits-of, Eliminated, listed, turned-back, steps-of, delivered, eliminated}
-use Rattle.rules.specs.Cause.{Leads, first-state, Reached, Of-step, Cause, in-reading, in-first-branch, at-limit, in-step, at-end, Met-replacing, degree-met, terms-met, room-met, met-later, Met, splitting, dividing-degree, dividing-terms, dividing-room, closing}
+use Rattle.rules.specs.Cause.{Leads, first-state, Reached, Of-step, Cause, in-reading, in-first-branch, at-limit, in-step, at-end}
+use Rattle.rules.specs.Cause.{Met-replacing, degree-met, terms-met, room-met, met-later, Met, splitting, dividing-degree, dividing-terms, dividing-room, closing}
 use Rattle.rules.specs.laws.Taken.{tested}
+use Rattle.rules.specs.laws.Calls.{delivered-short, delivered-ends, call-read, call-not-read, call-ends}
 use Rattle.rules.specs.laws.Runs.{Over-first, run-of-over, run-of-on, run-of-ends, run-none, run-out, run-next, run-steps, run-of-steps}
 
 -- ── the room of a call ──
 module _ (work n : ℕ) where
-  over-is : (c : Bool) → over (limits-of work .of-room) n ≡ c → ltb (room-of work) n ≡ c
-  unfolding over limits-of
-  over-is c e = e
-
   is-over : over (limits-of work .of-room) n ≡ true → room-of work < n
-  is-over e = ltb-true (room-of work) n (over-is true e)
+  unfolding over limits-of
+  is-over e = ltb-true (room-of work) n e
 
   not-over : over (limits-of work .of-room) n ≡ false → n ≤ room-of work
-  not-over e = ltb-false (room-of work) n (over-is false e)
+  unfolding over limits-of
+  not-over e = ltb-false (room-of work) n e
 
   over-true : room-of work < n → over (limits-of work .of-room) n ≡ true
   unfolding over limits-of
@@ -167,81 +164,52 @@ module _ (w : List ℕ) (work output limit : ℕ) where
   abbrev C : ℕ → Reason → ℕ → Type 0
   C = Cause w work output limit
 
-  -- What is made of the table that was read.
-  abbrev answered : Read Input → Eliminated
-  answered r = elim r as (λ r. Eliminated) [ good t ↦ delivered (output / 4) t (run-of (limits-of work) limit t) | tables.refused why at ↦ turned-back 0 why at ]
-
   module _ (t : Input) (q : read-table w ≡ good t) where
     abbrev reached : (n : ℕ) (s : State) → Over-first (limits-of work) t false → Leads (limits-of work) (t .modulus) n (first-state t) s → Reached w work n s
     reached n s o h = record { input = t; accepted = q; has-room = not-over work (live (first-state t)) o; by-steps = h }
 
-    delivered-cause : If-refused C (delivered (output / 4) t (run-of (limits-of work) limit t))
-    delivered-cause =
+    run-cause : If-refused C (delivered (output / 4) t (run-of (limits-of work) limit t))
+    run-cause =
         run-of-ends (limits-of work) t limit (λ x. If-refused C (delivered (output / 4) t x))
         (λ o. in-first-branch t q (is-over work (live (first-state t)) o))
         (λ n s b bs o h e u. at-limit n s b bs (reached n s o h) e u)
         (λ n s b bs why o h e u f. in-step n s b bs why (reached n s o h) e u f
         (met-reason work (t .modulus) bs (s .systems) b why (stopped-cause work (t .modulus) bs (s .systems) b why f)))
-        (λ n s o h e u. ends n s (reached n s o h) e u (ltb (output / 4) (list-records (s .systems))) refl)
-      where
-        ends : (n : ℕ) (s : State) → Reached w work n s → n ≤ limit → s .branches ≡ [] → (c : Bool) → ltb (output / 4) (list-records (s .systems)) ≡ c →
-            If-refused C (elim c as (λ c. Eliminated) [
-              | true ↦ turned-back n Output 0
-              | false ↦ listed n (s .systems) (list-words (record { modulus = t .modulus; variables = t .variables; systems = s .systems }))
-            ])
-        ends n s r e u true k = at-end n s r e u (ltb-true (output / 4) (list-records (s .systems)) k)
-        ends n s r e u false k = tt
+        (λ n s o h e u. delivered-ends (output / 4) t n (s .systems) (If-refused C) (λ k. at-end n s (reached n s o h) e u k) (λ k. tt))
 
   pub refused-cause : (n : ℕ) (why : Reason) (at : ℕ) → eliminated w work output limit ≡ turned-back n why at → C n why at
-  unfolding eliminated
-  refused-cause n why at e = subst (If-refused C) e (go (read-table w) refl)
-    where
-      go : (r : Read Input) → read-table w ≡ r → If-refused C (answered r)
-      go (good t) q = delivered-cause t q
-      go (tables.refused why at) q = in-reading why at q
+  refused-cause n why at e = subst (If-refused C) e (call-ends w work output limit (If-refused C) (λ why at q. in-reading why at q) run-cause)
 
-  -- The other way. After the steps that lead to it, the run goes on from the state reached.
+  -- The other way: after the steps that lead to it, the run goes on from the state reached.
   module _ (n : ℕ) (s : State) (r : Reached w work n s) (left : ℕ) (enough : n + left ≡ limit) where
     abbrev p : ℕ
     p = r .input .modulus
 
     comes-to : (x : Ended) → run (limits-of work) p left n s ≡ x → eliminated w work output limit ≡ delivered (output / 4) (r .input) x
-    unfolding eliminated
     comes-to x e =
-        ap answered (r .accepted)
+        call-read w work output limit (r .input) (r .accepted)
         ∙ ap (delivered (output / 4) (r .input))
         (run-of-on (limits-of work) (r .input) limit (over-false work (live (first-state (r .input))) (r .has-room)) n left s (r .by-steps) enough ∙ e)
 
   pub cause-refuses : (n : ℕ) (why : Reason) (at : ℕ) → C n why at → eliminated w work output limit ≡ turned-back n why at
-  unfolding eliminated
-  cause-refuses n why at (in-reading x i q) = ap answered q
+  cause-refuses n why at (in-reading x i q) = call-not-read w work output limit x i q
   cause-refuses n why at (in-first-branch t q h) =
-      ap answered q ∙ ap (delivered (output / 4) t) (run-of-over (limits-of work) t limit (over-true work (live (first-state t)) h))
+      call-read w work output limit t q ∙ ap (delivered (output / 4) t) (run-of-over (limits-of work) t limit (over-true work (live (first-state t)) h))
   cause-refuses n why at (at-limit m s b bs r e u) = comes-to m s r 0 (omega (arith, e)) (refused m Steps) (run-out (limits-of work) (r .input .modulus) m s b bs u)
   cause-refuses n why at (in-step m s b bs x r e u f o) =
       comes-to m s r (suc (limit - m - 1)) (omega (arith, e)) (refused m x) (run-next (limits-of work) (r .input .modulus) m s b bs u (limit - m - 1) (stopped x) f)
   cause-refuses n why at (at-end m s r e u h) =
       comes-to m s r (limit - m) (omega (arith, e)) (finished m (s .systems)) (run-none (limits-of work) (r .input .modulus) m s (limit - m) u)
-      ∙ ap (λ (c : Bool). elim c as (λ c. Eliminated) [
-        | true ↦ turned-back m Output 0
-        | false ↦ listed m (s .systems) (list-words (record { modulus = r .input .modulus; variables = r .input .variables; systems = s .systems }))
-      ]) (lt-ltb (output / 4) (list-records (s .systems)) h)
+      ∙ delivered-short (output / 4) (r .input) m (s .systems) h
 
+  -- Refused or not, the steps are those of the run.
   pub steps-within : steps-of (eliminated w work output limit) ≤ limit
-  unfolding eliminated
-  steps-within = go (read-table w)
+  steps-within =
+      call-ends w work output limit Within (λ why at q. omega arith) (λ t q. of-ended t (run-of (limits-of work) limit t) (run-of-steps (limits-of work) limit t))
     where
-      of-ended : (t : Input) (x : Ended) → run-steps x ≤ limit → steps-of (delivered (output / 4) t x) ≤ limit
-      of-ended t (finished n ss) h = of-test (ltb (output / 4) (list-records ss))
-        where
-          of-test : (c : Bool) → steps-of (elim c as (λ c. Eliminated) [
-            | true ↦ turned-back n Output 0
-            | false ↦ listed n ss (list-words (record { modulus = t .modulus; variables = t .variables; systems = ss }))
-          ]) ≤ limit
-          of-test true = h
-          of-test false = h
-      of-ended t (refused n why) h = h
+      Within : Eliminated → Type 0
+      Within o = steps-of o ≤ limit
 
-      go : (r : Read Input) → steps-of (answered r) ≤ limit
-      go (good t) = of-ended t (run-of (limits-of work) limit t) (run-of-steps (limits-of work) limit t)
-      go (tables.refused why at) = omega arith
+      of-ended : (t : Input) (x : Ended) → run-steps x ≤ limit → Within (delivered (output / 4) t x)
+      of-ended t (finished n ss) h = delivered-ends (output / 4) t n ss Within (λ k. h) (λ k. h)
+      of-ended t (refused n why) h = h

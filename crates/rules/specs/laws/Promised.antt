@@ -1,44 +1,17 @@
--- What the single claim of Promise.antt is put together from: the output after an accepted elimination, and the two tests at one point.
+-- What the single claim of Promise.antt is put together from: the two tests at one point.
 use mathlib.Core.Path.{_≡_, refl, sym, _∙_, ap, subst}
 use mathlib.Core.Logic.{_≢_, inl, inr, _↔_}
 use mathlib.Core.Bool.{Bool, true, false, true≢false, false≢true}
 use mathlib.Core.List.{List, [], _∷_, _++_}
-use Prim.Native.Nat.{ℕ, zero, suc, _*_, _/_, _≤_}
+use Prim.Native.Nat.{ℕ, zero, suc}
 use native.Mathlib.Omega.{arith}
-use borrow.Author.Tests.{ltb-false}
-use lib.Dec.{ltb}
 use Rattle.residues.specs.Each.{Each}
-use Rattle.tables.specs.Read.{Read, good, Input, System, read-table}
-use Rattle.tables.specs.Read as tables
+use Rattle.tables.specs.Read.{Read, good, System}
 use Rattle.tables.specs.Solve.{first-solved}
-use Rattle.tables.specs.declared.Reason.the-variants.{Output}
 use Rattle.tables.specs.laws.Linked.{good-same}
 use Rattle.tables.specs.Solved.{Solved, First}
 use Rattle.tables.specs.laws.Solved.{place-is, none-is}
-use Rattle.rules.specs.Run.{finished, run-of}
-use Rattle.rules.specs.Written.{list-words, list-records}
-use Rattle.rules.specs.Eliminate.{limits-of, Eliminated, listed, turned-back, delivered, eliminated}
 use Rattle.rules.specs.Solutions.{Some}
-
--- ── the output ──
--- A list that was delivered has room in the output.
-pub fits-output : (w : List ℕ) (work output limit n : ℕ) (ss : List System) (words : List ℕ) (t : Input) → read-table w ≡ good t →
-    run-of (limits-of work) limit t ≡ finished n ss → eliminated w work output limit ≡ listed n ss words → 4 * list-records ss ≤ output
-unfolding eliminated
-fits-output w work output limit n ss words t r q e = go (ltb (output / 4) (list-records ss)) (ltb-false (output / 4) (list-records ss)) (sym outcome ∙ e)
-  where
-    outcome : eliminated w work output limit ≡ delivered (output / 4) t (finished n ss)
-    outcome =
-        ap (λ (z : Read Input). elim z as (λ z. Eliminated) [ good u ↦ delivered (output / 4) u (run-of (limits-of work) limit u) | tables.refused why at ↦ turned-back 0 why at ]) r
-        ∙ ap (delivered (output / 4) t) q
-
-    go : (c : Bool) → (c ≡ false → list-records ss ≤ output / 4) →
-        (elim c as (λ c. Eliminated) [
-          | true ↦ turned-back n Output 0
-          | false ↦ listed n ss (list-words (record { modulus = t .modulus; variables = t .variables; systems = ss }))
-        ]) ≡ listed n ss words → 4 * list-records ss ≤ output
-    go true h e = let z : _≡_ {A = ℕ} 0 1 = cc in absurd (omega arith)
-    go false h e = omega (arith, h refl)
 
 -- ── answers ──
 -- A test that answers a says b exactly if a is b.

@@ -18,8 +18,9 @@ use Rattle.rules.specs.Written.{list-words}
 use Rattle.rules.specs.Eliminate.{limits-of, listed, eliminated}
 use Rattle.rules.specs.Cause.{Leads, first-state}
 use Rattle.rules.specs.laws.Taken.{remainder-by-is, room-next, within-room-next, after-division-next}
+use Rattle.rules.specs.laws.Calls.{listing}
 use Rattle.rules.specs.laws.Runs.{Over-first, run-none, run-of-on, run-of-ends}
-use Rattle.rules.specs.laws.WrittenAgain.{listing, listed-delivered}
+use Rattle.rules.specs.laws.WrittenAgain.{listed-delivered}
 
 -- ── a step ──
 module _ (l : Limits) where

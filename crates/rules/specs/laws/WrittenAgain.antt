@@ -1,25 +1,22 @@
 -- What an elimination writes can be read again: the same systems in the same order.
-use mathlib.Core.Path.{_≡_, refl, _∙_, ap}
-use mathlib.Core.Bool.{Bool, true, false}
+use mathlib.Core.Path.{_≡_, refl, _∙_, ap, subst}
 use mathlib.Core.List.{List}
 use Prim.Native.Nat.{ℕ, _/_, _≤_}
 use native.Mathlib.Omega.{arith}
-use lib.Dec.{ltb}
 use lib.ListN.{length}
 use Rattle.residues.specs.Each.{Each}
 use Rattle.residues.specs.laws.Each.{each-map}
 use Rattle.polynomials.specs.Poly.{Poly}
 use Rattle.polynomials.specs.Canonical.{Canonical, All}
-use Rattle.tables.specs.Read.{Read, good, Input, System, Listing, read-table, read-list}
-use Rattle.tables.specs.Read as tables
+use Rattle.tables.specs.Read.{good, Input, System, read-table, read-list}
 use Rattle.tables.specs.Admissible.{Admissible, AdmissibleInput}
 use Rattle.tables.specs.laws.Accepted.{accepted-admissible}
-use Rattle.tables.specs.declared.Reason.the-variants.{Output}
 use Rattle.rules.specs.Run.{Ended, finished, refused, run-of}
 use Rattle.rules.specs.Written.{list-words, list-records}
 use Rattle.rules.specs.Eliminate.{room-of, limits-of, Eliminated, listed, turned-back, delivered, eliminated}
 use Rattle.rules.specs.Writable.{Writable}
 use Rattle.rules.specs.Solutions.{Proper}
+use Rattle.rules.specs.laws.Calls.{listing, delivered-ends, call-ends}
 use Rattle.rules.specs.laws.ReadAgain.{read-again}
 use Rattle.rules.specs.laws.Kept.{Of-system}
 use Rattle.rules.specs.laws.Rising as RisingLaws
@@ -27,39 +24,27 @@ use Rattle.rules.specs.laws.AdmissibleRun.{admissible-run}
 use Rattle.rules.specs.laws.WithinRoom.{listed-within}
 
 -- ── what was listed ──
--- The list that is written of an input's systems.
-abbrev pub listing : Input → List System → Listing
-listing t ss = record { modulus = t .modulus; variables = t .variables; systems = ss }
-
--- The table was read, the run finished, and the words are the list's.
-pub record Delivered (w : List ℕ) (work limit n : ℕ) (ss : List System) (words : List ℕ) : Type 0 where
+-- The table was read, the run finished, the list has room in the output, and the words are the list's.
+pub record Delivered (w : List ℕ) (work output limit n : ℕ) (ss : List System) (words : List ℕ) : Type 0 where
   pub input : Input
   pub accepted : read-table w ≡ good input
   pub ended : run-of (limits-of work) limit input ≡ finished n ss
+  pub fits : list-records ss ≤ output / 4
   pub written : words ≡ list-words (listing input ss)
 
-module _ (w : List ℕ) (work output limit n : ℕ) (ss : List System) (words : List ℕ) where
-  of-ended : (t : Input) → read-table w ≡ good t → (x : Ended) → run-of (limits-of work) limit t ≡ x → delivered (output / 4) t x ≡ listed n ss words →
-      Delivered w work limit n ss words
-  of-ended t r (refused m why) q e = let z : _≡_ {A = ℕ} 0 1 = cc in absurd (omega arith)
-  of-ended t r (finished m us) q e = go (ltb (output / 4) (list-records us)) e
-    where
-      go : (c : Bool) →
-          (elim c as (λ c. Eliminated) [ true ↦ turned-back m Output 0 | false ↦ listed m us (list-words (listing t us)) ]) ≡ listed n ss words →
-          Delivered w work limit n ss words
-      go true e = let z : _≡_ {A = ℕ} 0 1 = cc in absurd (omega arith)
-      go false e =
-          record { input = t; accepted = r; ended = cc; written = cc }
+module _ (w : List ℕ) (work output limit : ℕ) where
+  abbrev If-listed : Eliminated → Type 0
+  If-listed (listed n ss words) = Delivered w work output limit n ss words
+  If-listed (turned-back n why at) = Unit {0}
 
-  pub listed-delivered : eliminated w work output limit ≡ listed n ss words → Delivered w work limit n ss words
-  unfolding eliminated
-  listed-delivered e = go (read-table w) refl e
+  pub listed-delivered : (n : ℕ) (ss : List System) (words : List ℕ) → eliminated w work output limit ≡ listed n ss words → Delivered w work output limit n ss words
+  listed-delivered n ss words e =
+      subst If-listed e (call-ends w work output limit If-listed (λ why at q. tt) (λ t q. of-ended t q (run-of (limits-of work) limit t) refl))
     where
-      go : (r : Read Input) → read-table w ≡ r →
-          (elim r as (λ r. Eliminated) [ good t ↦ delivered (output / 4) t (run-of (limits-of work) limit t) | tables.refused why at ↦ turned-back 0 why at ]) ≡ listed n ss words →
-          Delivered w work limit n ss words
-      go (good t) q e = of-ended t q (run-of (limits-of work) limit t) refl e
-      go (tables.refused why at) q e = let z : _≡_ {A = ℕ} 0 1 = cc in absurd (omega arith)
+      of-ended : (t : Input) → read-table w ≡ good t → (x : Ended) → run-of (limits-of work) limit t ≡ x → If-listed (delivered (output / 4) t x)
+      of-ended t q (refused m why) r = tt
+      of-ended t q (finished m us) r =
+          delivered-ends (output / 4) t m us If-listed (λ k. tt) (λ k. record { input = t; accepted = q; ended = r; fits = k; written = refl })
 
 -- ── it can be written ──
 -- A table that is accepted is proper.

@@ -1,26 +1,29 @@
 -- What a refusal of an elimination comes from. "A job that meets a limit stops with that limit's number, and no number comes without its
 -- cause" (demand 1): the claims `refused-cause` and `cause-refuses` of Claims.antt, and of a step `stopped-cause` and `cause-stops`. Quoted
 -- are document 01's "Eliminate" and "Room".
-use mathlib.Core.Path.{_≡_}
+use mathlib.Core.Path.{_≡_, refl}
 use mathlib.Core.Logic.{_⊎_}
 use mathlib.Core.List.{List, [], _∷_}
 use Prim.Native.Nat.{ℕ, zero, suc, _+_, _/_, _≤_, _<_}
+use native.Mathlib.Omega.{arith}
+use Rattle.residues.specs.Prime.{is-modulus, is-prime, no-divisor-from}
 use Rattle.polynomials.specs.Poly.{Poly}
 use Rattle.polynomials.specs.Bounds.{within, degree-passed, terms-passed}
-use Rattle.tables.specs.Read.{good, Input, System, read-table}
+use Rattle.tables.specs.Words.{is-whole, follow}
+use Rattle.tables.specs.Read.{good, Input, System, read-heads, read-header, read-table}
 use Rattle.tables.specs.Read as tables
 use Rattle.tables.specs.declared.Reason.{Reason}
 use Rattle.tables.specs.declared.Reason.the-variants.{Terms, Degree, Room, Steps, Output}
-use Rattle.rules.specs.Branch.{Branch, Chosen}
-use Rattle.rules.specs.Room.{Limits, State, polynomials-size, live}
+use Rattle.rules.specs.Branch.{Branch, put-all, some-one, some-zero, Chosen}
+use Rattle.rules.specs.Room.{Limits, State, polynomials-size, branch-size, branches-size, systems-size, live}
 use Rattle.rules.specs.Rule.{split, divide, close, rule-of}
-use Rattle.rules.specs.Step.{next, stopped, remainder-by, split-open, split-aside, divided, closed, with-Q, state, step}
+use Rattle.rules.specs.Step.{next, stopped, remainder-by, split-open, split-aside, divided, closed, with-Q, state, apply, step}
 use Rattle.rules.specs.Run.{first-branch}
 use Rattle.rules.specs.Written.{list-records}
 use Rattle.rules.specs.Eliminate.{room-of, limits-of}
 
 -- ── of a call ──
--- n whole steps lead from one state to another.
+-- n whole steps lead from one state to another, each a step of the open branch.
 module _ (l : Limits) (p : ℕ) where
   abbrev pub Leads : ℕ → State → State → Type 0
   Leads zero s s′ = s ≡ s′
@@ -83,3 +86,34 @@ module _ (work p : ℕ) (waiting : List Branch) (listed : List System) where
         room-of work < live (state l p waiting listed (divided l p g r b)) → Met b Room
     -- 5. The remainders of the members of Q by the pivot.
     closing : (k : ℕ) (f : Chosen) (why : Reason) → rule-of b ≡ close k f → Met-replacing k (f .poly) (b .Q) (closed l p f b) why → Met b why
+
+-- ── examples ──
+-- A table with P and Q empty. Its first branch takes one record, and the list of its one system two.
+abbrev empty : List ℕ
+empty = 7 ∷ 1 ∷ 0 ∷ 0 ∷ []
+
+abbrev t : Input
+t = record { modulus = 7; variables = 1; P = []; Q = [] }
+
+empty-is-read : read-table empty ≡ good t
+unfolding read-table read-header read-heads follow is-whole is-modulus is-prime no-divisor-from
+empty-is-read = refl
+
+-- A work area of one record lends none.
+no-room : Cause empty 4 8 1 0 Room 0
+unfolding first-branch put-all live branches-size branch-size polynomials-size systems-size room-of
+no-room = in-first-branch t empty-is-read (omega arith)
+
+-- "The same, limit 0: refusal 12, 0 steps."
+no-step : Cause empty 8 8 0 0 Steps 0
+unfolding first-branch put-all live branches-size branch-size polynomials-size systems-size room-of
+no-step = at-limit 0 (first-state t) (first-branch t) [] (record { input = t; accepted = empty-is-read; has-room = omega arith; by-steps = refl }) refl refl
+
+-- One record of output, after one step.
+short-output : Cause empty 8 4 1 1 Output 0
+unfolding first-branch put-all live branches-size branch-size polynomials-size systems-size room-of step apply rule-of some-one some-zero list-records
+short-output =
+    at-end 1 end (record { input = t; accepted = empty-is-read; has-room = omega arith; by-steps = (first-branch t, [], end, refl, refl, refl) }) (omega arith) refl (omega arith)
+  where
+    end : State
+    end = record { branches = []; systems = record { T = []; U = [] } ∷ [] }

@@ -1,4 +1,4 @@
--- What document 01 promises of the systems that a run lists, as claims about the rules. Their proofs stand in laws/.
+-- What document 01 promises of the systems that a run lists and of its refusals, as claims about the rules. Their proofs stand in laws/.
 use mathlib.Core.Path.{_≡_}
 use mathlib.Core.Logic.{_≢_, _↔_}
 use mathlib.Core.Bool.{true}

@@ -107,25 +107,7 @@ module _ {M : Type 1} (𝓤 : URA M) (H : Heap 𝓤) (A : Atoms 𝓤) (W : Given
   args = (t, (p, (n, (holder, (first, (x, (zero, tt)))))))
 
   abbrev vals : Vals all-matches.signature (κ, (κ′, tt))
-  vals = (
-    slice t ∷ [],
-    (
-      vint w32 p ∷ [],
-      (
-        vint w32 n ∷ [],
-        (
-          vint w64 holder ∷ [],
-          (
-            vint w32 first ∷ [],
-            (
-              slice x ∷ [],
-              (vbool zero ∷ [], tt),
-            ),
-          ),
-        ),
-      ),
-    ),
-  )
+  vals = (slice t ∷ [], (vint w32 p ∷ [], (vint w32 n ∷ [], (vint w64 holder ∷ [], (vint w32 first ∷ [], (slice x ∷ [], (vbool zero ∷ [], tt)))))))
 
   abbrev Entry : SProp 𝓤
   Entry = onEntry 𝓤 H A all-matches.signature (κ, (κ′, tt)) (q, (q′, tt)) args vals
@@ -353,19 +335,7 @@ module _ {M : Type 1} (𝓤 : URA M) (H : Heap 𝓤) (A : Atoms 𝓤) (W : Given
       (λ κs. (slice-vals, (uint-vals w32, (uint-vals w32, (uint-vals w64, (uint-vals w32, (slice-vals, (bool-vals, tt))))))))
       (λ κs. (
         shr-slice-tells (named 0) (κs .0) u32,
-        (
-          uint-tells w32,
-          (
-            uint-tells w32,
-            (
-              uint-tells w64,
-              (
-                uint-tells w32,
-                (shr-slice-tells (named 1) (κs .1 .0) u32, (bool-tells, tt)),
-              ),
-            ),
-          ),
-        ),
+        (uint-tells w32, (uint-tells w32, (uint-tells w64, (uint-tells w32, (shr-slice-tells (named 1) (κs .1 .0) u32, (bool-tells, tt)))))),
       ))
       (λ κs qs bounds a g are. needs-both 𝓤 _ _ _ (λ ready point.
       walk 𝓤 H A W mem run (κs .0) (κs .1 .0) (qs .0) (qs .1 .0) (a .0) (a .1 .1 .1 .1 .1 .0) (a .1 .0) (a .1 .1 .0) (a .1 .1 .1 .0)

@@ -29,8 +29,10 @@ enum-known-why c = search needs
 
 returns-2 : tie.Need-returns-2
 returns-2 c =
-    let a = c .before .before .before .before .before .before .before .args in
-    sym (ap checked (system-refused (a .table .now) (a .p) (a .n) (a .i) (sym (c .before .before .before .before .before .word .ensures) ∙ c .before .before .before .before .if1 .left) (checked-refused _ (sym (c .before .before .before .check-triangle .ensures) ∙ c .before .why .given .1))))
+    let k = c .before .before .before in
+    let a = k .before .before .before .before .args in
+    let refused = checked-refused _ (sym (k .check-triangle .ensures) ∙ c .before .why .given .1) in
+    sym (ap checked (system-refused (a .table .now) (a .p) (a .n) (a .i) (sym (k .before .before .word .ensures) ∙ k .before .if1 .left) refused))
 
 enum-told : tie.Need-enum-told
 enum-told c = search needs
@@ -43,9 +45,11 @@ check-heads-requires c κs = search needs
 
 returns-3 : tie.Need-returns-3
 returns-3 c =
-    let a = c .before .before .before .before .before .before .before .before .args in
-    let t = checked-good _ (sym (c .before .before .before .before .check-triangle .ensures) ∙ c .before .before .enum-told .given .1) in
-    c .check-heads .ensures ∙ rw (c .before .word2 .ensures) (sym (system-checked (a .table .now) (a .p) (a .n) (a .i) (sym (c .before .before .before .before .before .before .word .ensures) ∙ c .before .before .before .before .before .if1 .left) (t .1)))
+    let k = c .before .before .before .before in
+    let a = k .before .before .before .before .args in
+    let t = checked-good _ (sym (k .check-triangle .ensures) ∙ c .before .before .enum-told .given .1) in
+    c .check-heads .ensures
+    ∙ rw (c .before .word2 .ensures) (sym (system-checked (a .table .now) (a .p) (a .n) (a .i) (sym (k .before .before .word .ensures) ∙ k .before .if1 .left) (t .1)))
 
 pub check-system-spec : {M : Type 1} → statement M
 check-system-spec =

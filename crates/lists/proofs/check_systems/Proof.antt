@@ -1,7 +1,8 @@
 -- `list::check_systems` meets its contract. The invariant: the count and what is read from index i on, which record `at` holds, decide the whole
 -- count. The measure is the number of records behind `at`.
 use mathlib.Core.Path.{_≡_, sym, _∙_}
-use Prim.Native.Nat.{_-_, _<_}
+use mathlib.Core.List.{List}
+use Prim.Native.Nat.{ℕ, _-_, _<_}
 use native.Mathlib.Omega.{arith}
 use borrow.Author.Needs.{needs}
 use Rattle.tables.specs.declared.words.Next.the-variants.{To}
@@ -20,12 +21,25 @@ Inv-loop table p n at₀ i₀ count₀ at i count = Counting table p n at i coun
 abbrev μ-loop : tie.MeasureT-loop
 μ-loop table p n at₀ i₀ count₀ at i count = records table - at
 
--- Index i leads to record j.
-followed : (c : tie.After-known-told Inv-loop μ-loop) → next (follow (c .before .before .before .before .before .before .before .args .table .now) (c .before .before .before .before .loop .at) (c .before .before .before .before .loop .i)) ≡ To (c .before .j .given .0 .0)
-followed c = sym (c .before .before .before .follow .ensures) ∙ c .before .j .given .1
+-- ── index i leads to record j ──
+module _ (c : tie.After-known-told Inv-loop μ-loop) where
+  abbrev table : List ℕ
+  table = c .before .before .before .before .before .before .before .args .table .now
 
-inside : (c : tie.After-known-told Inv-loop μ-loop) → (c .before .before .before .before .loop .at < c .before .j .given .0 .0) × (c .before .j .given .0 .0 < records (c .before .before .before .before .before .before .before .args .table .now))
-inside c = next-inside (c .before .before .before .before .before .before .before .args .table .now) (c .before .before .before .before .loop .at) (c .before .before .before .before .loop .i) (c .before .j .given .0 .0) (followed c)
+  abbrev at : ℕ
+  at = c .before .before .before .before .loop .at
+
+  abbrev i : ℕ
+  i = c .before .before .before .before .loop .i
+
+  abbrev j : ℕ
+  j = c .before .j .given .0 .0
+
+  followed : next (follow table at i) ≡ To j
+  followed = sym (c .before .before .before .follow .ensures) ∙ c .before .j .given .1
+
+  inside : (at < j) × (j < records table)
+  inside = next-inside table at i j followed
 
 word-requires : tie.Need-word-requires Inv-loop μ-loop
 word-requires c κs =
@@ -73,8 +87,11 @@ enum-known-why c = search needs
 
 returns-3 : tie.Need-returns-3 Inv-loop μ-loop
 returns-3 c =
-    let a = c .before .before .before .before .before .before .before .before .before .before .before .args in
-    counting-refused (a .table .now) (a .p) (a .n) (c .before .before .before .before .before .before .before .before .loop .inv) (followed (c .before .before .before .before)) (checked-refused _ (sym (c .before .before .before .check-system .ensures) ∙ c .before .why .given .1))
+    let k = c .before .before .before .before in
+    let l = k .before .before .before .before in
+    let a = l .before .before .before .args in
+    let refused = checked-refused _ (sym (c .before .before .before .check-system .ensures) ∙ c .before .why .given .1) in
+    counting-refused (a .table .now) (a .p) (a .n) (l .loop .inv) (followed k) refused
 
 enum-told-3 : tie.Need-enum-told-3 Inv-loop μ-loop
 enum-told-3 c = search needs
@@ -93,9 +110,11 @@ loop-less c = omega (arith, inside (c .before .before .before .before))
 
 loop-again : tie.Need-loop-again Inv-loop μ-loop
 loop-again c =
-    let a = c .before .before .before .before .before .before .before .before .before .before .before .args in
+    let k = c .before .before .before .before in
+    let l = k .before .before .before .before in
+    let a = l .before .before .before .args in
     let s = checked-good _ (sym (c .before .before .before .check-system .ensures) ∙ c .before .enum-told3 .given .1) in
-    rw (c .word2 .ensures) (counting-on (a .table .now) (a .p) (a .n) (c .before .before .before .before .before .before .before .before .loop .inv) (inside (c .before .before .before .before) .0) (followed (c .before .before .before .before)) (s .1))
+    rw (c .word2 .ensures) (counting-on (a .table .now) (a .p) (a .n) (l .loop .inv) (inside k .0) (followed k) (s .1))
 
 pub check-systems-spec : {M : Type 1} → statement M
 check-systems-spec =

@@ -1,7 +1,8 @@
 -- `list::check_triangle` meets its contract. The invariant: what is read from index i on, which record `at` holds, decides the whole chain. The
 -- measure is the number of records behind `at`.
 use mathlib.Core.Path.{_≡_, sym, _∙_, ap}
-use Prim.Native.Nat.{_-_, _<_}
+use mathlib.Core.List.{List}
+use Prim.Native.Nat.{ℕ, _-_, _<_}
 use native.Mathlib.Omega.{arith}
 use borrow.Author.Needs.{needs}
 use Rattle.polynomials.specs.Poly.{Poly}
@@ -10,7 +11,8 @@ use Rattle.tables.specs.Words.{word, records, follow}
 use Rattle.tables.specs.Read.{good, read-head, read-triangle}
 use Rattle.tables.specs.Solve.{checked}
 use Rattle.tables.specs.Walk.{next}
-use Rattle.tables.specs.laws.Chains.{checked-good, checked-refused, next-inside, whole-records, triangle-chain, Reached, reached-first, reached-end, reached-astray, reached-refused, reached-on}
+use Rattle.tables.specs.laws.Chains.{checked-good, checked-refused, next-inside, whole-records, triangle-chain}
+use Rattle.tables.specs.laws.Chains.{Reached, reached-first, reached-end, reached-astray, reached-refused, reached-on}
 use Rattle.lists.proofs.ListLaws.{led-refused, led-broken, led-good}
 use Rattle.lists.proofs.check_triangle.Statement.{statement}
 use Rattle.lists.proofs.check_triangle.Tie as tie
@@ -22,15 +24,30 @@ Inv-loop table p n system at₀ i₀ last₀ at i last =
 abbrev μ-loop : tie.MeasureT-loop
 μ-loop table p n system at₀ i₀ last₀ at i last = records table - at
 
--- Index i leads to record j.
-followed : (c : tie.After-known-told Inv-loop μ-loop) → next (follow (c .before .before .before .before .before .before .before .args .table .now) (c .before .before .before .before .loop .at) (c .before .before .before .before .loop .i)) ≡ To (c .before .j .given .0 .0)
-followed c = sym (c .before .before .before .follow .ensures) ∙ c .before .j .given .1
+-- ── index i leads to record j ──
+module _ (c : tie.After-known-told Inv-loop μ-loop) where
+  abbrev table : List ℕ
+  table = c .before .before .before .before .before .before .before .args .table .now
 
-inside : (c : tie.After-known-told Inv-loop μ-loop) → (c .before .before .before .before .loop .at < c .before .j .given .0 .0) × (c .before .j .given .0 .0 < records (c .before .before .before .before .before .before .before .args .table .now))
-inside c = next-inside (c .before .before .before .before .before .before .before .args .table .now) (c .before .before .before .before .loop .at) (c .before .before .before .before .loop .i) (c .before .j .given .0 .0) (followed c)
+  abbrev at : ℕ
+  at = c .before .before .before .before .loop .at
+
+  abbrev i : ℕ
+  i = c .before .before .before .before .loop .i
+
+  abbrev j : ℕ
+  j = c .before .j .given .0 .0
+
+  followed : next (follow table at i) ≡ To j
+  followed = sym (c .before .before .before .follow .ensures) ∙ c .before .j .given .1
+
+  inside : (at < j) × (j < records table)
+  inside = next-inside table at i j followed
 
 -- The polynomial there.
-was-read : (c : tie.After-enum-told3 Inv-loop μ-loop) → (f : Poly) × (read-head (c .before .before .before .before .before .before .before .before .before .before .args .table .now) (c .before .before .before .before .before .before .before .before .before .before .args .p) (c .before .before .before .before .before .before .before .before .before .before .args .n) (c .before .before .before .before .j .given .0 .0) ≡ good f)
+was-read : (c : tie.After-enum-told3 Inv-loop μ-loop) → let k = c .before .before .before in
+    let a = k .before .before .before .before .before .before .before .args in
+    (f : Poly) × (read-head (a .table .now) (a .p) (a .n) (j k) ≡ good f)
 was-read c = checked-good _ (sym (c .before .before .check-head .ensures) ∙ c .enum-told3 .given .1)
 
 word-requires : tie.Need-word-requires Inv-loop μ-loop
@@ -114,7 +131,8 @@ loop-again c =
     let f = was-read (c .before .before .before) in
     let k = c .before .before .leader-at .ensures (f .0) (f .1) in
     rw (c .word2 .ensures, k)
-    (reached-on (triangle-chain (a .table .now) (a .p) (a .n)) (l .inv) (followed (c .before .before .before .before .before .before)) (led-good (a .table .now) (a .p) (a .n) (l .last) _ (f .1) (omega (arith, k))))
+    (reached-on (triangle-chain (a .table .now) (a .p) (a .n)) (l .inv) (followed (c .before .before .before .before .before .before))
+    (led-good (a .table .now) (a .p) (a .n) (l .last) _ (f .1) (omega (arith, k))))
 
 pub check-triangle-spec : {M : Type 1} → statement M
 check-triangle-spec =

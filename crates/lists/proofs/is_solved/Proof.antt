@@ -10,18 +10,18 @@ use Rattle.lists.proofs.is_solved.Statement.{statement}
 use Rattle.lists.proofs.is_solved.Tie as tie
 
 -- The chains that `all_match` walks are those of the system.
-zeros : (c : tie.After-word) (s : System) →
-    read-system (c .before .before .before .args .table .now) (c .before .before .before .args .p) (c .before .before .before .args .n) (c .before .before .before .args .i) ≡ good s →
-    read-heads (c .before .before .before .args .table .now) (c .before .before .before .args .p) (c .before .before .before .args .n) (records (c .before .before .before .args .table .now)) (c .before .before .before .args .i) (c .word .result) ≡ good (s .T)
+zeros : (c : tie.After-word) (s : System) → let a = c .before .before .before .args in
+    read-system (a .table .now) (a .p) (a .n) (a .i) ≡ good s → read-heads (a .table .now) (a .p) (a .n) (records (a .table .now)) (a .i) (c .word .result) ≡ good (s .T)
 zeros c s e =
     let a = c .before .before .before .args in
-    rw (c .word .ensures)
-    (triangle-heads (a .table .now) (a .p) (a .n) (records (a .table .now)) 0 (a .i) (word (a .table .now) (a .i) 0) (system-read (a .table .now) (a .p) (a .n) (a .i) s e .triangle))
+    let w = a .table .now in
+    rw (c .word .ensures) (triangle-heads w (a .p) (a .n) (records w) 0 (a .i) (word w (a .i) 0) (system-read w (a .p) (a .n) (a .i) s e .triangle))
 
-nonzeros : (c : tie.After-word2) (s : System) →
-    read-system (c .before .before .before .before .before .before .args .table .now) (c .before .before .before .before .before .before .args .p) (c .before .before .before .before .before .before .args .n) (c .before .before .before .before .before .before .args .i) ≡ good s →
-    read-heads (c .before .before .before .before .before .before .args .table .now) (c .before .before .before .before .before .before .args .p) (c .before .before .before .before .before .before .args .n) (records (c .before .before .before .before .before .before .args .table .now)) (c .before .before .before .before .before .before .args .i) (c .word2 .result) ≡ good (s .U)
-nonzeros c s e = let a = c .before .before .before .before .before .before .args in rw (c .word2 .ensures) (system-read (a .table .now) (a .p) (a .n) (a .i) s e .companion)
+nonzeros : (c : tie.After-word2) (s : System) → let a = c .before .before .before .before .before .before .args in
+    read-system (a .table .now) (a .p) (a .n) (a .i) ≡ good s → read-heads (a .table .now) (a .p) (a .n) (records (a .table .now)) (a .i) (c .word2 .result) ≡ good (s .U)
+nonzeros c s e =
+    let a = c .before .before .before .before .before .before .args in
+    rw (c .word2 .ensures) (system-read (a .table .now) (a .p) (a .n) (a .i) s e .companion)
 
 word-requires : tie.Need-word-requires
 word-requires c κs = search needs
@@ -48,10 +48,11 @@ all-match-requires-2 c κs =
 
 returns-2 : tie.Need-returns-2
 returns-2 c =
-    let a = c .before .before .before .before .before .before .before .args in
+    let k = c .before .before in
+    let a = k .before .before .before .before .before .args in
     λ s e.
     c .all-match2 .ensures (s .U) (nonzeros (c .before) s e)
-    ∙ sym (zeros-pass (a .p) (a .point .now) (s .T) (s .U) (sym (c .before .before .before .all-match .ensures (s .T) (zeros (c .before .before .before .before) s e)) ∙ not-false _ (c .before .before .if1 .left)))
+    ∙ sym (zeros-pass (a .p) (a .point .now) (s .T) (s .U) (sym (k .before .all-match .ensures (s .T) (zeros (k .before .before) s e)) ∙ not-false _ (k .if1 .left)))
 
 pub is-solved-spec : {M : Type 1} → statement M
 is-solved-spec =

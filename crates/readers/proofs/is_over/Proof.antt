@@ -50,7 +50,8 @@ module _ {M : Type 1} (𝓤 : URA M) (H : Heap 𝓤) (A : Atoms 𝓤) (W : Given
   exits : ent 𝓤 (onEntry 𝓤 H A is-over.signature (κ, tt) (q, tt) (d, tt) (mach ∷ [], tt)) (Post (vbool (eqb (d .at) 0)))
   exits =
       qed W (token 𝓤 κ q ∷ ‵ (owns (B (κ, tt) ∷ []) (d, tt) (mach ∷ [], tt)) ∷ []) ∵
-      suffices ! _ (ends-at 𝓤 H A is-over.ended stayed (is-over.clauses 𝓤 H A mem run) W (((κ, tt), (q, tt), tt, (d, tt), (mach ∷ [], tt)), tt) (vbool (eqb (d .at) 0)) (eqb (d .at) 0) (tt, tt) (tt, tt)) $ says ! refl $
+      suffices ! _ (ends-at 𝓤 H A is-over.ended stayed (is-over.clauses 𝓤 H A mem run) W
+      (((κ, tt), (q, tt), tt, (d, tt), (mach ∷ [], tt)), tt) (vbool (eqb (d .at) 0)) (eqb (d .at) 0) (tt, tt) (tt, tt)) $ says ! refl $
       frame ! $ frame ! $ owned ! bool (Is bool) (bool-makes 𝓤 H A W) (eqb (d .at) 0) _ refl $ done !
 
   module _ (C : Calls 𝓤 H) (Λ : Loops 𝓤 H) where
@@ -65,12 +66,16 @@ module _ {M : Type 1} (𝓤 : URA M) (H : Heap 𝓤) (A : Atoms 𝓤) (W : Given
 
 module _ {M : Type 1} (𝓤 : URA M) (H : Heap 𝓤) (A : Atoms 𝓤) (W : Given 𝓤 H A) (mem : Memory → SProp 𝓤) (run : Routine → Fun 𝓤) where
   walks : (C : Calls 𝓤 H) (Λ : Loops 𝓤 H) → Walks 𝓤 H A is-over.ended stayed (WpFn 𝓤 H C Λ code.function) (is-over.clauses 𝓤 H A mem run)
-  walks C Λ = walked 𝓤 H A is-over.ended stayed (is-over.clauses 𝓤 H A mem run) (WpFn 𝓤 H C Λ code.function) (λ κs. (LL.vals (T.the-type (namedLft 1 0 tt κs)) (T′.the-laws (namedLft 1 0 tt κs)), tt)) (λ κs. (LL.tells (T.the-type (namedLft 1 0 tt κs)) (T′.the-laws (namedLft 1 0 tt κs)), tt))
+  walks C Λ = walked 𝓤 H A is-over.ended stayed (is-over.clauses 𝓤 H A mem run) (WpFn 𝓤 H C Λ code.function)
+      (λ κs. (LL.vals (T.the-type (namedLft 1 0 tt κs)) (T′.the-laws (namedLft 1 0 tt κs)), tt))
+      (λ κs. (LL.tells (T.the-type (namedLft 1 0 tt κs)) (T′.the-laws (namedLft 1 0 tt κs)), tt))
       (λ κs qs bounds a g are. via 𝓤 _ (fst∗ 𝓤 _ (emp 𝓤)) (walk 𝓤 H A W mem run (κs .0) (qs .0) (a .0) C Λ (are .0)))
 
 meets : {M : Type 1} (𝓤 : URA M) (H : Heap 𝓤) (A : Atoms 𝓤) → Given 𝓤 H A → (mem : Memory → SProp 𝓤) (run : Routine → Fun 𝓤) (𝓣 : Tables 𝓤 H)
     → Meets 𝓤 H A is-over.signature (WpFn 𝓤 H (𝓣 .C) (𝓣 .Λ) code.function) (is-over.spec 𝓤 H A mem run)
-meets 𝓤 H A W mem run 𝓣 = walk-meets 𝓤 H A is-over.ended stayed W (goes-none 𝓤 H A W 1 B yes (λ κs x f. refl), tt) (is-over.clauses 𝓤 H A mem run) (WpFn 𝓤 H (𝓣 .C) (𝓣 .Λ) code.function) (WpFn-mono 𝓤 H (W .laws) 𝓣 code.function) (walks 𝓤 H A W mem run (𝓣 .C) (𝓣 .Λ))
+meets 𝓤 H A W mem run 𝓣 =
+    walk-meets 𝓤 H A is-over.ended stayed W (goes-none 𝓤 H A W 1 B yes (λ κs x f. refl), tt) (is-over.clauses 𝓤 H A mem run)
+    (WpFn 𝓤 H (𝓣 .C) (𝓣 .Λ) code.function) (WpFn-mono 𝓤 H (W .laws) 𝓣 code.function) (walks 𝓤 H A W mem run (𝓣 .C) (𝓣 .Λ))
 
 pub is-over-spec : {M : Type 1} → stated.statement M
 unfolding code.routine tablesOf

@@ -78,7 +78,8 @@ module _ {M : Type 1} (𝓤 : URA M) (H : Heap 𝓤) (A : Atoms 𝓤) (W : Given
   abbrev to : Core 𝓤 H A mem run .Ghost
   to = (((κ, tt), (q, tt), tt, (d .table, (d .at, (j, tt))), (v ∷ [], (vint w64 (d .at) ∷ [], (vint w64 j ∷ [], tt)))), tt)
 
-  apart : (d .at < records (now (d .table))) × (j < 4) → d .at < 2 ^ 64 → ent 𝓤 (onEntry 𝓤 H A word.signature (κ, tt) (q, tt) (d, (j, tt)) at) (sep 𝓤 (Core 𝓤 H A mem run .pre to) (sem 𝓤 H A (Own κ d)))
+  apart : (d .at < records (now (d .table))) × (j < 4) → d .at < 2 ^ 64 →
+      ent 𝓤 (onEntry 𝓤 H A word.signature (κ, tt) (q, tt) (d, (j, tt)) at) (sep 𝓤 (Core 𝓤 H A mem run .pre to) (sem 𝓤 H A (Own κ d)))
   apart ok fits =
       qed W (raw (onEntry 𝓤 H A word.signature (κ, tt) (q, tt) (d, (j, tt)) at) ∷ []) ∵ use1 W (Passed 𝓤 H A W κ d q j j-fits fits ⊛ ‵ (Own κ d)) (taken-apart 𝓤 H A W κ d q j j-fits fits) $ split ! $
       use1 W (raw (Core 𝓤 H A mem run .pre to)) (qed W (Passed 𝓤 H A W κ d q j j-fits fits ∷ []) ∵ says ! ok $ done !) $ frame ! $ done !
@@ -94,28 +95,35 @@ module _ {M : Type 1} (𝓤 : URA M) (H : Heap 𝓤) (A : Atoms 𝓤) (W : Given
       move ! (1 ∷ []) $ frame ! $ nothing ! $ owned ! usize (Is usize) (uint-makes 𝓤 H A W w64) j _ (refl, j-fits) $ fjoin ! $ move ! (2 ∷ 0 ∷ []) $ fjoin ! $ frame ! $ done !
 
   module _ (C : Calls 𝓤 H) (Λ : Loops 𝓤 H) (fm : FmC 𝓤 H (W .laws) C) (known : Triple 𝓤 (C #core) (Core 𝓤 H A mem run)) where
-    walk : (d .at < records (now (d .table))) × (j < 4) → Holds (hasTy (T′.mir (named 0)) mach) × WT mach → ent 𝓤 (onEntry 𝓤 H A word.signature (κ, tt) (q, tt) (d, (j, tt)) at) (WpFn 𝓤 H C Λ code.function (mach ∷ vint w64 j ∷ []) Post)
+    walk : (d .at < records (now (d .table))) × (j < 4) → Holds (hasTy (T′.mir (named 0)) mach) × WT mach →
+        ent 𝓤 (onEntry 𝓤 H A word.signature (κ, tt) (q, tt) (d, (j, tt)) at) (WpFn 𝓤 H C Λ code.function (mach ∷ vint w64 j ∷ []) Post)
     walk ok wt =
         qed W (raw (onEntry 𝓤 H A word.signature (κ, tt) (q, tt) (d, (j, tt)) at) ∷ []) ∵ enter ! C Λ code.function (mach ∷ vint w64 j ∷ []) _ $
-        alloc1 ! (λ l₀. alloc1 ! (λ l₁. alloc1 ! (λ l₂. alloc1 ! (λ l₃. alloc1 ! (λ l₄. alloc0 ! $ params1 ! $ pass1 ! (init ! 6 refl wt) $ pass1 ! (init ! 4 refl (tt, record { fits = j-fits })) $ pass0 ! $
+        alloc1 ! (λ l₀. alloc1 ! (λ l₁. alloc1 ! (λ l₂. alloc1 ! (λ l₃. alloc1 ! (λ l₄. alloc0 ! $ params1 ! $
+        pass1 ! (init ! 6 refl wt) $ pass1 ! (init ! 4 refl (tt, record { fits = j-fits })) $ pass0 ! $
         assigns ! (of-opd ! (load ! (from ! (fld ! refl (stop !))) (look-in ! 6 (sub ! 0 refl (whole !))))) (from ! (stop !)) (init ! 2 refl (tt, wt .1 .0)) $
         assigns ! (of-opd ! (load ! (from ! (fld ! refl (stop !))) (look-in ! 6 (sub ! 1 refl (whole !))))) (from ! (stop !)) (init ! 0 refl (tt, wt .1 .1 .0)) $
         move ! (10 ∷ []) $ use1 W (raw (Core 𝓤 H A mem run .pre to) ⊛ ‵ (Own κ d)) (apart ok (wt .1 .1 .0 .fits)) $ split ! $
-        calls-at ! fm (Core 𝓤 H A mem run) known to (and-then ! (load ! (from ! (stop !)) (look ! 4 refl)) (and-then ! (load ! (from ! (stop !)) (look ! 2 refl)) (and-then ! (load ! (from ! (stop !)) (look ! 6 refl)) (no-more !)))) (λ u.
-        use1 W (later (some (λ (r : ℕ). (token 𝓤 κ q ⊛ ‵ (u32 .own r (u ∷ []))) ⊛ raw (ensured 𝓤 H A core.ended (core.clauses 𝓤 H A mem run) (κ, tt) (d .table, (d .at, (j, tt))) tt r)))) (id⊢ 𝓤 _) $ await ! tt $ pick ! (λ r.
+        calls-at ! fm (Core 𝓤 H A mem run) known to
+        (and-then ! (load ! (from ! (stop !)) (look ! 4 refl)) (and-then ! (load ! (from ! (stop !)) (look ! 2 refl)) (and-then ! (load ! (from ! (stop !)) (look ! 6 refl)) (no-more !)))) (λ u.
+        use1 W (later (some (λ (r : ℕ). (token 𝓤 κ q ⊛ ‵ (u32 .own r (u ∷ []))) ⊛ raw (ensured 𝓤 H A core.ended (core.clauses 𝓤 H A mem run) (κ, tt) (d .table, (d .at, (j, tt))) tt r))))
+        (id⊢ 𝓤 _) $ await ! tt $ pick ! (λ r.
         split ! $ move ! (1 ∷ []) $ use1 W (raw (fact 𝓤 (r ≡ found))) (said r) $ heard ! (r ≡ found) (λ e. split ! $ move ! (1 ∷ []) $
         -- [the result; the token; what the reader owns; _4; …; _3; …; _2; …; _1; …; room for _0; …]
         peeks ! u32 (Is u32) (shows 𝓤 H A u32) r (u ∷ []) (λ is.
         land ! (from ! (stop !)) (init ! 11 refl (uint-lawful 𝓤 H A W w32 .typed r _ is .0)) $
         returns ! (look ! 11 refl) $ forget ! 3 refl $ forget ! 5 refl $ forget ! 7 refl $ forget ! 9 refl $ forget ! 11 refl $
-        move ! (11 ∷ 12 ∷ []) $ free1 ! $ move ! (9 ∷ 10 ∷ []) $ free1 ! $ move ! (7 ∷ 8 ∷ []) $ free1 ! $ move ! (5 ∷ 6 ∷ []) $ free1 ! $ move ! (3 ∷ 4 ∷ []) $ free1 ! $ free0 ! $ by ! (exits r u e))))))))))
+        move ! (11 ∷ 12 ∷ []) $ free1 ! $ move ! (9 ∷ 10 ∷ []) $ free1 ! $ move ! (7 ∷ 8 ∷ []) $ free1 ! $
+        move ! (5 ∷ 6 ∷ []) $ free1 ! $ move ! (3 ∷ 4 ∷ []) $ free1 ! $ free0 ! $ by ! (exits r u e))))))))))
 
 module _ {M : Type 1} (𝓤 : URA M) (H : Heap 𝓤) (A : Atoms 𝓤) (W : Given 𝓤 H A) (mem : Memory → SProp 𝓤) (run : Routine → Fun 𝓤) where
   walks : (C : Calls 𝓤 H) (Λ : Loops 𝓤 H) → FmC 𝓤 H (W .laws) C → Triple 𝓤 (C #core) (Core 𝓤 H A mem run)
       → Walks 𝓤 H A word.ended stayed (WpFn 𝓤 H C Λ code.function) (word.clauses 𝓤 H A mem run)
   walks C Λ fm known = walked 𝓤 H A word.ended stayed (word.clauses 𝓤 H A mem run) (WpFn 𝓤 H C Λ code.function)
-      (λ κs. (LL.vals (T.the-type (namedLft 1 0 tt κs)) (T′.the-laws (namedLft 1 0 tt κs)), (uint-vals w64, tt))) (λ κs. (LL.tells (T.the-type (namedLft 1 0 tt κs)) (T′.the-laws (namedLft 1 0 tt κs)), (uint-tells w64, tt)))
-      (λ κs qs bounds a g are. needs 𝓤 _ _ (λ ok. walk 𝓤 H A W mem run (κs .0) (qs .0) (a .0) (a .1 .0) (are .1 .0 .1) C Λ fm known ok (LL.lawful (T.the-type (namedLft 1 0 tt κs)) (T′.the-laws (namedLft 1 0 tt κs)) 𝓤 H A W .typed (a .0) _ (are .0) .0)))
+      (λ κs. (LL.vals (T.the-type (namedLft 1 0 tt κs)) (T′.the-laws (namedLft 1 0 tt κs)), (uint-vals w64, tt)))
+      (λ κs. (LL.tells (T.the-type (namedLft 1 0 tt κs)) (T′.the-laws (namedLft 1 0 tt κs)), (uint-tells w64, tt)))
+      (λ κs qs bounds a g are. needs 𝓤 _ _ (λ ok. walk 𝓤 H A W mem run (κs .0) (qs .0) (a .0) (a .1 .0) (are .1 .0 .1) C Λ fm known ok
+      (LL.lawful (T.the-type (namedLft 1 0 tt κs)) (T′.the-laws (namedLft 1 0 tt κs)) 𝓤 H A W .typed (a .0) _ (are .0) .0)))
 
 meets : {M : Type 1} (𝓤 : URA M) (H : Heap 𝓤) (A : Atoms 𝓤) (W : Given 𝓤 H A) (mem : Memory → SProp 𝓤) (run : Routine → Fun 𝓤) (𝓣 : Tables 𝓤 H)
     → Triple 𝓤 (𝓣 .C #core) (Core 𝓤 H A mem run)

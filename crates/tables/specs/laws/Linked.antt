@@ -82,7 +82,8 @@ chain-linked {w = w} {step = step} {on = on} {X = X} C fuel s at i (a ∷ xs) h 
             o .above,
             o .enough .inside,
             subst (λ b. step s i ≡ good b) m (o .read),
-            chain-linked C (o .fuel) (on s a) i (word w i 3) xs (o .enough) (subst (λ b. X (o .fuel) (on s b) i (word w i 3) ≡ good xs) m (subst (λ ys. X (o .fuel) (on s (o .member)) i (word w i 3) ≡ good ys) r (o .rest))),
+            chain-linked C (o .fuel) (on s a) i (word w i 3) xs (o .enough)
+                (subst (λ b. X (o .fuel) (on s b) i (word w i 3) ≡ good xs) m (subst (λ ys. X (o .fuel) (on s (o .member)) i (word w i 3) ≡ good ys) r (o .rest))),
           )
     ]
 

@@ -33,7 +33,9 @@ check-terms-requires c κs = search needs
 returns-3 : tie.Need-returns-3
 returns-3 c =
     let a = c .before .before .before .before .before .before .args in
-    c .check-terms .ensures ∙ head-terms (a .table .now) (a .p) (a .n) (a .i) (sym (c .before .before .before .before .word .ensures) ∙ c .before .before .before .if1 .left) (sym (c .before .before .word2 .ensures) ∙ c .before .if2 .left)
+    let k = c .before .before in
+    c .check-terms .ensures
+    ∙ head-terms (a .table .now) (a .p) (a .n) (a .i) (sym (k .before .before .word .ensures) ∙ k .before .if1 .left) (sym (k .word2 .ensures) ∙ c .before .if2 .left)
 
 pub check-head-spec : {M : Type 1} → statement M
 check-head-spec =

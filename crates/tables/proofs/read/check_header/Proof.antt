@@ -46,7 +46,8 @@ returns-6 : tie.Need-returns-6
 returns-6 c =
     let w = c .before .before .before .before .before .before .before .before .before .before .before .args .table .now in
     let h : is-whole w ≡ true = whole w (omega arith) (c .before .before .before .before .before .before .before .before .if2 .left) (omega arith) in
-    refused-variables w h (sym (c .before .before .before .before .before .is-prime .ensures) ∙ not-false _ (c .before .before .before .before .if4 .left)) (rw (le-leb 1 (word w 0 1) (omega arith), lt-leb (word w 0 1) 8 (omega arith)))
+    let prime = sym (c .before .before .before .before .before .is-prime .ensures) ∙ not-false _ (c .before .before .before .before .if4 .left) in
+    refused-variables w h prime (rw (le-leb 1 (word w 0 1) (omega arith), lt-leb (word w 0 1) 8 (omega arith)))
 
 returns-7 : tie.Need-returns-7
 returns-7 c =

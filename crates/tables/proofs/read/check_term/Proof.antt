@@ -37,7 +37,9 @@ returns-3 : tie.Need-returns-3
 returns-3 c =
     let a = c .before .before .before .before .before .args in
     let w = a .table .now in
-    refused-coefficient w (a .p) (a .n) (a .m) (a .last) (a .i) (omega arith) (rw (ne-eqb (word w (a .i) 0) 0 (λ z. c .before .if2 .left (c .before .before .word .ensures ∙ z)), le-leb (a .p) (word w (a .i) 0) (omega (arith, c .before .before .word .ensures))))
+    let first = c .before .before .word .ensures in
+    refused-coefficient w (a .p) (a .n) (a .m) (a .last) (a .i) (omega arith)
+    (rw (ne-eqb (word w (a .i) 0) 0 (λ z. c .before .if2 .left (first ∙ z)), le-leb (a .p) (word w (a .i) 0) (omega (arith, first))))
 
 word-requires-2 : tie.Need-word-requires-2
 word-requires-2 c κs = search needs
@@ -52,7 +54,7 @@ has-above-requires : tie.Need-has-above-requires
 has-above-requires c κs = search needs
 
 cast-t20 : tie.Need-cast-t20
-cast-t20 c = fits-word (c .before .before .before .before .before .before .before .before .before .before .pre .0) (c .before .before .before .before .before .before .before .before .before .before .pre .1)
+cast-t20 c = let s = c .before .before .before .before .before .before .before .before .before .before in fits-word (s .pre .0) (s .pre .1)
 
 returns-4 : tie.Need-returns-4
 returns-4 c =
@@ -65,7 +67,7 @@ returns-4 c =
     refused-exponent w (a .p) (a .n) (a .m) (a .last) (a .i) (e .result) (omega arith) some (omega arith) packed (sym (c .before .has-above .ensures) ∙ c .if4 .taken)
 
 cast-t24 : tie.Need-cast-t24
-cast-t24 c = fits-word (c .before .before .before .before .before .before .before .before .before .before .before .before .pre .0) (c .before .before .before .before .before .before .before .before .before .before .before .before .pre .1)
+cast-t24 c = let s = c .before .before .before .before .before .before .before .before .before .before .before .before in fits-word (s .pre .0) (s .pre .1)
 
 returns-5 : tie.Need-returns-5
 returns-5 c =
@@ -88,7 +90,8 @@ returns-6 c =
     let some : word w (a .i) 0 ≢ 0 = λ z. c .before .before .before .before .before .before .before .if2 .left (first ∙ z) in
     let below : ltb 0 (a .m) && leb (a .last) (e .result) ≡ false =
     ⊎-elim (λ u. rw (lt-ltb 0 (a .m) (u .0 .taken), u .1 .left)) (λ u. rw (le-ltb 0 (a .m) (u .left))) (c .if5 .came) in
-    good-term w (a .p) (a .n) (a .m) (a .last) (a .i) (e .result) (omega arith) some (omega arith) packed (sym (c .before .before .has-above .ensures) ∙ c .before .if4 .left) (falls-before (a .m) (e .result) (a .last) (omega arith) (omega arith) ∙ below)
+    good-term w (a .p) (a .n) (a .m) (a .last) (a .i) (e .result) (omega arith) some (omega arith) packed (sym (c .before .before .has-above .ensures) ∙ c .before .if4 .left)
+    (falls-before (a .m) (e .result) (a .last) (omega arith) (omega arith) ∙ below)
 
 pub check-term-spec : {M : Type 1} → statement M
 check-term-spec =

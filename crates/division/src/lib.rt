@@ -4,9 +4,9 @@ ghost use mathlib.Core.Path.{_≡_};
 ghost use Prim.Native.Nat.{_+_, _≤_, _<_};
 ghost use lib.ListN.{length, take};
 ghost use Rattle.polynomials.specs.Bounds.{standard, bounded-product, bounded-difference, bounded-round, and-then};
-ghost use Rattle.polynomials.specs.Division.{degree, coefficient, factor};
+ghost use Rattle.polynomials.specs.Division.{degree, coefficient};
 ghost use Rattle.polynomials.specs.Packed.{terms};
-ghost use Rattle.polynomials.specs.Working.{Pairs, Holds, Written, Forms};
+ghost use Rattle.polynomials.specs.Working.{Holds, Forms};
 ghost use Rattle.products.specs.Lent.{lent-for-product};
 ghost use Rattle.division.specs.Lent.{lent-for-difference, lent-for-round};
 use polynomials::Formed;
@@ -36,7 +36,7 @@ pub fn round(
 {
     match times_initial(p, i, &r[..n], x, z) {
         Formed::Words(a) => {
-            let l = factor(r, n, k, d, e);
+            let l = factors::factor(r, n, k, d, e);
             subtract_product(p, t, r, l, &x[..a], y, z)
         }
         Formed::OverDegree => Formed::OverDegree,
@@ -57,26 +57,6 @@ fn times_initial(p: u64, i: &[u64], f: &[u64], x: &mut [u64], z: &mut [u64]) -> 
         return Formed::Words(f.len());
     }
     products::product(p, i, f, x, z)
-}
-
-// The terms of R, the first n words of r, that have v(k+1)^e, divided by v(k+1)^d: in the first words of r, which gives up R.
-fn factor(r: &mut [u64], n: usize, k: u32, d: u64, e: u64) -> usize
-    requires { ⌜ (k < 8) × (1 ≤ d) × (d ≤ e) × (n ≤ length (now r)) × Pairs (take n (now r)) × (degree k (terms (take n (now r))) ≡ e) ⌝ }
-    ensures { λ l. ⌜ Written (factor k d (terms (take n (now (r .entry))))) l (now (r .exit)) × (l ≤ n) ⌝ }
-{
-    let top = d << (8 * k);
-    let mut i = 0;
-    let mut l = 0;
-    while i < n {
-        let m = r[i + 1];
-        if monomials::exponent(m, k) == e {
-            r[l] = r[i];
-            r[l + 1] = m - top;
-            l += 2;
-        }
-        i += 2;
-    }
-    l
 }
 
 // a minus the product of the first l words of r and t: in the first words of r.

@@ -1,4 +1,4 @@
--- `division::factor` meets its contract. The invariant is `Divided`: the terms of the highest power among the first i words, divided, stand in the first l.
+-- `factor` meets its contract. The invariant is `Divided`: the terms of the highest power among the first i words, divided, stand in the first l.
 use mathlib.Core.Path.{_≡_, sym, _∙_}
 use mathlib.Core.Logic.{⊎-elim}
 use Prim.Native.Nat.{_+_, _-_, _%_, _≤_}
@@ -9,8 +9,8 @@ use lib.Seq.{length-take-le}
 use Rattle.polynomials.specs.Packed.{bytes}
 use Rattle.polynomials.specs.laws.Bounds.{degree-small}
 use Rattle.terms.proofs.PartLaws.{Divided, divided-none, divided-next, divided-same, divided-as, divided-all, power-within}
-use Rattle.division.proofs.factor.Statement.{statement}
-use Rattle.division.proofs.factor.Tie as tie
+use Rattle.factors.proofs.factor.Statement.{statement}
+use Rattle.factors.proofs.factor.Tie as tie
 
 abbrev Inv-loop : tie.InvT-loop
 Inv-loop r₀ n k d e top i₀ l₀ r i l = (i ≤ n) × (n % 2 ≡ 0) × Divided k d e top r₀ r i l

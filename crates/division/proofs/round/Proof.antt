@@ -55,7 +55,7 @@ times-initial-requires c κs =
     (omega arith, (s .pre .1 .1 .0 .0, (s .pre .1 .1 .1 .0 .1, (initial-lent _ _ _ _ _ (words s) (lent .1), initial-lent _ _ _ _ _ (words s) (lent .3)))))
 
 enum-known-a : tie.Need-enum-known-a
-enum-known-a c = search needs
+enum-known-a c = c .match .keys1
 
 factor-requires : tie.Need-factor-requires
 factor-requires c κs = search needs
@@ -95,10 +95,10 @@ subtract-product-requires c κs =
     )
 
 enum-told : tie.Need-enum-told
-enum-told c = search needs
+enum-told c = c .match .keys2
 
 enum-told-2 : tie.Need-enum-told-2
-enum-told-2 c = search needs
+enum-told-2 c = c .match .keys3
 
 same-length : tie.Need-same-length
 same-length c = search needs

@@ -80,7 +80,7 @@ product-requires c κs =
     (s .pre .0, (s .pre .1 .1 .0 .2, (s .pre .1 .0, (factor-lent-as _ _ _ _ taken (s .pre .1 .1 .1 .1 .0), factor-lent-as _ _ _ _ taken (s .pre .1 .1 .1 .1 .1)))))
 
 enum-known-b : tie.Need-enum-known-b
-enum-known-b c = search needs
+enum-known-b c = c .match .keys1
 
 slice-reshare-prefix-difference : tie.Need-slice-reshare-prefix-difference
 slice-reshare-prefix-difference c = answer (c .before) .inside
@@ -95,10 +95,10 @@ difference-requires c κs =
     (s .pre .0, (s .pre .1 .1 .1 .0, (answer b .holds, room b)))
 
 enum-told : tie.Need-enum-told
-enum-told c = search needs
+enum-told c = c .match .keys2
 
 enum-told-2 : tie.Need-enum-told-2
-enum-told-2 c = search needs
+enum-told-2 c = c .match .keys3
 
 same-length-2 : tie.Need-same-length-2
 same-length-2 c = search needs

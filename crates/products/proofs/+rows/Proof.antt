@@ -99,13 +99,13 @@ rows-gather-requires t c κs =
     (asked .0, (asked .1 .0, (asked .1 .1 .0, row-lent _ _ _ (omega (arith, asked .1 .0 .0 .pairs, asked .1 .0 .1)) (asked .1 .1 .0 .0 .few) (asked .1 .1 .1 .1 .0))))
 
 rows-enum-known-ended : (t : ℕ) → rows-lts.Need-enum-known-ended (calls t) (rows-at t) rows.Post
-rows-enum-known-ended t c = search needs
+rows-enum-known-ended t c = c .match .keys1
 
 rows-enum-told : (t : ℕ) → rows-lts.Need-enum-told (calls t) (rows-at t) rows.Post
-rows-enum-told t c = search needs
+rows-enum-told t c = c .match .keys2
 
 rows-enum-told-2 : (t : ℕ) → rows-lts.Need-enum-told-2 (calls t) (rows-at t) rows.Post
-rows-enum-told-2 t c = search needs
+rows-enum-told-2 t c = c .match .keys3
 
 rows-gather-apart-requires : (t : ℕ) → rows-lts.Need-gather-apart-requires (calls t) (rows-at t) rows.Post
 rows-gather-apart-requires t c κs =

@@ -98,7 +98,7 @@ round-requires c κs =
     )
 
 enum-known-m : tie.Need-enum-known-m
-enum-known-m c = search needs
+enum-known-m c = c .match .keys1
 
 array-share-prefix-a : tie.Need-array-share-prefix-a
 array-share-prefix-a c = answer (c .before) .inside
@@ -113,10 +113,10 @@ copy-requires-2 c κs =
     omega (arith, length-take-le (m .m .given .0 .0) (Z (called m)) (answer m .inside), answer m .holds .few, s .pre .1 .1 .1 .1)
 
 enum-told : tie.Need-enum-told
-enum-told c = search needs
+enum-told c = c .match .keys2
 
 enum-told-2 : tie.Need-enum-told-2
-enum-told-2 c = search needs
+enum-told-2 c = c .match .keys3
 
 same-length : tie.Need-same-length
 same-length c = search needs

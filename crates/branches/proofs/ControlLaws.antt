@@ -45,7 +45,6 @@ module _ {v : List Rec} {most : ℕ} {b : Stored} {bs ss : List Stored} (H : Hel
   pub free-is : (top : ℕ) → top ≡ getD v 0 nul .w2 → top ≡ end + length (H .free)
   free-is top e = omega (arith, w2-is (first-is (lies H)) e, ends)
 
-  -- What fits into them, and what does not.
   module _ {top : ℕ} (e : top ≡ getD v 0 nul .w2) where
     pub end-le-top : end ≤ top
     end-le-top = omega (arith, free-is top e)
@@ -53,6 +52,7 @@ module _ {v : List Rec} {most : ℕ} {b : Stored} {bs ss : List Stored} (H : Hel
     pub bounds-inside : (at < end) × (end ≤ top) × (top ≤ most)
     bounds-inside = (omega (arith, start-is, ends), end-le-top, omega (arith, free-is top e, ends, room-is H))
 
+    -- What fits into the free records, and what does not.
     pub fits-free : {n : ℕ} → n ≤ top - end → n ≤ length (H .free)
     fits-free h = omega (arith, free-is top e)
 

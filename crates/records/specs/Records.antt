@@ -11,9 +11,11 @@ pub record Rec : Type 0 where
   pub w2 : ℕ
   pub w3 : ℕ
 
+-- The record of these words.
 abbrev pub mk : ℕ → ℕ → ℕ → ℕ → Rec
 mk a b c d = record { w0 = a; w1 = b; w2 = c; w3 = d }
 
+-- Four zeros: what `getD` finds past the end.
 abbrev pub nul : Rec
 nul = mk 0 0 0 0
 

@@ -60,7 +60,8 @@ pairs-of-append (x ∷ r) s = ap (λ (l : List ℕ). x .w0 ∷ (x .w1 * 42949672
 
 -- The words of one record more.
 pub pairs-of-take : (v : List Rec) (k i : ℕ) → k + i < length v
-    → pairs-of (take (i + 1) (drop k v)) ≡ pairs-of (take i (drop k v)) ++ (getD v (k + i) nul .w0 ∷ (getD v (k + i) nul .w1 * 4294967296 + getD v (k + i) nul .w2) ∷ [])
+    → pairs-of (take (i + 1) (drop k v))
+    ≡ pairs-of (take i (drop k v)) ++ (getD v (k + i) nul .w0 ∷ (getD v (k + i) nul .w1 * 4294967296 + getD v (k + i) nul .w2) ∷ [])
 unfolding pairs-of
 pairs-of-take v k i h =
     let r : List Rec = drop k v in
@@ -104,7 +105,8 @@ unfolding member
 member-turn f v i left h = ap (member f) (polys-turn v i left h)
 
 -- ── comparing ──
-getD-pairs-of : (r : List Rec) (j : ℕ) → (getD (pairs-of r) (2 * j) 0 ≡ getD r j nul .w0) × (getD (pairs-of r) (2 * j + 1) 0 ≡ getD r j nul .w1 * 4294967296 + getD r j nul .w2)
+getD-pairs-of : (r : List Rec) (j : ℕ) → (getD (pairs-of r) (2 * j) 0 ≡ getD r j nul .w0)
+    × (getD (pairs-of r) (2 * j + 1) 0 ≡ getD r j nul .w1 * 4294967296 + getD r j nul .w2)
 unfolding pairs-of
 getD-pairs-of [] j = (refl, refl)
 getD-pairs-of (x ∷ r) zero = (refl, refl)
@@ -116,7 +118,8 @@ getD-pairs-of (x ∷ r) (suc j) =
 
 -- The words of the term j of the polynomial at i.
 getD-words-at : (v : List Rec) (i j : ℕ) → j < size-at v i
-    → (getD (words-at v i) (2 * j) 0 ≡ getD v (i + 1 + j) nul .w0) × (getD (words-at v i) (2 * j + 1) 0 ≡ getD v (i + 1 + j) nul .w1 * 4294967296 + getD v (i + 1 + j) nul .w2)
+    → (getD (words-at v i) (2 * j) 0 ≡ getD v (i + 1 + j) nul .w0)
+    × (getD (words-at v i) (2 * j + 1) 0 ≡ getD v (i + 1 + j) nul .w1 * 4294967296 + getD v (i + 1 + j) nul .w2)
 unfolding words-at
 getD-words-at v i j h =
     let r : List Rec = take (size-at v i) (drop (i + 1) v) in

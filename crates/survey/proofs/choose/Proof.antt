@@ -63,7 +63,8 @@ inside c =
     let v = view (s .args .w .now) in
     let at = c .get0 .result in
     let p = getD v at nul .w0 in
-    omega (arith, length-view (s .args .w .now), lies v (capacity (s .args .w .now)) (o .0) (o .1) (o .2) (o .3) at p (getD v at nul .w1) (skip-to v (at + 1) p) (c .get0 .ensures) refl refl refl .inside)
+    let l = lies v (capacity (s .args .w .now)) (o .0) (o .1) (o .2) (o .3) at p (getD v at nul .w1) (skip-to v (at + 1) p) (c .get0 .ensures) refl refl refl in
+    omega (arith, length-view (s .args .w .now), l .inside)
 
 get0-requires-2 : tie.Need-get0-requires-2
 get0-requires-2 c κs = inside c

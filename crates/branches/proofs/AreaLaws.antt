@@ -6,7 +6,7 @@ use Prim.Native.Nat.{ℕ, zero, suc, _+_, _*_, _-_, _/_, _%_, _≤_, _<_}
 use native.Mathlib.Omega.{arith}
 use lib.ListN.{length, take, drop, getD, set, length-append, length-drop, take-append-drop}
 use lib.Seq.{getD-at, set-at, drop-append-le, length-take-le, take-all, split-at}
-use Rattle.records.specs.Records.{Rec, mk, nul}
+use Rattle.records.specs.Records.{Rec, record-of, zero-record}
 use Rattle.stored.specs.Stored.{poly-records, polys-records, size-at, words-at, skip-to, polys-at, inserted, removed, Storable}
 use Rattle.stored.specs.laws.Stored.{length-poly-records, polys-records-append, size-at-poly-records, words-at-poly-records, skip-to-polys-records}
 use Rattle.stored.specs.laws.Stored.{polys-at-polys-records, inserted-in-parts, removed-in-parts, All-pairs}
@@ -44,8 +44,8 @@ pub record Lies (v pre : List Rec) (own : Rec) (fs : List (List ℕ)) (free fin 
   pub is : v ≡ pre ++ (own ∷ (polys-records fs ++ (free ++ fin)))
 
 module _ {v pre : List Rec} {own : Rec} {fs : List (List ℕ)} {free fin : List Rec} {at : ℕ} (L : Lies v pre own fs free fin at) where
-  pub own-is : getD v at nul ≡ own
-  own-is = ap (λ (u : List Rec). getD u at nul) (L .is) ∙ getD-at pre own (polys-records fs ++ (free ++ fin)) nul at (L .starts)
+  pub own-is : getD v at zero-record ≡ own
+  own-is = ap (λ (u : List Rec). getD u at zero-record) (L .is) ∙ getD-at pre own (polys-records fs ++ (free ++ fin)) zero-record at (L .starts)
 
   -- The records up to the polynomials behind xs.
   front : List (List ℕ) → List Rec
@@ -157,8 +157,8 @@ module _ {v pre : List Rec} {own : Rec} {fs : List (List ℕ)} {free fin : List 
 
 -- ── the control record ──
 module _ {v S : List Rec} {ctl own : Rec} {fs : List (List ℕ)} {free fin : List Rec} {at : ℕ} (L : Lies v (ctl ∷ S) own fs free fin at) where
-  pub first-is : getD v 0 nul ≡ ctl
-  first-is = ap (λ (u : List Rec). getD u 0 nul) (L .is)
+  pub first-is : getD v 0 zero-record ≡ ctl
+  first-is = ap (λ (u : List Rec). getD u 0 zero-record) (L .is)
 
   pub first-set : (v₁ : List Rec) (r : Rec) → v₁ ≡ set v 0 r → Lies v₁ (r ∷ S) own fs free fin at
   first-set v₁ r e = record { starts = L .starts; is = e ∙ ap (λ (u : List Rec). set u 0 r) (L .is) }
@@ -175,10 +175,10 @@ abbrev pub end-of : Stored → List Stored → ℕ
 end-of b bs = place (at-of bs) (all b)
 
 abbrev pub own-of : Stored → List Stored → Rec
-own-of b bs = mk (length (b .P)) (length (b .Q)) (length (b .T)) (stack bs .1)
+own-of b bs = record-of (length (b .P)) (length (b .Q)) (length (b .T)) (stack bs .1)
 
 abbrev pub control : Stored → List Stored → List Stored → List Rec → Rec
-control b bs ss free = mk (at-of bs) (end-of b bs) (end-of b bs + length free) (length ss)
+control b bs ss free = record-of (at-of bs) (end-of b bs) (end-of b bs + length free) (length ss)
 
 records-of-all : (b : Stored) → polys-records (all b) ≡ polys-records (b .P) ++ (polys-records (b .Q) ++ polys-records (b .T))
 records-of-all b = polys-records-append (b .P) (b .Q ++ b .T) ∙ ap (λ (u : List Rec). polys-records (b .P) ++ u) (polys-records-append (b .Q) (b .T))
@@ -188,10 +188,10 @@ end-is b bs = omega (arith, length-append (stack bs .0) (branch-records (stack b
 
 -- The records of a state with an open branch, as `Held` and as `Lies` have them.
 same-records : (b : Stored) (bs ss : List Stored) (free fin : List Rec)
-    → mk (at-of bs) (1 + length (stack (b ∷ bs) .0)) (1 + length (stack (b ∷ bs) .0) + length free) (length ss) ∷ (stack (b ∷ bs) .0 ++ (free ++ fin))
+    → record-of (at-of bs) (1 + length (stack (b ∷ bs) .0)) (1 + length (stack (b ∷ bs) .0) + length free) (length ss) ∷ (stack (b ∷ bs) .0 ++ (free ++ fin))
     ≡ (control b bs ss free ∷ stack bs .0) ++ (own-of b bs ∷ (polys-records (all b) ++ (free ++ fin)))
 same-records b bs ss free fin =
-    ap₂ (λ (n : ℕ) (u : List Rec). mk (at-of bs) n (n + length free) (length ss) ∷ u) (end-is b bs)
+    ap₂ (λ (n : ℕ) (u : List Rec). record-of (at-of bs) n (n + length free) (length ss) ∷ u) (end-is b bs)
     (append-assoc (stack bs .0) (branch-records (stack bs .1) b) (free ++ fin)
     ∙ ap (λ (u : List Rec). stack bs .0 ++ (own-of b bs ∷ (u ++ (free ++ fin)))) (sym (records-of-all b)))
 
@@ -304,12 +304,12 @@ module _ {v : List Rec} {most : ℕ} {b : Stored} {bs ss : List Stored} (H : Hel
       skip-Q from q e (omega arith) ∙ ap (λ (l : List (List ℕ)). place (at-of bs) (b .P ++ l)) (take-all q (b .Q) (omega arith))
 
   -- Where the branch starts, as the control record says.
-  module _ (a : ℕ) (e : a ≡ getD v 0 nul .w0) where
+  module _ (a : ℕ) (e : a ≡ getD v 0 zero-record .w0) where
     pub at-is : a ≡ at-of bs
     at-is = e ∙ ap (λ (r : Rec). r .w0) (first-is (lies H))
 
-    pub own-read : getD v a nul ≡ own-of b bs
-    own-read = ap (λ (n : ℕ). getD v n nul) at-is ∙ own-is (lies H)
+    pub own-read : getD v a zero-record ≡ own-of b bs
+    own-read = ap (λ (n : ℕ). getD v n zero-record) at-is ∙ own-is (lies H)
 
     pub at-inside : a < most
     at-inside = omega (arith, at-is, room-is H)
@@ -327,18 +327,18 @@ module _ {v : List Rec} {most : ℕ} {b : Stored} {bs ss : List Stored} (H : Hel
         ap₂ (skip-to v) from-P (sym (length-take-le k (b .P) h)) ∙ skips (lies H) [] (take k (b .P)) (drop k (b .P) ++ (b .Q ++ b .T)) (parted-P b k)
         ∙ omega (arith, place-nil (at-of bs))
 
-    pub end-P : (p : ℕ) → p ≡ getD v a nul .w0 → skip-to v (a + 1) p ≡ place (at-of bs) (b .P)
+    pub end-P : (p : ℕ) → p ≡ getD v a zero-record .w0 → skip-to v (a + 1) p ≡ place (at-of bs) (b .P)
     end-P p h =
         let n : p ≡ length (b .P) = h ∙ ap (λ (r : Rec). r .w0) own-read in
         skip-P p (omega arith) ∙ ap (place (at-of bs)) (take-all p (b .P) (omega arith))
 
-    pub p-is : (p : ℕ) → p ≡ getD v a nul .w0 → p ≡ length (b .P)
+    pub p-is : (p : ℕ) → p ≡ getD v a zero-record .w0 → p ≡ length (b .P)
     p-is p h = h ∙ ap (λ (r : Rec). r .w0) own-read
 
-    pub all-P : (p : ℕ) → p ≡ getD v a nul .w0 → polys-at v (a + 1) p ≡ b .P
+    pub all-P : (p : ℕ) → p ≡ getD v a zero-record .w0 → polys-at v (a + 1) p ≡ b .P
     all-P p h = let n : p ≡ length (b .P) = p-is p h in in-P p (omega arith) ∙ take-all p (b .P) (omega arith)
 
-    pub q-is : (q : ℕ) → q ≡ getD v a nul .w1 → q ≡ length (b .Q)
+    pub q-is : (q : ℕ) → q ≡ getD v a zero-record .w1 → q ≡ length (b .Q)
     q-is q h = h ∙ ap (λ (r : Rec). r .w1) own-read
 
     -- The member of P at place i, behind those before it.

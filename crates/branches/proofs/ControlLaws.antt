@@ -6,14 +6,14 @@ use native.Mathlib.Omega.{arith}
 use mir.Syntax.{w32, w64}
 use mir.Val.{Fits}
 use lib.ListN.{length, getD}
-use Rattle.records.specs.Records.{Rec, mk, nul}
+use Rattle.records.specs.Records.{Rec, record-of, zero-record}
 use Rattle.branches.specs.Area.{Stored, Held, with-open}
 use Rattle.branches.proofs.AreaLaws.{lies, first-is, at-of, end-of, room-is, at-is}
 
-pub mk-equal : {a b c d a₁ b₁ c₁ d₁ : ℕ} → a ≡ a₁ → b ≡ b₁ → c ≡ c₁ → d ≡ d₁ → mk a b c d ≡ mk a₁ b₁ c₁ d₁
-mk-equal p q r s = λ t. mk (p t) (q t) (r t) (s t)
+pub record-equal : {a b c d a₁ b₁ c₁ d₁ : ℕ} → a ≡ a₁ → b ≡ b₁ → c ≡ c₁ → d ≡ d₁ → record-of a b c d ≡ record-of a₁ b₁ c₁ d₁
+record-equal p q r s = λ t. record-of (p t) (q t) (r t) (s t)
 
-module _ {r : Rec} {x₀ x₁ x₂ x₃ n : ℕ} (e : r ≡ mk x₀ x₁ x₂ x₃) where
+module _ {r : Rec} {x₀ x₁ x₂ x₃ n : ℕ} (e : r ≡ record-of x₀ x₁ x₂ x₃) where
   pub w0-is : n ≡ r .w0 → n ≡ x₀
   w0-is h = h ∙ ap (λ (u : Rec). u .w0) e
 
@@ -31,8 +31,8 @@ fits-wide f = omega (arith, f .fits)
 
 -- What the control record says first: where the open branch starts and where it ends.
 pub record Read (v : List Rec) (at end : ℕ) : Type 0 where
-  pub at-word : at ≡ getD v 0 nul .w0
-  pub end-word : end ≡ getD v 0 nul .w1
+  pub at-word : at ≡ getD v 0 zero-record .w0
+  pub end-word : end ≡ getD v 0 zero-record .w1
 
 module _ {v : List Rec} {most : ℕ} {b : Stored} {bs ss : List Stored} (H : Held v most (with-open b bs ss)) {at end : ℕ} (R : Read v at end) where
   pub start-is : at ≡ at-of bs
@@ -42,10 +42,10 @@ module _ {v : List Rec} {most : ℕ} {b : Stored} {bs ss : List Stored} (H : Hel
   ends = w1-is (first-is (lies H)) (R .end-word)
 
   -- The free records are those from the branch's end to the systems.
-  pub free-is : (top : ℕ) → top ≡ getD v 0 nul .w2 → top ≡ end + length (H .free)
+  pub free-is : (top : ℕ) → top ≡ getD v 0 zero-record .w2 → top ≡ end + length (H .free)
   free-is top e = omega (arith, w2-is (first-is (lies H)) e, ends)
 
-  module _ {top : ℕ} (e : top ≡ getD v 0 nul .w2) where
+  module _ {top : ℕ} (e : top ≡ getD v 0 zero-record .w2) where
     pub end-le-top : end ≤ top
     end-le-top = omega (arith, free-is top e)
 
@@ -69,5 +69,5 @@ module _ {v : List Rec} {most : ℕ} {b : Stored} {bs ss : List Stored} (H : Hel
   pub at-fits : Fits w32 at
   at-fits = fits-word (omega (arith, start-is, room-is H))
 
-  pub top-fits : (top : ℕ) → top ≡ getD v 0 nul .w2 → Fits w32 top
+  pub top-fits : (top : ℕ) → top ≡ getD v 0 zero-record .w2 → Fits w32 top
   top-fits top e = fits-word (omega (arith, free-is top e, ends, room-is H))

@@ -3,19 +3,19 @@ use mathlib.Core.Path.{_≡_, refl, sym, _∙_, subst}
 use mathlib.Core.List.{List}
 use Prim.Native.Nat.{ℕ, _+_}
 use lib.ListN.{getD}
-use Rattle.records.specs.Records.{Rec, nul}
+use Rattle.records.specs.Records.{Rec, zero-record}
 use Rattle.stored.specs.Stored.{polys-at, skip-to}
 use Rattle.branches.specs.Area.{Stored, Held, with-open}
 use Rattle.branches.proofs.AreaLaws.{all-P, all-Q, q-is, end-P}
 
 abbrev start-in : List Rec → ℕ
-start-in v = getD v 0 nul .w0
+start-in v = getD v 0 zero-record .w0
 
 abbrev P-in : List Rec → List (List ℕ)
-P-in v = polys-at v (start-in v + 1) (getD v (start-in v) nul .w0)
+P-in v = polys-at v (start-in v + 1) (getD v (start-in v) zero-record .w0)
 
 abbrev Q-in : List Rec → List (List ℕ)
-Q-in v = polys-at v (skip-to v (start-in v + 1) (getD v (start-in v) nul .w0)) (getD v (start-in v) nul .w1)
+Q-in v = polys-at v (skip-to v (start-in v + 1) (getD v (start-in v) zero-record .w0)) (getD v (start-in v) zero-record .w1)
 
 module _ {v : List Rec} {most : ℕ} {b : Stored} {bs ss : List Stored} (H : Held v most (with-open b bs ss)) where
   read-P : P-in v ≡ b .P

@@ -9,7 +9,7 @@ use mathlib.Core.List.{List, [], _∷_, _++_}
 use Prim.Native.Nat.{ℕ, _+_, _-_, _/_, _≤_, min}
 use lib.Dec.{leb}
 use lib.ListN.{length, getD, take, drop}
-use Rattle.records.specs.Records.{Rec, mk}
+use Rattle.records.specs.Records.{Rec, record-of}
 use Rattle.stored.specs.Stored.{polys-records, Storable}
 use Rattle.branches.specs.Words.{put-P, put-Q-before, remove}
 
@@ -21,7 +21,7 @@ pub record Stored : Type 0 where
 
 -- Its records: the counts and where the branch under it starts; then P, Q and T.
 abbrev pub branch-records : ℕ → Stored → List Rec
-branch-records under b = mk (length (b .P)) (length (b .Q)) (length (b .T)) under ∷ (polys-records (b .P) ++ (polys-records (b .Q) ++ polys-records (b .T)))
+branch-records under b = record-of (length (b .P)) (length (b .Q)) (length (b .T)) under ∷ (polys-records (b .P) ++ (polys-records (b .Q) ++ polys-records (b .T)))
 
 -- The branches, the open one first and last in the records. Where the first of them starts; 0 for none.
 abbrev pub stack : List Stored → List Rec × ℕ
@@ -59,7 +59,7 @@ pub record Held (v : List Rec) (most : ℕ) (a : Area) : Type 0 where
   pub free : List Rec
   pub beyond : List Rec
   pub is :
-      v ≡ mk (stack (a .branches) .1) (1 + length (stack (a .branches) .0)) (1 + length (stack (a .branches) .0) + length free) (length (a .systems))
+      v ≡ record-of (stack (a .branches) .1) (1 + length (stack (a .branches) .0)) (1 + length (stack (a .branches) .0) + length free) (length (a .systems))
       ∷ (stack (a .branches) .0 ++ (free ++ (systems-records (a .systems) ++ beyond)))
   pub fits : 1 + length (stack (a .branches) .0) + length free + length (systems-records (a .systems)) ≡ most
   pub few : most ≤ 65536

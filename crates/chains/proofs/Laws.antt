@@ -11,7 +11,7 @@ use Rattle.polynomials.specs.laws.Packed.{word-bytes, length-bytes, bytes-words
 use Rattle.rules.specs.Room.{polynomials-size}
 use Rattle.rules.specs.Written.{index-of, terms-words, heads-words}
 use Rattle.rules.specs.laws.Lengths.{length-terms, length-heads}
-use Rattle.records.specs.Records.{Rec, nul}
+use Rattle.records.specs.Records.{Rec, zero-record}
 use Rattle.stored.specs.Stored.{size-at, pairs-of, words-at, skip-to, polys-at}
 use Rattle.stored.proofs.Laws.{skip-le}
 use Rattle.representation.specs.laws.Sizes.{length-terms-at}
@@ -40,11 +40,11 @@ abbrev pub terms-in : List Rec → ℕ → ℕ → Poly
 terms-in v j m = terms (pairs-of (take m (drop j v)))
 
 terms-in-turn : (v : List Rec) (j m j' m' : ℕ) → m ≡ suc m' → suc j ≡ j' → j + m ≤ length v
-    → terms-in v j m ≡ term (getD v j nul .w0) (getD v j nul .w1 * 4294967296 + getD v j nul .w2) ∷ terms-in v j' m'
+    → terms-in v j m ≡ term (getD v j zero-record .w0) (getD v j zero-record .w1 * 4294967296 + getD v j zero-record .w2) ∷ terms-in v j' m'
 unfolding pairs-of terms
 terms-in-turn v j m j' m' em ej h =
-    (λ t. terms (pairs-of (take (em t) (drop-cons v j nul (omega arith) t))))
-    ∙ ap (λ (k : ℕ). term (getD v j nul .w0) (getD v j nul .w1 * 4294967296 + getD v j nul .w2) ∷ terms-in v k m') ej
+    (λ t. terms (pairs-of (take (em t) (drop-cons v j zero-record (omega arith) t))))
+    ∙ ap (λ (k : ℕ). term (getD v j zero-record .w0) (getD v j zero-record .w1 * 4294967296 + getD v j zero-record .w2) ∷ terms-in v k m') ej
 
 length-terms-of : (r : List Rec) → length (terms (pairs-of r)) ≡ length r
 unfolding pairs-of terms
@@ -57,7 +57,7 @@ length-terms-in v j m h = length-terms-of (take m (drop j v)) ∙ length-take-le
 -- A term written, then those behind it.
 pub terms-turn : (v : List Rec) (out out' : List ℕ) (p p' j j' m m' a b x y : ℕ) → out' ≡ paste out (4 * p) (a ∷ b ∷ x ∷ y ∷ []) 4
     → p' ≡ p + 1 → m ≡ suc m' → suc j ≡ j' → j + m ≤ length v → 4 * p + 4 ≤ length out
-    → a ≡ getD v j nul .w0 → b ≡ getD v j nul .w1 → x ≡ getD v j nul .w2 → b < 4294967296 → x < 4294967296
+    → a ≡ getD v j zero-record .w0 → b ≡ getD v j zero-record .w1 → x ≡ getD v j zero-record .w2 → b < 4294967296 → x < 4294967296
     → (0 < m' → y ≡ p') → (m' ≡ 0 → y ≡ 0)
     → over out' (4 * p') (terms-words p' (terms-in v j' m')) ≡ over out (4 * p) (terms-words p (terms-in v j m))
 unfolding terms-words
@@ -66,9 +66,9 @@ terms-turn v out out' p p' j j' m m' a b x y e ep em ej inside fits ea eb ex hb 
     let l' : length f' ≡ m' = length-terms-in v j' m' (omega arith) in
     let sp : p' ≡ suc p = omega arith in
     let next : y ≡ index-of f' (suc p) = index-is f' (suc p) y (λ h. some (omega arith) ∙ sp) (λ h. none (omega arith)) in
-    let high : b ≡ word (drop 4 (bytes 8 (getD v j nul .w1 * 4294967296 + getD v j nul .w2))) =
+    let high : b ≡ word (drop 4 (bytes 8 (getD v j zero-record .w1 * 4294967296 + getD v j zero-record .w2))) =
     sym (high-word b x hb hx) ∙ (λ t. word (drop 4 (bytes 8 (eb t * 4294967296 + ex t)))) in
-    let low : x ≡ word (take 4 (bytes 8 (getD v j nul .w1 * 4294967296 + getD v j nul .w2))) =
+    let low : x ≡ word (take 4 (bytes 8 (getD v j zero-record .w1 * 4294967296 + getD v j zero-record .w2))) =
     sym (low-word b x hx) ∙ (λ t. word (take 4 (bytes 8 (eb t * 4294967296 + ex t)))) in
     record-behind out out' p p' a b x y (terms-words p' f') e ep fits
     ∙ (λ t. over out (4 * p) (ea t ∷ high t ∷ low t ∷ next t ∷ terms-words (sp t) f'))

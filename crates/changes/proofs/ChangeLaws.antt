@@ -7,14 +7,14 @@ use native.Mathlib.Omega.{arith}
 use mir.Syntax.{w32}
 use mir.Val.{Fits}
 use lib.ListN.{length, take, drop, getD, set, length-drop}
-use Rattle.records.specs.Records.{Rec, mk, nul}
+use Rattle.records.specs.Records.{Rec, record-of, zero-record}
 use Rattle.stored.specs.Stored.{poly-records, size-at, inserted, removed}
 use Rattle.branches.specs.Words.{remove}
 use Rattle.branches.specs.laws.Words.{remove-in-parts, length-remove}
 use Rattle.branches.specs.Area.{Stored, Held, with-open, stack, systems-records, All-storable, without-P, without-Q}
 use Rattle.branches.proofs.AreaLaws.{Lies, lies, place, place-add, place-one, own-is, first-is, size-of, own-set, first-set, put-in, take-out}
 use Rattle.branches.proofs.AreaLaws.{freed, length-freed, all, at-of, end-of, own-of, control, room-is, held-again, parted-at-P, parted-at-Q}
-use Rattle.branches.proofs.ControlLaws.{mk-equal, w2-is, w3-is, Read, start-is, ends, fits-word}
+use Rattle.branches.proofs.ControlLaws.{record-equal, w2-is, w3-is, Read, start-is, ends, fits-word}
 
 abbrev pub Storable-branch : Stored → Type 0
 Storable-branch b = All-storable (b .P) × All-storable (b .Q) × All-storable (b .T)
@@ -66,10 +66,10 @@ pub record Rewritten (v₁ : List Rec) (at : ℕ) (own : Rec) (end : ℕ) (v₃ 
   pub v₂ : List Rec
   pub own-put : v₂ ≡ set v₁ at own
   pub top : ℕ
-  pub top-word : top ≡ getD v₂ 0 nul .w2
+  pub top-word : top ≡ getD v₂ 0 zero-record .w2
   pub systems : ℕ
-  pub systems-word : systems ≡ getD v₂ 0 nul .w3
-  pub control-put : v₃ ≡ set v₂ 0 (mk at end top systems)
+  pub systems-word : systems ≡ getD v₂ 0 zero-record .w3
+  pub control-put : v₃ ≡ set v₂ 0 (record-of at end top systems)
 
 module _ {v : List Rec} {most : ℕ} {b : Stored} {bs ss : List Stored} (H : Held v most (with-open b bs ss)) {at end : ℕ} (R : Read v at end) where
   -- The polynomials are fs by now, and neither record is written anew.
@@ -77,10 +77,10 @@ module _ {v : List Rec} {most : ℕ} {b : Stored} {bs ss : List Stored} (H : Hel
   Changed v₁ fs free = Lies v₁ (control b bs ss (H .free) ∷ stack bs .0) (own-of b bs) fs free (systems-records ss ++ H .beyond) (at-of bs)
 
   module _ {v₁ : List Rec} {fs : List (List ℕ)} {free : List Rec} (L : Changed v₁ fs free) where
-    own-kept : getD v₁ at nul ≡ own-of b bs
-    own-kept = ap (λ (n : ℕ). getD v₁ n nul) (start-is H R) ∙ own-is L
+    own-kept : getD v₁ at zero-record ≡ own-of b bs
+    own-kept = ap (λ (n : ℕ). getD v₁ n zero-record) (start-is H R) ∙ own-is L
 
-    control-kept : (o : Rec) {v₂ : List Rec} → v₂ ≡ set v₁ at o → getD v₂ 0 nul ≡ getD v 0 nul
+    control-kept : (o : Rec) {v₂ : List Rec} → v₂ ≡ set v₁ at o → getD v₂ 0 zero-record ≡ getD v 0 zero-record
     control-kept o {v₂} e₂ = first-is (own-set L v₂ o (e₂ ∙ ap (λ (n : ℕ). set v₁ n o) (start-is H R))) ∙ sym (first-is (lies H))
 
     held-changed : {b₁ : Stored} → all b₁ ≡ fs → end-of b₁ bs + length free ≡ end-of b bs + length (H .free) → Storable-branch b₁
@@ -90,7 +90,7 @@ module _ {v : List Rec} {most : ℕ} {b : Stored} {bs ss : List Stored} (H : Hel
         let L₂ : Lies (W .v₂) (control b bs ss (H .free) ∷ stack bs .0) (own-of b₁ bs) fs free fin (at-of bs) =
         own-set L (W .v₂) (own-of b₁ bs) (W .own-put ∙ ap₂ (set v₁) (start-is H R) eo) in
         let top-is : W .top ≡ end-of b₁ bs + length free = w2-is (first-is L₂) (W .top-word) ∙ sym room in
-        let new : mk at end₁ (W .top) (W .systems) ≡ control b₁ bs ss free = mk-equal (start-is H R) ee top-is (w3-is (first-is L₂) (W .systems-word)) in
+        let new : record-of at end₁ (W .top) (W .systems) ≡ control b₁ bs ss free = record-equal (start-is H R) ee top-is (w3-is (first-is L₂) (W .systems-word)) in
         let L₃ = first-set L₂ v₃ (control b₁ bs ss free) (W .control-put ∙ ap (set (W .v₂) 0) new) in
         held-again H v₃ b₁ free
         (subst (λ (l : List (List ℕ)). Lies v₃ (control b₁ bs ss free ∷ stack bs .0) (own-of b₁ bs) l free fin (at-of bs)) (sym s) L₃) room h
@@ -116,11 +116,11 @@ module _ {v : List Rec} {most : ℕ} {b : Stored} {bs ss : List Stored} (H : Hel
       into : Changed v₁ (xs ++ (f ∷ ys)) (drop (length f / 2 + 1) (H .free))
       into = put-in (lies H) xs ys (G .adds .less) f (G .fits) v₁ (put ∙ (λ t. inserted v (G .there t) (ends H R t - G .there t) (poly-records f)))
 
-      pub own-in : getD v₁ at nul ≡ own-of b bs
+      pub own-in : getD v₁ at zero-record ≡ own-of b bs
       own-in = own-kept into
 
       -- The control record says what it said before, also when the branch's own is written.
-      pub top-kept : {top : ℕ} → top ≡ getD v 0 nul .w2 → (o : Rec) {v₂ : List Rec} → v₂ ≡ set v₁ at o → top ≡ getD v₂ 0 nul .w2
+      pub top-kept : {top : ℕ} → top ≡ getD v 0 zero-record .w2 → (o : Rec) {v₂ : List Rec} → v₂ ≡ set v₁ at o → top ≡ getD v₂ 0 zero-record .w2
       top-kept e o put-own = e ∙ ap (λ (u : Rec). u .w2) (sym (control-kept into o put-own))
 
       pub held-in : Storable-branch b₁ → {o : Rec} → o ≡ own-of b₁ bs → {v₃ : List Rec} → Rewritten v₁ at o (end + (length f / 2 + 1)) v₃
@@ -159,7 +159,7 @@ module _ {v : List Rec} {most : ℕ} {b : Stored} {bs ss : List Stored} (H : Hel
       out : Changed v₁ (xs ++ ys) (freed (lies H) (place (at-of bs) (xs ++ ys)))
       out = take-out (lies H) xs f ys (S .takes .more) v₁ (gone ∙ (λ t. removed v (S .there t) (S .size t) (ends H R t - S .there t - S .size t)))
 
-      pub own-out : getD v₁ at nul ≡ own-of b bs
+      pub own-out : getD v₁ at zero-record ≡ own-of b bs
       own-out = own-kept out
 
       pub held-out : Storable-branch b₁ → {o : Rec} → o ≡ own-of b₁ bs → {v₃ : List Rec} → Rewritten v₁ at o (end - n) v₃

@@ -5,7 +5,7 @@ use Prim.Native.Nat.{ℕ, _+_, _-_, _≤_, _<_}
 use native.Mathlib.Omega.{arith}
 use lib.ListN.{length, getD, drop, length-append}
 use lib.Seq.{drop-at}
-use Rattle.records.specs.Records.{Rec, mk, nul}
+use Rattle.records.specs.Records.{Rec, record-of, zero-record}
 use Rattle.stored.specs.Stored.{polys-records, skip-to}
 use Rattle.stored.specs.laws.Stored.{polys-records-append, skip-to-polys-records}
 use Rattle.rules.specs.Written.{list-records}
@@ -19,7 +19,7 @@ abbrev polynomials : Stored → List (List ℕ)
 polynomials b = b .P ++ (b .Q ++ b .T)
 
 abbrev own : Stored → Rec
-own b = mk (length (b .P)) (length (b .Q)) (length (b .T)) 0
+own b = record-of (length (b .P)) (length (b .Q)) (length (b .T)) 0
 
 records-are : (b : Stored) → branch-records 0 b ≡ own b ∷ polys-records (polynomials b)
 records-are b =
@@ -37,7 +37,7 @@ ends x post b e =
 
 module _ (b b' : Stored) (post post' : List Rec) (e : branch-records 0 b ++ post ≡ branch-records 0 b' ++ post') where
   same-own : own b ≡ own b'
-  same-own = ap (λ (l : List Rec). getD l 0 nul) e
+  same-own = ap (λ (l : List Rec). getD l 0 zero-record) e
 
   same-long : length (branch-records 0 b) ≡ length (branch-records 0 b')
   same-long =
@@ -70,21 +70,21 @@ listed-same (s ∷ ss) (s' ∷ ss') post post' n e h =
     )
 
 module _ {v : List Rec} {most : ℕ} {ss : List Stored} (h : Held v most (record { branches = []; systems = ss })) where
-  control : getD v 0 nul ≡ mk 0 1 (1 + 0 + length (h .free)) (length ss)
-  control = ap (λ (l : List Rec). getD l 0 nul) (h .is)
+  control : getD v 0 zero-record ≡ record-of 0 1 (1 + 0 + length (h .free)) (length ss)
+  control = ap (λ (l : List Rec). getD l 0 zero-record) (h .is)
 
   pub some-records : 0 < length v
   some-records = omega (arith, ap length (h .is))
 
-  pub top-within : getD v 0 nul .w2 ≤ most
+  pub top-within : getD v 0 zero-record .w2 ≤ most
   top-within = omega (arith, ap (λ (r : Rec). r .w2) control, h .fits)
 
   systems-from : (n : ℕ) → n ≡ 1 + length (h .free) → drop n v ≡ systems-records ss ++ h .beyond
   systems-from n e =
       ap (drop n) (h .is)
-      ∙ drop-at (mk 0 1 (1 + 0 + length (h .free)) (length ss) ∷ h .free) (systems-records ss ++ h .beyond) n (omega arith)
+      ∙ drop-at (record-of 0 1 (1 + 0 + length (h .free)) (length ss) ∷ h .free) (systems-records ss ++ h .beyond) n (omega arith)
 
-  pub records-needed : All-listed ss → 1 + (most - getD v 0 nul .w2) ≡ list-records (reverse (map system-of ss))
+  pub records-needed : All-listed ss → 1 + (most - getD v 0 zero-record .w2) ≡ list-records (reverse (map system-of ss))
   unfolding list-records
   records-needed l =
       omega (arith, ap (λ (r : Rec). r .w2) control, h .fits, length-systems-records ss l, systems-size-reverse (map system-of ss))

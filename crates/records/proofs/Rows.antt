@@ -7,35 +7,35 @@ use native.Mathlib.Nat.{not-suc-le-zero, le-of-suc-le-suc, suc-ne-zero, suc-inj}
 use native.Mathlib.Omega.{arith}
 use lib.ListN.{length, getD, set, length-set}
 use lib.Seq.{getD-set-same, getD-set-other}
-use Rattle.records.specs.Records.{mk, nul, tab, room, recAt, view}
+use Rattle.records.specs.Records.{record-of, zero-record, tabulate, room, record-at, view}
 
-pub length-tab : {A : Type 0} (n : ℕ) (f : ℕ → A) → length (tab n f) ≡ n
-length-tab zero f = refl
-length-tab (suc n) f = ap suc (length-tab n (λ i. f (suc i)))
+pub length-tabulate : {A : Type 0} (n : ℕ) (f : ℕ → A) → length (tabulate n f) ≡ n
+length-tabulate zero f = refl
+length-tabulate (suc n) f = ap suc (length-tabulate n (λ i. f (suc i)))
 
-pub tab-ext : {A : Type 0} (n : ℕ) (f g : ℕ → A) → ((i : ℕ) → f i ≡ g i) → tab n f ≡ tab n g
-tab-ext zero f g h = refl
-tab-ext (suc n) f g h = λ k. h zero k ∷ tab-ext n (λ i. f (suc i)) (λ i. g (suc i)) (λ i. h (suc i)) k
+pub tabulate-ext : {A : Type 0} (n : ℕ) (f g : ℕ → A) → ((i : ℕ) → f i ≡ g i) → tabulate n f ≡ tabulate n g
+tabulate-ext zero f g h = refl
+tabulate-ext (suc n) f g h = λ k. h zero k ∷ tabulate-ext n (λ i. f (suc i)) (λ i. g (suc i)) (λ i. h (suc i)) k
 
-pub getD-tab : {A : Type 0} (n : ℕ) (f : ℕ → A) (i : ℕ) (d : A) → i < n → getD (tab n f) i d ≡ f i
-getD-tab zero f i d h = absurd (not-suc-le-zero h)
-getD-tab (suc n) f zero d h = refl
-getD-tab (suc n) f (suc i) d h = getD-tab n (λ j. f (suc j)) i d (le-of-suc-le-suc h)
+pub getD-tabulate : {A : Type 0} (n : ℕ) (f : ℕ → A) (i : ℕ) (d : A) → i < n → getD (tabulate n f) i d ≡ f i
+getD-tabulate zero f i d h = absurd (not-suc-le-zero h)
+getD-tabulate (suc n) f zero d h = refl
+getD-tabulate (suc n) f (suc i) d h = getD-tabulate n (λ j. f (suc j)) i d (le-of-suc-le-suc h)
 
 -- a table with another value at i alone is the table with that value stored
-pub tab-set : {A : Type 0} (n : ℕ) (f g : ℕ → A) (i : ℕ) (a : A) → g i ≡ a → ((j : ℕ) → j ≢ i → g j ≡ f j) → tab n g ≡ set (tab n f) i a
-tab-set zero f g i a e o = refl
-tab-set (suc n) f g zero a e o = λ k. e k ∷ tab-ext n (λ j. g (suc j)) (λ j. f (suc j)) (λ j. o (suc j) (suc-ne-zero j)) k
-tab-set (suc n) f g (suc i) a e o =
-    λ k. o zero (λ z. suc-ne-zero i (sym z)) k ∷ tab-set n (λ j. f (suc j)) (λ j. g (suc j)) i a e (λ j h. o (suc j) (λ z. h (suc-inj z))) k
+pub tabulate-set : {A : Type 0} (n : ℕ) (f g : ℕ → A) (i : ℕ) (a : A) → g i ≡ a → ((j : ℕ) → j ≢ i → g j ≡ f j) → tabulate n g ≡ set (tabulate n f) i a
+tabulate-set zero f g i a e o = refl
+tabulate-set (suc n) f g zero a e o = λ k. e k ∷ tabulate-ext n (λ j. g (suc j)) (λ j. f (suc j)) (λ j. o (suc j) (suc-ne-zero j)) k
+tabulate-set (suc n) f g (suc i) a e o =
+    λ k. o zero (λ z. suc-ne-zero i (sym z)) k ∷ tabulate-set n (λ j. f (suc j)) (λ j. g (suc j)) i a e (λ j h. o (suc j) (λ z. h (suc-inj z))) k
 
 pub length-view : (w : List ℕ) → length (view w) ≡ room w
 unfolding view
-length-view w = length-tab (room w) (recAt w)
+length-view w = length-tabulate (room w) (record-at w)
 
-pub getD-view : (w : List ℕ) (i : ℕ) → i < room w → getD (view w) i nul ≡ recAt w i
+pub getD-view : (w : List ℕ) (i : ℕ) → i < room w → getD (view w) i zero-record ≡ record-at w i
 unfolding view
-getD-view w i h = getD-tab (room w) (recAt w) i nul h
+getD-view w i h = getD-tabulate (room w) (record-at w) i zero-record h
 
 -- the words with the first, the first two, three and all four words of record i written
 abbrev s1 : List ℕ → ℕ → ℕ → List ℕ
@@ -54,8 +54,8 @@ module _ (w : List ℕ) (i a b c d : ℕ) (h : i < room w) where
   pub length-store : length (store w i a b c d) ≡ length w
   length-store = simp length-set
 
-  same : recAt (store w i a b c d) i ≡ mk a b c d
-  same = λ k. mk
+  same : record-at (store w i a b c d) i ≡ record-of a b c d
+  same = λ k. record-of
       ((getD-set-other (s3 w i a b c) (4 * i + 3) (4 * i) d 0 (λ e. omega arith) ∙ getD-set-other (s2 w i a b) (4 * i + 2) (4 * i) c 0 (λ e. omega arith) ∙ getD-set-other (s1 w i a) (4 * i + 1) (4 * i) b 0 (λ e. omega arith) ∙ getD-set-same w (4 * i) a 0 (omega arith)) k)
       ((getD-set-other (s3 w i a b c) (4 * i + 3) (4 * i + 1) d 0 (λ e. omega arith) ∙ getD-set-other (s2 w i a b) (4 * i + 2) (4 * i + 1) c 0 (λ e. omega arith) ∙ getD-set-same (s1 w i a) (4 * i + 1) b 0 (simp length-set (omega arith))) k)
       ((getD-set-other (s3 w i a b c) (4 * i + 3) (4 * i + 2) d 0 (λ e. omega arith) ∙ getD-set-same (s2 w i a b) (4 * i + 2) c 0 (simp length-set (omega arith))) k)
@@ -67,11 +67,11 @@ module _ (w : List ℕ) (i a b c d : ℕ) (h : i < room w) where
       getD-set-other (s3 w i a b c) (4 * i + 3) m d 0 (λ e. n (omega arith)) ∙ getD-set-other (s2 w i a b) (4 * i + 2) m c 0 (λ e. n (omega arith))
       ∙ getD-set-other (s1 w i a) (4 * i + 1) m b 0 (λ e. n (omega arith)) ∙ getD-set-other w (4 * i) m a 0 (λ e. n (omega arith))
 
-  other : (j : ℕ) → j ≢ i → recAt (store w i a b c d) j ≡ recAt w j
-  other j n = λ k. mk
+  other : (j : ℕ) → j ≢ i → record-at (store w i a b c d) j ≡ record-at w j
+  other j n = λ k. record-of
       (apart (4 * j) (λ e. n (omega arith)) k) (apart (4 * j + 1) (λ e. n (omega arith)) k)
       (apart (4 * j + 2) (λ e. n (omega arith)) k) (apart (4 * j + 3) (λ e. n (omega arith)) k)
 
-  pub view-store : view (store w i a b c d) ≡ set (view w) i (mk a b c d)
+  pub view-store : view (store w i a b c d) ≡ set (view w) i (record-of a b c d)
   unfolding view
-  view-store = ap (λ n. tab (n / 4) (recAt (store w i a b c d))) length-store ∙ tab-set (room w) (recAt w) (recAt (store w i a b c d)) i (mk a b c d) same other
+  view-store = ap (λ n. tabulate (n / 4) (record-at (store w i a b c d))) length-store ∙ tabulate-set (room w) (record-at w) (record-at (store w i a b c d)) i (record-of a b c d) same other

@@ -12,28 +12,28 @@ pub record Rec : Type 0 where
   pub w3 : ℕ
 
 -- The record of these words.
-abbrev pub mk : ℕ → ℕ → ℕ → ℕ → Rec
-mk a b c d = record { w0 = a; w1 = b; w2 = c; w3 = d }
+abbrev pub record-of : ℕ → ℕ → ℕ → ℕ → Rec
+record-of a b c d = record { w0 = a; w1 = b; w2 = c; w3 = d }
 
 -- Four zeros: what `getD` finds past the end.
-abbrev pub nul : Rec
-nul = mk 0 0 0 0
+abbrev pub zero-record : Rec
+zero-record = record-of 0 0 0 0
 
 -- f 0, f 1, .. f (n - 1).
-abbrev pub tab : {A : Type 0} → ℕ → (ℕ → A) → List A
-tab zero f = []
-tab (suc n) f = f zero ∷ tab n (λ i. f (suc i))
+abbrev pub tabulate : {A : Type 0} → ℕ → (ℕ → A) → List A
+tabulate zero f = []
+tabulate (suc n) f = f zero ∷ tabulate n (λ i. f (suc i))
 
 -- How many whole records the words make.
 abbrev pub room : List ℕ → ℕ
 room w = length w / 4
 
 -- Record i: the words stand in rows of four.
-abbrev pub recAt : List ℕ → ℕ → Rec
-recAt w i = mk (getD w (4 * i) 0) (getD w (4 * i + 1) 0) (getD w (4 * i + 2) 0) (getD w (4 * i + 3) 0)
+abbrev pub record-at : List ℕ → ℕ → Rec
+record-at w i = record-of (getD w (4 * i) 0) (getD w (4 * i + 1) 0) (getD w (4 * i + 2) 0) (getD w (4 * i + 3) 0)
 
 unfoldable pub view : List ℕ → List Rec
-view w = tab (room w) (recAt w)
+view w = tabulate (room w) (record-at w)
 
 -- The n records from `from` on, copied over those from `to` on.
 abbrev pub moved : List Rec → ℕ → ℕ → ℕ → List Rec

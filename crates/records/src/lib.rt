@@ -2,12 +2,12 @@
 ghost use mathlib.Core.Path.{_≡_};
 ghost use Prim.Native.Nat.{_+_, _<_, _≤_};
 ghost use lib.ListN.{length, getD, set, replicate};
-ghost use Rattle.records.specs.Records.{mk, nul, room, view, moved};
+ghost use Rattle.records.specs.Records.{record-of, zero-record, room, view, moved};
 
 // Word 0 of record i.
 pub fn get0(w: &[u32], i: usize) -> u32
     requires { ⌜ i < room (now w) ⌝ }
-    ensures { λ r. ⌜ r ≡ getD (view (now (w .entry))) i nul .w0 ⌝ }
+    ensures { λ r. ⌜ r ≡ getD (view (now (w .entry))) i zero-record .w0 ⌝ }
 {
     w[4 * i]
 }
@@ -15,7 +15,7 @@ pub fn get0(w: &[u32], i: usize) -> u32
 // Word 1 of record i.
 pub fn get1(w: &[u32], i: usize) -> u32
     requires { ⌜ i < room (now w) ⌝ }
-    ensures { λ r. ⌜ r ≡ getD (view (now (w .entry))) i nul .w1 ⌝ }
+    ensures { λ r. ⌜ r ≡ getD (view (now (w .entry))) i zero-record .w1 ⌝ }
 {
     w[4 * i + 1]
 }
@@ -23,7 +23,7 @@ pub fn get1(w: &[u32], i: usize) -> u32
 // Word 2 of record i.
 pub fn get2(w: &[u32], i: usize) -> u32
     requires { ⌜ i < room (now w) ⌝ }
-    ensures { λ r. ⌜ r ≡ getD (view (now (w .entry))) i nul .w2 ⌝ }
+    ensures { λ r. ⌜ r ≡ getD (view (now (w .entry))) i zero-record .w2 ⌝ }
 {
     w[4 * i + 2]
 }
@@ -31,7 +31,7 @@ pub fn get2(w: &[u32], i: usize) -> u32
 // Word 3 of record i.
 pub fn get3(w: &[u32], i: usize) -> u32
     requires { ⌜ i < room (now w) ⌝ }
-    ensures { λ r. ⌜ r ≡ getD (view (now (w .entry))) i nul .w3 ⌝ }
+    ensures { λ r. ⌜ r ≡ getD (view (now (w .entry))) i zero-record .w3 ⌝ }
 {
     w[4 * i + 3]
 }
@@ -39,7 +39,7 @@ pub fn get3(w: &[u32], i: usize) -> u32
 // Writes record i whole.
 pub fn put_rec(w: &mut [u32], i: usize, a: u32, b: u32, c: u32, d: u32)
     requires { ⌜ i < room (now w) ⌝ }
-    ensures { λ _. ⌜ view (now (w .exit)) ≡ set (view (now (w .entry))) i (mk a b c d) ⌝ }
+    ensures { λ _. ⌜ view (now (w .exit)) ≡ set (view (now (w .entry))) i (record-of a b c d) ⌝ }
 {
     let k = 4 * i;
     w[k] = a;
@@ -52,7 +52,7 @@ pub fn put_rec(w: &mut [u32], i: usize, a: u32, b: u32, c: u32, d: u32)
 pub fn copy_rec(w: &mut [u32], from: usize, to: usize)
     requires { ⌜ from < room (now w) ⌝ }
     requires { ⌜ to < room (now w) ⌝ }
-    ensures { λ _. ⌜ view (now (w .exit)) ≡ set (view (now (w .entry))) to (getD (view (now (w .entry))) from nul) ⌝ }
+    ensures { λ _. ⌜ view (now (w .exit)) ≡ set (view (now (w .entry))) to (getD (view (now (w .entry))) from zero-record) ⌝ }
 {
     let k = 4 * from;
     let a = w[k];

@@ -10,7 +10,7 @@ use Rattle.tables.specs.declared.Reason.{Reason}
 use Rattle.tables.specs.declared.Reason.the-variants.{Steps}
 use Rattle.rules.specs.Step.{Stepped, next, stopped, step}
 use Rattle.rules.specs.Run.{Ended, finished, refused, after-step, run}
-use Rattle.records.specs.Records.{Rec, room, view, nul}
+use Rattle.records.specs.Records.{Rec, room, view, zero-record}
 use Rattle.records.proofs.Rows.{length-view}
 use Rattle.branches.specs.Area.{Stored, Area, Held, has-branch, with-open, capacity}
 use Rattle.branches.proofs.LengthLaws.{same-capacity}
@@ -169,7 +169,7 @@ module _ {p limit from : ℕ} {w₀ w : List ℕ} {steps : ℕ} (A : AtRun p lim
 
   -- ── no branch is left ──
   module _ (none : None-open w) where
-    pub run-finished : (n : ℕ) → n ≡ getD (view w) 0 nul .w3 → Answers p limit from w₀ (ended steps (Systems n)) w
+    pub run-finished : (n : ℕ) → n ≡ getD (view w) 0 zero-record .w3 → Answers p limit from w₀ (ended steps (Systems n)) w
     run-finished n e a₀ H₀ R₀ =
         let s = A .all a₀ H₀ R₀ in
         let c = closed (s .0) (none (s .0) (subst (λ (m : ℕ). Held (view w) m (s .0)) (sym capacity-kept) (s .1))) in
@@ -177,7 +177,7 @@ module _ {p limit from : ℕ} {w₀ w : List ℕ} {steps : ℕ} (A : AtRun p lim
         let ends : run-in (capacity w₀) p (limit - from) from a₀ ≡ finished steps (reverse (map system-of ss)) =
         sym (s .3) ∙ ap (run-in (capacity w₀) p (limit - steps) steps) c ∙ run-ends (limits-in (capacity w₀)) p steps (limit - steps) ss in
         let count : n ≡ length (reverse (map system-of ss)) =
-        e ∙ ap (λ (v : List Rec). getD v 0 nul .w3) (s .1 .is) ∙ sym (length-reverse (map system-of ss) ∙ length-map ss system-of) in
+        e ∙ ap (λ (v : List Rec). getD v 0 zero-record .w3) (s .1 .is) ∙ sym (length-reverse (map system-of ss) ∙ length-map ss system-of) in
         subst (λ (E : Ended). Ran E p steps (Systems n) (view w) (capacity w₀)) (sym ends) (
         record {
           steps = refl;

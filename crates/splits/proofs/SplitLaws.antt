@@ -7,7 +7,7 @@ use native.Mathlib.Omega.{arith}
 use borrow.Author.Tests.{le-leb, lt-leb}
 use lib.ListN.{length, take, drop, getD, set, length-append, length-drop, take-append-drop}
 use lib.Seq.{take-at, drop-append-le, drop-append-add, length-take-le, paste, set-split}
-use Rattle.records.specs.Records.{Rec, mk, nul, moved}
+use Rattle.records.specs.Records.{Rec, record-of, zero-record, moved}
 use Rattle.stored.specs.Stored.{poly-records, polys-records, skip-to, Storable}
 use Rattle.stored.specs.laws.Stored.{skip-to-polys-records, polys-records-append, polys-records-snoc, length-poly-records, length-le-polys-records}
 use Rattle.branches.specs.Area.{Stored, Held, Leaves, stack, branch-records, systems-records, with-open, size, kept-open, Branches-storable}
@@ -34,7 +34,7 @@ P-in-parts i n c =
 
 -- The records of the branch that is built.
 kept-records : (i n under : ℕ) (f initial : List ℕ) (c : Stored) (r : Rec)
-    → r ≡ mk (length (kept-open i n f initial c .P)) (length (kept-open i n f initial c .Q)) (length (c .T)) under
+    → r ≡ record-of (length (kept-open i n f initial c .P)) (length (kept-open i n f initial c .Q)) (length (c .T)) under
     → (r ∷ []) ++ front-P i c ++ poly-records f ++ back-P i n c ++ polys-records (c .Q) ++ poly-records initial ++ polys-records (c .T)
     ≡ branch-records under (kept-open i n f initial c)
 unfolding polys-records
@@ -54,7 +54,7 @@ length-kept : (i n under : ℕ) (f initial : List ℕ) (c : Stored)
     + length (polys-records (c .T))
 length-kept i n under f initial c =
     let new : Stored = kept-open i n f initial c in
-    let r : Rec = mk (length (new .P)) (length (new .Q)) (length (c .T)) under in
+    let r : Rec = record-of (length (new .P)) (length (new .Q)) (length (c .T)) under in
     let parts = length-seven (r ∷ []) (front-P i c) (poly-records f) (back-P i n c) (polys-records (c .Q)) (poly-records initial) (polys-records (c .T)) in
     ap length (sym (kept-records i n under f initial c r refl)) ∙ omega (arith, parts, length-poly-records f, length-poly-records initial)
 
@@ -88,7 +88,7 @@ pub record Placed (c : Stored) (bs : List Stored) (i n free at end top q t front
 -- and last the control record. The words of each piece are copied from where they lie, or stored.
 pub record Copied (v : List Rec) (n at end top q t front back in-q in-t : ℕ) (f initial : List ℕ) (v₈ : List Rec) : Type 0 where
   pub v₁ : List Rec
-  pub own-put : v₁ ≡ set v end (mk (n + 1) (q + 1) t at)
+  pub own-put : v₁ ≡ set v end (record-of (n + 1) (q + 1) t at)
   pub a₁ : ℕ
   pub v₂ : List Rec
   pub front-copied : (a₁ ≡ end + 1 + (front - (at + 1))) × (v₂ ≡ moved v₁ (at + 1) (front - (at + 1)) (end + 1))
@@ -108,8 +108,8 @@ pub record Copied (v : List Rec) (n at end top q t front back in-q in-t : ℕ) (
   pub v₇ : List Rec
   pub T-copied : (a₆ ≡ a₅ + (end - in-t)) × (v₇ ≡ moved v₆ in-t (end - in-t) a₅)
   pub systems : ℕ
-  pub systems-word : systems ≡ getD v₇ 0 nul .w3
-  pub control-put : v₈ ≡ set v₇ 0 (mk end a₆ top systems)
+  pub systems-word : systems ≡ getD v₇ 0 zero-record .w3
+  pub control-put : v₈ ≡ set v₇ 0 (record-of end a₆ top systems)
 
 -- They lie in this order, in a work area with so many records, and there are few members.
 pub record Ordered (n at end top q front back in-q in-t room : ℕ) : Type 0 where
@@ -127,7 +127,7 @@ pub record Ordered (n at end top q front back in-q in-t room : ℕ) : Type 0 whe
 module _ {v : List Rec} {most : ℕ} {c : Stored} {bs ss : List Stored} (H : Held v most (with-open c bs ss)) (i n : ℕ) (h : (i ≤ n) × (n ≤ length (c .P))) where
   -- The control record, and all records in use.
   abbrev ctl : Rec
-  ctl = mk (at-of bs) (at-of (c ∷ bs)) (at-of (c ∷ bs) + length (H .free)) (length ss)
+  ctl = record-of (at-of bs) (at-of (c ∷ bs)) (at-of (c ∷ bs) + length (H .free)) (length ss)
 
   abbrev used : List Rec
   used = ctl ∷ stack (c ∷ bs) .0
@@ -330,7 +330,7 @@ module _ {v : List Rec} {most : ℕ} {c : Stored} {bs ss : List Stored} (H : Hel
         let RQ : List Rec = polys-records (c .Q) in
         let RT : List Rec = polys-records (c .T) in
         let new : Stored = kept-open i n f initial c in
-        let r : Rec = mk (n + 1) (q + 1) t at in
+        let r : Rec = record-of (n + 1) (q + 1) t at in
         let g₀ : Grown used after (r ∷ []) 1 (K .v₁) (end + 1) =
         record { is = record-put (end-inside room) r (K .v₁) (K .own-put); over = refl; up-to = omega (arith, length-used) } in
         let g₁ = grow-copied g₀ to-P R1 (R2 ++ (new-P i n c ++ (RQ ++ RT))) first-block (K .front-copied) in
@@ -340,13 +340,13 @@ module _ {v : List Rec} {most : ℕ} {c : Stored} {bs ss : List Stored} (H : Hel
         let g₅ = grow-stored g₄ (poly-records initial) (length-poly-records initial) (K .initial-put) in
         let g₆ = grow-copied g₅ (to-new ++ RQ) RT [] T-block (K .T-copied) in
         let built : (r ∷ []) ++ R1 ++ poly-records f ++ R2 ++ RQ ++ poly-records initial ++ RT ≡ branch-records (at-of bs) new =
-        kept-records i n (at-of bs) f initial c r (λ j. mk (members-P f j) (members-Q j) (G .t-is j) (G .at-is j)) in
+        kept-records i n (at-of bs) f initial c r (λ j. record-of (members-P f j) (members-Q j) (G .t-is j) (G .at-is j)) in
         let free' : List Rec = drop pieces (H .free) in
         let shrunk : drop pieces after ≡ free' ++ behind = drop-append-le pieces (H .free) behind (fits-in room) in
-        let systems : K .systems ≡ length ss = K .systems-word ∙ ap (λ (u : List Rec). getD u 0 nul .w3) (g₆ .is) in
+        let systems : K .systems ≡ length ss = K .systems-word ∙ ap (λ (u : List Rec). getD u 0 zero-record .w3) (g₆ .is) in
         let new-end : K .a₆ ≡ at-of (new ∷ (c ∷ bs)) = g₆ .up-to ∙ ap (λ (x : ℕ). x + pieces) length-used ∙ end-kept in
         let new-top : top ≡ at-of (new ∷ (c ∷ bs)) + length free' = top-kept room in
-        let new-ctl : Rec = mk (at-of (c ∷ bs)) (at-of (new ∷ (c ∷ bs))) (at-of (new ∷ (c ∷ bs)) + length free') (length ss) in
+        let new-ctl : Rec = record-of (at-of (c ∷ bs)) (at-of (new ∷ (c ∷ bs))) (at-of (new ∷ (c ∷ bs)) + length free') (length ss) in
         record {
           answer = sym (le-leb (size (with-open new (c ∷ bs) ss)) most (omega (arith, size-kept, H .fits, G .end-is, G .top-is)));
           held = λ e.
@@ -354,7 +354,7 @@ module _ {v : List Rec} {most : ℕ} {c : Stored} {bs ss : List Stored} (H : Hel
                 free = free';
                 beyond = H .beyond;
                 is =
-                    K .control-put ∙ (λ j. set (g₆ .is j) 0 (mk (G .end-is j) (new-end j) (new-top j) (systems j)))
+                    K .control-put ∙ (λ j. set (g₆ .is j) 0 (record-of (G .end-is j) (new-end j) (new-top j) (systems j)))
                     ∙ (λ j. new-ctl ∷ (stack (c ∷ bs) .0 ++ (built j ++ shrunk j)))
                     ∙ ap (λ (u : List Rec). new-ctl ∷ u) (sym (append-assoc (stack (c ∷ bs) .0) (branch-records (at-of bs) new) (free' ++ behind)));
                 fits = ap (λ (x : ℕ). x + length (systems-records ss)) (sym new-top ∙ G .top-is) ∙ H .fits;

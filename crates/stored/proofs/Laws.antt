@@ -10,12 +10,12 @@ use borrow.Author.Tests.{eq-eqb, ne-eqb}
 use lib.Dec.{eqb}
 use lib.ListN.{length, take, drop, getD, set, length-drop, length-set, drop-of-length-le}
 use lib.Seq.{paste, take-suc, take-suc-set, drop-cons, drop-set-lt, getD-take, getD-drop, length-take-le, drop-at, take-append-le, take-take, take-all}
-use Rattle.records.specs.Records.{Rec, nul, moved}
+use Rattle.records.specs.Records.{Rec, zero-record, moved}
 use Rattle.stored.specs.Stored.{term-record, term-records, size-at, pairs-of, words-at, skip-to, polys-at, same, member, inserted}
 use Rattle.stored.specs.laws.Stored.{length-words-at}
 
 -- ── storing ──
-pub getD-term-records : (s : List ℕ) (j : ℕ) → j < length s / 2 → getD (term-records s) j nul ≡ term-record (getD s (2 * j) 0) (getD s (2 * j + 1) 0)
+pub getD-term-records : (s : List ℕ) (j : ℕ) → j < length s / 2 → getD (term-records s) j zero-record ≡ term-record (getD s (2 * j) 0) (getD s (2 * j + 1) 0)
 unfolding term-records
 getD-term-records [] j h = absurd (omega arith)
 getD-term-records (c ∷ []) j h = absurd (omega arith)
@@ -61,15 +61,15 @@ pairs-of-append (x ∷ r) s = ap (λ (l : List ℕ). x .w0 ∷ (x .w1 * 42949672
 -- The words of one record more.
 pub pairs-of-take : (v : List Rec) (k i : ℕ) → k + i < length v
     → pairs-of (take (i + 1) (drop k v))
-    ≡ pairs-of (take i (drop k v)) ++ (getD v (k + i) nul .w0 ∷ (getD v (k + i) nul .w1 * 4294967296 + getD v (k + i) nul .w2) ∷ [])
+    ≡ pairs-of (take i (drop k v)) ++ (getD v (k + i) zero-record .w0 ∷ (getD v (k + i) zero-record .w1 * 4294967296 + getD v (k + i) zero-record .w2) ∷ [])
 unfolding pairs-of
 pairs-of-take v k i h =
     let r : List Rec = drop k v in
     let more : suc i ≡ i + 1 = omega arith in
     let inside : i < length r = simp length-drop (omega arith) in
     ap (λ (j : ℕ). pairs-of (take j r)) (sym more)
-    ∙ ap pairs-of (take-suc r i nul inside ∙ ap (λ (x : Rec). take i r ++ (x ∷ [])) (getD-drop k v i nul))
-    ∙ pairs-of-append (take i r) (getD v (k + i) nul ∷ [])
+    ∙ ap pairs-of (take-suc r i zero-record inside ∙ ap (λ (x : Rec). take i r ++ (x ∷ [])) (getD-drop k v i zero-record))
+    ∙ pairs-of-append (take i r) (getD v (k + i) zero-record ∷ [])
 
 -- A pair written behind the first k words.
 pub take-set-pair : (l : List ℕ) (i a b : ℕ) → 2 * i + 1 < length l
@@ -105,8 +105,8 @@ unfolding member
 member-turn f v i left h = ap (member f) (polys-turn v i left h)
 
 -- ── comparing ──
-getD-pairs-of : (r : List Rec) (j : ℕ) → (getD (pairs-of r) (2 * j) 0 ≡ getD r j nul .w0)
-    × (getD (pairs-of r) (2 * j + 1) 0 ≡ getD r j nul .w1 * 4294967296 + getD r j nul .w2)
+getD-pairs-of : (r : List Rec) (j : ℕ) → (getD (pairs-of r) (2 * j) 0 ≡ getD r j zero-record .w0)
+    × (getD (pairs-of r) (2 * j + 1) 0 ≡ getD r j zero-record .w1 * 4294967296 + getD r j zero-record .w2)
 unfolding pairs-of
 getD-pairs-of [] j = (refl, refl)
 getD-pairs-of (x ∷ r) zero = (refl, refl)
@@ -118,12 +118,12 @@ getD-pairs-of (x ∷ r) (suc j) =
 
 -- The words of the term j of the polynomial at i.
 getD-words-at : (v : List Rec) (i j : ℕ) → j < size-at v i
-    → (getD (words-at v i) (2 * j) 0 ≡ getD v (i + 1 + j) nul .w0)
-    × (getD (words-at v i) (2 * j + 1) 0 ≡ getD v (i + 1 + j) nul .w1 * 4294967296 + getD v (i + 1 + j) nul .w2)
+    → (getD (words-at v i) (2 * j) 0 ≡ getD v (i + 1 + j) zero-record .w0)
+    × (getD (words-at v i) (2 * j + 1) 0 ≡ getD v (i + 1 + j) zero-record .w1 * 4294967296 + getD v (i + 1 + j) zero-record .w2)
 unfolding words-at
 getD-words-at v i j h =
     let r : List Rec = take (size-at v i) (drop (i + 1) v) in
-    let e : getD r j nul ≡ getD v (i + 1 + j) nul = getD-take (size-at v i) (drop (i + 1) v) j nul h ∙ getD-drop (i + 1) v j nul in
+    let e : getD r j zero-record ≡ getD v (i + 1 + j) zero-record = getD-take (size-at v i) (drop (i + 1) v) j zero-record h ∙ getD-drop (i + 1) v j zero-record in
     let both = getD-pairs-of r j in
     (both .0 ∙ ap (λ (x : Rec). x .w0) e, both .1 ∙ ap (λ (x : Rec). x .w1 * 4294967296 + x .w2) e)
 
@@ -151,8 +151,8 @@ eqb-and-equal x y b h = ap (λ (a : Bool). a && b) (eq-eqb x y h)
 -- The words of the term i compared, then those behind it.
 pub same-turn : (v : List Rec) (at : ℕ) (f : List ℕ) (i : ℕ) → at + 1 + size-at v at ≤ length v → 2 * size-at v at ≡ length f → i < size-at v at
     → same (drop (2 * i) (words-at v at)) (drop (2 * i) f)
-    ≡ (eqb (getD v (at + 1 + i) nul .w0) (getD f (2 * i) 0)
-    && (eqb (getD v (at + 1 + i) nul .w1 * 4294967296 + getD v (at + 1 + i) nul .w2) (getD f (2 * i + 1) 0)
+    ≡ (eqb (getD v (at + 1 + i) zero-record .w0) (getD f (2 * i) 0)
+    && (eqb (getD v (at + 1 + i) zero-record .w1 * 4294967296 + getD v (at + 1 + i) zero-record .w2) (getD f (2 * i + 1) 0)
     && same (drop (2 * (i + 1)) (words-at v at)) (drop (2 * (i + 1)) f)))
 unfolding same
 same-turn v at f i fits e h =

@@ -6,16 +6,16 @@ use mathlib.Core.List.{List, [], _∷_, _++_}
 use Prim.Native.Nat.{ℕ, zero, suc, _+_, _*_, _/_, _%_, _≤_, _<_}
 use lib.Dec.{eqb}
 use lib.ListN.{length, getD, take, drop}
-use Rattle.records.specs.Records.{Rec, mk, nul}
+use Rattle.records.specs.Records.{Rec, record-of, zero-record}
 
 -- ── encoding ──
 -- The head of a polynomial of n terms.
 abbrev pub head : ℕ → Rec
-head n = mk n 0 0 0
+head n = record-of n 0 0 0
 
 -- A term: its coefficient, and its exponents as a table's two words.
 abbrev pub term-record : ℕ → ℕ → Rec
-term-record c m = mk c (m / 4294967296) (m % 4294967296) 0
+term-record c m = record-of c (m / 4294967296) (m % 4294967296) 0
 
 unfoldable pub term-records : List ℕ → List Rec
 term-records [] = []
@@ -32,7 +32,7 @@ polys-records (s ∷ ss) = poly-records s ++ polys-records ss
 -- ── decoding, by position ──
 -- The number of terms that the head at i states.
 abbrev pub size-at : List Rec → ℕ → ℕ
-size-at v i = getD v i nul .w0
+size-at v i = getD v i zero-record .w0
 
 unfoldable pub pairs-of : List Rec → List ℕ
 pairs-of [] = []
@@ -80,9 +80,9 @@ pub record Storable (s : List ℕ) : Type 0 where
 -- ── examples ──
 -- Two terms, of coefficients 5 and 1, behind a record that is not theirs.
 two-terms : List Rec
-two-terms = nul ∷ poly-records (5 ∷ 4294967298 ∷ 1 ∷ 0 ∷ [])
+two-terms = zero-record ∷ poly-records (5 ∷ 4294967298 ∷ 1 ∷ 0 ∷ [])
 
-two-terms-are : two-terms ≡ nul ∷ (mk 2 0 0 0 ∷ (mk 5 1 2 0 ∷ (mk 1 0 0 0 ∷ [])))
+two-terms-are : two-terms ≡ zero-record ∷ (record-of 2 0 0 0 ∷ (record-of 5 1 2 0 ∷ (record-of 1 0 0 0 ∷ [])))
 unfolding two-terms term-records
 two-terms-are = refl
 

@@ -3,13 +3,13 @@ ghost use mathlib.Core.Path.{_≡_};
 ghost use Prim.Native.Nat.{_+_, _*_, _-_, _/_, _≤_, _<_};
 ghost use lib.ListN.{length, take, getD};
 ghost use lib.Seq.{paste};
-ghost use Rattle.records.specs.Records.{room, view, nul};
+ghost use Rattle.records.specs.Records.{room, view, zero-record};
 ghost use Rattle.stored.specs.Stored.{poly-records, size-at, words-at, skip-to, polys-at, same, member, inserted, removed, Storable};
 
 // The monomial of the term in record i.
 pub fn monomial(w: &[u32], i: usize) -> u64
     requires { ⌜ i < room (now w) ⌝ }
-    ensures { λ r. ⌜ r ≡ getD (view (now (w .entry))) i nul .w1 * 4294967296 + getD (view (now (w .entry))) i nul .w2 ⌝ }
+    ensures { λ r. ⌜ r ≡ getD (view (now (w .entry))) i zero-record .w1 * 4294967296 + getD (view (now (w .entry))) i zero-record .w2 ⌝ }
 {
     ((records::get1(w, i) as u64) << 32) + records::get2(w, i) as u64
 }

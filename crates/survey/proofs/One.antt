@@ -7,7 +7,7 @@ use Prim.Native.Nat.{ℕ, _+_, _≤_}
 use native.Mathlib.Omega.{arith}
 use lib.Dec.{eqb}
 use lib.ListN.{length, getD}
-use Rattle.records.specs.Records.{Rec, nul}
+use Rattle.records.specs.Records.{Rec, zero-record}
 use Rattle.stored.specs.Stored.{size-at, words-at}
 use Rattle.polynomials.specs.Poly.{Poly, Term}
 use Rattle.polynomials.specs.Packed.{bytes, term, terms}
@@ -30,8 +30,8 @@ module _ (v : List Rec) (i : ℕ) (fits : i + 1 + size-at v i ≤ length v) wher
   pub not-one-at : size-at v i ≢ 1 → is-one (terms (words-at v i)) ≡ false
   not-one-at h = several-not-one (terms (words-at v i)) (λ e. h (sym (length-terms-at v i fits) ∙ e))
 
-  pub one-at-first : size-at v i ≡ 1 → is-one (terms (words-at v i)) ≡ (eqb (getD v (i + 1) nul .w0) 1 && all-zeros (bytes 8 (monomial-at v (i + 1))))
+  pub one-at-first : size-at v i ≡ 1 → is-one (terms (words-at v i)) ≡ (eqb (getD v (i + 1) zero-record .w0) 1 && all-zeros (bytes 8 (monomial-at v (i + 1))))
   one-at-first h =
       let e = terms-first v i (omega arith) fits in
       ap is-one e
-      ∙ single-one (term (getD v (i + 1) nul .w0) (monomial-at v (i + 1))) (terms (words-behind v i)) (sym (ap length e) ∙ length-terms-at v i fits ∙ h)
+      ∙ single-one (term (getD v (i + 1) zero-record .w0) (monomial-at v (i + 1))) (terms (words-behind v i)) (sym (ap length e) ∙ length-terms-at v i fits ∙ h)

@@ -4,7 +4,7 @@ use mathlib.Core.List.{List, _++_, append-assoc}
 use Prim.Native.Nat.{ℕ, _+_, _≤_, _<_}
 use native.Mathlib.Omega.{arith}
 use lib.ListN.{length, getD}
-use Rattle.records.specs.Records.{Rec, nul}
+use Rattle.records.specs.Records.{Rec, zero-record}
 use Rattle.stored.specs.Stored.{skip-to, polys-at}
 use Rattle.branches.specs.Area.{Stored, Held, with-open}
 use Rattle.branches.proofs.AreaLaws.{place, at-of, most-inside, at-inside, place-inside, p-is, q-is, end-P, end-Q, all-P, all-Q}
@@ -18,7 +18,7 @@ pub record Lies (v : List Rec) (b : Stored) (at p q s : ℕ) : Type 0 where
   pub Q-is : polys-at v s q ≡ b .Q
 
 pub lies : (v : List Rec) (most : ℕ) (b : Stored) (bs ss : List Stored) → Held v most (with-open b bs ss) → (at p q s : ℕ)
-    → at ≡ getD v 0 nul .w0 → p ≡ getD v at nul .w0 → q ≡ getD v at nul .w1 → s ≡ skip-to v (at + 1) p → Lies v b at p q s
+    → at ≡ getD v 0 zero-record .w0 → p ≡ getD v at zero-record .w0 → q ≡ getD v at zero-record .w1 → s ≡ skip-to v (at + 1) p → Lies v b at p q s
 lies v most b bs ss H at p q s e-at e-p e-q e-s =
     let P-ends : skip-to v (at + 1) p ≡ place (at-of bs) (b .P) = end-P H at e-at p e-p in
     let Q-ends : skip-to v s q ≡ place (at-of bs) (b .P ++ b .Q) = end-Q H (e-s ∙ P-ends) (q-is H at e-at q e-q) in

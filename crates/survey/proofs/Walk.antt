@@ -9,7 +9,7 @@ use native.Mathlib.Decide.{ℕ-discrete}
 use native.Mathlib.Omega.{arith}
 use lib.ListN.{length, take, drop, getD}
 use lib.Seq.{drop-cons}
-use Rattle.records.specs.Records.{Rec, nul}
+use Rattle.records.specs.Records.{Rec, zero-record}
 use Rattle.stored.specs.Stored.{size-at, pairs-of, words-at, polys-at}
 use Rattle.stored.proofs.Laws.{polys-turn}
 use Rattle.polynomials.specs.Poly.{Poly}
@@ -40,7 +40,7 @@ all-end v i left h = ap (all-at v i) h
 -- ── a polynomial by its head and first term ──
 -- The monomial in record i.
 abbrev pub monomial-at : List Rec → ℕ → ℕ
-monomial-at v i = getD v i nul .w1 * 4294967296 + getD v i nul .w2
+monomial-at v i = getD v i zero-record .w1 * 4294967296 + getD v i zero-record .w2
 
 first-pair : (n : ℕ) (r : List Rec) (x : Rec) (l : List Rec) → 0 < n → r ≡ x ∷ l
     → pairs-of (take n r) ≡ x .w0 ∷ ((x .w1 * 4294967296 + x .w2) ∷ pairs-of (take (n - 1) l))
@@ -63,11 +63,11 @@ unfolding terms
 no-terms v i h = ap terms (no-words v i h)
 
 module _ (v : List Rec) (i : ℕ) (some : 0 < size-at v i) (fits : i + 1 + size-at v i ≤ length v) where
-  words-first : words-at v i ≡ getD v (i + 1) nul .w0 ∷ (monomial-at v (i + 1) ∷ words-behind v i)
+  words-first : words-at v i ≡ getD v (i + 1) zero-record .w0 ∷ (monomial-at v (i + 1) ∷ words-behind v i)
   unfolding words-at
-  words-first = first-pair (size-at v i) (drop (i + 1) v) (getD v (i + 1) nul) (drop (suc (i + 1)) v) some (drop-cons v (i + 1) nul (omega arith))
+  words-first = first-pair (size-at v i) (drop (i + 1) v) (getD v (i + 1) zero-record) (drop (suc (i + 1)) v) some (drop-cons v (i + 1) zero-record (omega arith))
 
-  pub terms-first : terms (words-at v i) ≡ term (getD v (i + 1) nul .w0) (monomial-at v (i + 1)) ∷ terms (words-behind v i)
+  pub terms-first : terms (words-at v i) ≡ term (getD v (i + 1) zero-record .w0) (monomial-at v (i + 1)) ∷ terms (words-behind v i)
   unfolding terms
   terms-first = ap terms words-first
 
@@ -89,20 +89,20 @@ pub led-some : (v : List Rec) (i k : ℕ) → leader (terms (words-at v i)) ≡ 
 led-some v i k l = elim (ℕ-discrete (size-at v i) 0) [ yes e ↦ absurd (omega (arith, no-leader-at v i e)) | no n ↦ let n′ : size-at v i ≢ 0 = n in omega arith ]
 
 module _ (p : ℕ) (v : List Rec) (i : ℕ) (holds : Holds p (words-at v i)) (some : 0 < size-at v i) (fits : i + 1 + size-at v i ≤ length v) where
-  canonical-first : Canonical p (term (getD v (i + 1) nul .w0) (monomial-at v (i + 1)) ∷ terms (words-behind v i))
+  canonical-first : Canonical p (term (getD v (i + 1) zero-record .w0) (monomial-at v (i + 1)) ∷ terms (words-behind v i))
   canonical-first = subst (λ (f : Poly). Canonical p f) (terms-first v i some fits) (holds .canonical)
 
-  places-first : Places 8 (term (getD v (i + 1) nul .w0) (monomial-at v (i + 1)) ∷ terms (words-behind v i))
+  places-first : Places 8 (term (getD v (i + 1) zero-record .w0) (monomial-at v (i + 1)) ∷ terms (words-behind v i))
   places-first = subst (λ (f : Poly). Places 8 f) (terms-first v i some fits) (places-terms (words-at v i))
 
   pub leader-at-first : leader (terms (words-at v i)) ≡ highest (bytes 8 (monomial-at v (i + 1)))
   leader-at-first =
       ap leader (terms-first v i some fits)
-      ∙ leader-first p 8 (term (getD v (i + 1) nul .w0) (monomial-at v (i + 1))) (terms (words-behind v i)) canonical-first places-first
+      ∙ leader-first p 8 (term (getD v (i + 1) zero-record .w0) (monomial-at v (i + 1))) (terms (words-behind v i)) canonical-first places-first
 
   pub degree-at-first : (k : ℕ) → leader (terms (words-at v i)) ≡ suc k → degree k (terms (words-at v i)) ≡ getD (bytes 8 (monomial-at v (i + 1))) k 0
   degree-at-first k l =
       ap (degree k) (terms-first v i some fits)
-      ∙ degree-first p k 8 (term (getD v (i + 1) nul .w0) (monomial-at v (i + 1))) (terms (words-behind v i)) canonical-first places-first
-      (λ j m. above-leader (term (getD v (i + 1) nul .w0) (monomial-at v (i + 1)) ∷ terms (words-behind v i)) j
-      (let e : leader (term (getD v (i + 1) nul .w0) (monomial-at v (i + 1)) ∷ terms (words-behind v i)) ≡ suc k = sym (ap leader (terms-first v i some fits)) ∙ l in omega arith))
+      ∙ degree-first p k 8 (term (getD v (i + 1) zero-record .w0) (monomial-at v (i + 1))) (terms (words-behind v i)) canonical-first places-first
+      (λ j m. above-leader (term (getD v (i + 1) zero-record .w0) (monomial-at v (i + 1)) ∷ terms (words-behind v i)) j
+      (let e : leader (term (getD v (i + 1) zero-record .w0) (monomial-at v (i + 1)) ∷ terms (words-behind v i)) ≡ suc k = sym (ap leader (terms-first v i some fits)) ∙ l in omega arith))

@@ -8,7 +8,7 @@ use borrow.Author.Tests.{ne-eqb}
 use lib.Dec.{eqb}
 use lib.ListN.{length, take, drop, getD, set, length-append, take-append-drop}
 use lib.Seq.{set-at, take-at, drop-at, take-append-le, take-append-add, length-take-le}
-use Rattle.records.specs.Records.{Rec, mk, nul, moved}
+use Rattle.records.specs.Records.{Rec, record-of, zero-record, moved}
 use Rattle.stored.specs.Stored.{polys-records}
 use Rattle.branches.specs.Area.{Stored, Held, stack, branch-records, systems-records, with-open, empty}
 use Rattle.branches.proofs.AreaLaws.{at-of, own-of, end-of, end-is}
@@ -30,7 +30,7 @@ module _ {v : List Rec} {most : ℕ} {b : Stored} {bs ss : List Stored} (H : Hel
   behind = systems-records ss ++ H .beyond
 
   abbrev ctl : Rec
-  ctl = mk (at-of bs) (at-of (b ∷ bs)) (at-of (b ∷ bs) + length (H .free)) (length ss)
+  ctl = record-of (at-of bs) (at-of (b ∷ bs)) (at-of (b ∷ bs) + length (H .free)) (length ss)
 
   in-parts : v ≡ (ctl ∷ stack bs .0) ++ (branch-records (stack bs .1) b ++ (H .free ++ behind))
   unfolding behind
@@ -43,7 +43,7 @@ module _ {v : List Rec} {most : ℕ} {b : Stored} {bs ss : List Stored} (H : Hel
   few-systems = omega (arith, length-le-systems-records ss, H .fits, H .few)
 
   pub dropped : (v' : List Rec) (x y z k : ℕ) → x ≡ stack bs .1 → y ≡ at-of bs → z ≡ end-of b bs + length (H .free) → k ≡ length ss
-      → v' ≡ set v 0 (mk x y z k) → Held v' most (record { branches = bs; systems = ss })
+      → v' ≡ set v 0 (record-of x y z k) → Held v' most (record { branches = bs; systems = ss })
   unfolding behind
   dropped v' x y z k ex ey ez ek e =
       let B : List Rec = branch-records (stack bs .1) b in
@@ -52,7 +52,7 @@ module _ {v : List Rec} {most : ℕ} {b : Stored} {bs ss : List Stored} (H : Hel
       record {
         free = B ++ H .free;
         beyond = H .beyond;
-        is = e ∙ (λ t. set (in-parts t) 0 (mk (ex t) (ey t) (top t) (ek t))) ∙ simp append-assoc;
+        is = e ∙ (λ t. set (in-parts t) 0 (record-of (ex t) (ey t) (top t) (ek t))) ∙ simp append-assoc;
         fits = omega (arith, H .fits, length-open, end-is b bs);
         few = H .few;
         storable = (H .storable .0 .3, H .storable .1);
@@ -60,7 +60,7 @@ module _ {v : List Rec} {most : ℕ} {b : Stored} {bs ss : List Stored} (H : Hel
 
   moved-up : (v₁ v₂ v₃ : List Rec) (at n to p q t x k : ℕ) → at ≡ at-of bs → at + n ≡ end-of b bs → to + n ≡ end-of b bs + length (H .free)
       → p ≡ length (b .P) → q ≡ length (b .Q) → t ≡ length (b .T) → x ≡ stack bs .1 → k ≡ length ss + 1
-      → v₁ ≡ moved v at n to → v₂ ≡ set v₁ to (mk p q t 0) → v₃ ≡ set v₂ 0 (mk x at to k)
+      → v₁ ≡ moved v at n to → v₂ ≡ set v₁ to (record-of p q t 0) → v₃ ≡ set v₂ 0 (record-of x at to k)
       → Held v₃ most (record { branches = bs; systems = b ∷ ss })
   unfolding behind systems-records
   moved-up v₁ v₂ v₃ at n to p q t x k eat en eto ep eq et ex ek e₁ e₂ e₃ =
@@ -83,33 +83,33 @@ module _ {v : List Rec} {most : ℕ} {b : Stored} {bs ss : List Stored} (H : Hel
       let lf : length free' ≡ to - at = length-take-le (to - at) big (omega arith) in
       let i₁ : v₁ ≡ pre ++ free' ++ (own-of b bs ∷ (rest ++ behind)) =
       e₁ ∙ (λ i. cut i ++ mid i ++ back i) ∙ append-assoc (pre ++ free') (own-of b bs ∷ rest) behind in
-      let i₂ : v₂ ≡ pre ++ free' ++ (mk p q t 0 ∷ (rest ++ behind)) =
-      e₂ ∙ ap (λ (u : List Rec). set u to (mk p q t 0)) i₁
-      ∙ set-at (pre ++ free') (own-of b bs) (rest ++ behind) (mk p q t 0) to (omega (arith, length-append pre free')) in
+      let i₂ : v₂ ≡ pre ++ free' ++ (record-of p q t 0 ∷ (rest ++ behind)) =
+      e₂ ∙ ap (λ (u : List Rec). set u to (record-of p q t 0)) i₁
+      ∙ set-at (pre ++ free') (own-of b bs) (rest ++ behind) (record-of p q t 0) to (omega (arith, length-append pre free')) in
       let top : to ≡ at-of bs + length free' = omega arith in
       let more : k ≡ length (b ∷ ss) = omega arith in
-      let ctl' : Rec = mk (stack bs .1) (at-of bs) (at-of bs + length free') (length (b ∷ ss)) in
+      let ctl' : Rec = record-of (stack bs .1) (at-of bs) (at-of bs + length free') (length (b ∷ ss)) in
       record {
         free = free';
         beyond = H .beyond;
-        is = e₃ ∙ (λ i. set (i₂ i) 0 (mk (ex i) (eat i) (top i) (more i)))
-            ∙ (λ i. ctl' ∷ (stack bs .0 ++ free' ++ (mk (ep i) (eq i) (et i) 0 ∷ (rest ++ behind)))) ∙ simp append-assoc;
+        is = e₃ ∙ (λ i. set (i₂ i) 0 (record-of (ex i) (eat i) (top i) (more i)))
+            ∙ (λ i. ctl' ∷ (stack bs .0 ++ free' ++ (record-of (ep i) (eq i) (et i) 0 ∷ (rest ++ behind)))) ∙ simp append-assoc;
         fits = omega (arith, H .fits, end-is b bs, length-append (branch-records 0 b) (systems-records ss));
         few = H .few;
         storable = (H .storable .0 .3, (H .storable .0 .0, H .storable .0 .1, H .storable .0 .2, H .storable .1));
       }
 
   -- The branch's records moved up to the end of the free ones, and its own record made a system's.
-  pub listed : {at end top : ℕ} → Read v at end → top ≡ getD v 0 nul .w2 → {v₁ v₂ v₃ : List Rec} {p q t x k : ℕ} → mk p q t x ≡ own-of b bs → k ≡ length ss
-      → v₁ ≡ moved v at (end - at) (top - (end - at)) → v₂ ≡ set v₁ (top - (end - at)) (mk p q t 0)
-      → v₃ ≡ set v₂ 0 (mk x at (top - (end - at)) (k + 1)) → Held v₃ most (record { branches = bs; systems = b ∷ ss })
+  pub listed : {at end top : ℕ} → Read v at end → top ≡ getD v 0 zero-record .w2 → {v₁ v₂ v₃ : List Rec} {p q t x k : ℕ} → record-of p q t x ≡ own-of b bs → k ≡ length ss
+      → v₁ ≡ moved v at (end - at) (top - (end - at)) → v₂ ≡ set v₁ (top - (end - at)) (record-of p q t 0)
+      → v₃ ≡ set v₂ 0 (record-of x at (top - (end - at)) (k + 1)) → Held v₃ most (record { branches = bs; systems = b ∷ ss })
   listed {at} {end} {top} R tw {p = p} {q = q} {t = t} {x = x} {k = k} o e e₁ e₂ e₃ =
       let h = bounds-inside H R tw in
       moved-up _ _ _ at (end - at) (top - (end - at)) p q t x (k + 1) (start-is H R) (omega (arith, ends H R)) (omega (arith, ends H R, free-is H R top tw))
       (ap (λ (r : Rec). r .w0) o) (ap (λ (r : Rec). r .w1) o) (ap (λ (r : Rec). r .w2) o) (ap (λ (r : Rec). r .w3) o) (ap (λ (n : ℕ). n + 1) e) e₁ e₂ e₃
 
 -- An empty first branch.
-pub begun : (v v₁ v₂ : List Rec) (most : ℕ) → 2 ≤ most → most ≤ length v → most ≤ 65536 → v₁ ≡ set v 0 (mk 1 2 most 0) → v₂ ≡ set v₁ 1 (mk 0 0 0 0)
+pub begun : (v v₁ v₂ : List Rec) (most : ℕ) → 2 ≤ most → most ≤ length v → most ≤ 65536 → v₁ ≡ set v 0 (record-of 1 2 most 0) → v₂ ≡ set v₁ 1 (record-of 0 0 0 0)
     → Held v₂ most (with-open empty [] [])
 unfolding systems-records polys-records
 begun [] v₁ v₂ most h l f e₁ e₂ = absurd (omega arith)
@@ -121,7 +121,7 @@ begun (r ∷ (s ∷ v)) v₁ v₂ most h l f e₁ e₂ =
     record {
       free = free;
       beyond = drop (most - 2) v;
-      is = e₂ ∙ ap (λ (u : List Rec). set u 1 (mk 0 0 0 0)) e₁ ∙ (λ i. mk 1 2 (top i) 0 ∷ (mk 0 0 0 0 ∷ sym (take-append-drop (most - 2) v) i));
+      is = e₂ ∙ ap (λ (u : List Rec). set u 1 (record-of 0 0 0 0)) e₁ ∙ (λ i. record-of 1 2 (top i) 0 ∷ (record-of 0 0 0 0 ∷ sym (take-append-drop (most - 2) v) i));
       fits = omega arith;
       few = f;
       storable = ((tt, tt, tt, tt), tt);

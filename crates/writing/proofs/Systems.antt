@@ -10,7 +10,7 @@ use Rattle.polynomials.specs.Packed.{terms}
 use Rattle.rules.specs.Room.{polynomials-size, systems-size}
 use Rattle.rules.specs.Written.{index-of, heads-words}
 use Rattle.rules.specs.laws.Lengths.{length-heads}
-use Rattle.records.specs.Records.{Rec, mk, nul}
+use Rattle.records.specs.Records.{Rec, record-of, zero-record}
 use Rattle.stored.specs.Stored.{polys-records, skip-to, polys-at}
 use Rattle.stored.specs.laws.Stored.{polys-records-append, skip-to-polys-records, polys-at-polys-records}
 use Rattle.branches.specs.Area.{Stored, branch-records}
@@ -49,8 +49,8 @@ length-branch-records s e =
 pub record Found (v : List Rec) (i : ℕ) (s : Stored) : Type 0 where
   pub inside : i + size-of s ≤ length v
   pub size : size-of s ≡ 1 + (polynomials-size (map terms (s .T)) + polynomials-size (map terms (s .Q)))
-  pub count-U : getD v i nul .w1 ≡ length (s .Q)
-  pub count-T : getD v i nul .w2 ≡ length (s .T)
+  pub count-U : getD v i zero-record .w1 ≡ length (s .Q)
+  pub count-T : getD v i zero-record .w2 ≡ length (s .T)
   pub end-U : skip-to v (i + 1) (length (s .Q)) ≡ i + 1 + polynomials-size (map terms (s .Q))
   pub end-T : skip-to v (i + 1 + polynomials-size (map terms (s .Q))) (length (s .T)) ≡ i + size-of s
   pub end : skip-to v (i + 1) (length (s .Q) + length (s .T)) ≡ i + size-of s
@@ -61,7 +61,7 @@ pub found : (v : List Rec) (i : ℕ) (s : Stored) → Stored-at v i s → Found 
 found v i s h =
     let U : List Rec = polys-records (s .Q) in
     let T : List Rec = polys-records (s .T) in
-    let r : Rec = mk (length (s .P)) (length (s .Q)) (length (s .T)) 0 in
+    let r : Rec = record-of (length (s .P)) (length (s .Q)) (length (s .T)) 0 in
     let front : List Rec = h .before ++ (r ∷ []) in
     let all : v ≡ h .before ++ (r ∷ (U ++ T ++ h .behind)) =
     h .is ∙ ap (λ (l : List Rec). h .before ++ (r ∷ (l ++ (U ++ T) ++ h .behind))) (no-records (s .P) (h .finished)) in
@@ -76,8 +76,8 @@ found v i s h =
     let is = size-is s in
     let lUT : length (U ++ T) ≡ length U + length T = length-append U T in
     let lfU : length (front ++ U) ≡ i + 1 + polynomials-size (map terms (s .Q)) = omega (arith, length-append front U) in
-    let here : getD v i nul ≡ r =
-    ap (λ (l : List Rec). getD l i nul) all ∙ getD-at (h .before) r (U ++ T ++ h .behind) nul i (h .starts) in
+    let here : getD v i zero-record ≡ r =
+    ap (λ (l : List Rec). getD l i zero-record) all ∙ getD-at (h .before) r (U ++ T ++ h .behind) zero-record i (h .starts) in
     record {
       inside = omega (arith, ap length both, length-append front (U ++ T ++ h .behind), length-append (U ++ T) (h .behind));
       size = is;
@@ -106,7 +106,7 @@ pub record Ends (v : List Rec) (i u t in-t end : ℕ) (s : Stored) : Type 0 wher
   pub polys-U : polys-at v (i + 1) u ≡ s .Q
   pub polys-T : polys-at v in-t t ≡ s .T
 
-pub ends : (v : List Rec) (i u t in-t end : ℕ) (s : Stored) → Found v i s → u ≡ getD v i nul .w1 → t ≡ getD v i nul .w2
+pub ends : (v : List Rec) (i u t in-t end : ℕ) (s : Stored) → Found v i s → u ≡ getD v i zero-record .w1 → t ≡ getD v i zero-record .w2
     → in-t ≡ skip-to v (i + 1) u → end ≡ skip-to v in-t t → Ends v i u t in-t end s
 ends v i u t in-t end s f eu et ei ee =
     let u-is : u ≡ length (s .Q) = eu ∙ f .count-U in

@@ -6,12 +6,12 @@ use native.Mathlib.Omega.{arith}
 use lib.ListN.{length, getD}
 use mir.Syntax.{w32}
 use mir.Val.{Fits}
-use Rattle.records.specs.Records.{Rec, mk, nul, view, room}
+use Rattle.records.specs.Records.{Rec, record-of, zero-record, view, room}
 use Rattle.stored.specs.Stored.{skip-to}
 use Rattle.branches.specs.Words.{remove}
 use Rattle.branches.specs.Area.{Stored, Held, with-open, capacity, without-P, closed}
 use Rattle.branches.proofs.AreaLaws.{place, at-of, own-of, own-read, storable-open, place-inside, at-inside, end-P, end-Q}
-use Rattle.branches.proofs.ControlLaws.{Read, fits-wide, next-fits, at-fits, mk-equal, w0-is, w1-is, w2-is, w3-is}
+use Rattle.branches.proofs.ControlLaws.{Read, fits-wide, next-fits, at-fits, record-equal, w0-is, w1-is, w2-is, w3-is}
 use Rattle.changes.proofs.ChangeLaws.{More, more-P, freed-room, Gap, gap-inside, end-in-fits, held-in}
 use Rattle.branches.proofs.LengthLaws.{still-inside, first-inside}
 use Rattle.changes.proofs.PutLaws.{counts-small, adds-T, count-T, storable-T}
@@ -108,7 +108,7 @@ abbrev end : Reading → ℕ
 end r = end-read r .get1 .result
 
 abbrev own : Reading → Rec
-own r = mk (p-read r .get02 .result) (q-read r .get12 .result) (t-read r .get2 .result + 1) (r .get3 .result)
+own r = record-of (p-read r .get02 .result) (q-read r .get12 .result) (t-read r .get2 .result + 1) (r .get3 .result)
 
 read : (r : Reading) → Read (view (w (removed r))) (at r) (end r)
 read r = record { at-word = at-read r .get0 .ensures; end-word = end-read r .get1 .ensures }
@@ -127,7 +127,7 @@ module _ {b : Stored} {bs ss : List Stored} where
   after : (m : Removed) → Entry m b bs ss → Held (view (w m)) (capacity (start m .args .w .now)) (with-open (without-P (i m) b) bs ss)
   after m H = m .remove-p .ensures b bs ss H
 
-  own-kept : (r : Reading) → Entry (removed r) b bs ss → getD (view (w (removed r))) (at r) nul ≡ own-of (without-P (i (removed r)) b) bs
+  own-kept : (r : Reading) → Entry (removed r) b bs ss → getD (view (w (removed r))) (at r) zero-record ≡ own-of (without-P (i (removed r)) b) bs
   own-kept r H = own-read (after (removed r) H) _ (read r .at-word)
 
   end-P-is : (r : Reading) → Entry (removed r) b bs ss
@@ -157,7 +157,7 @@ module _ {b : Stored} {bs ss : List Stored} where
   own-is : (r : Reading) → Entry (removed r) b bs ss → own r ≡ own-of (closed (i (removed r)) b) bs
   own-is r H =
       let o = own-kept r H in
-      mk-equal (w0-is o (p-read r .get02 .ensures)) (w1-is o (q-read r .get12 .ensures))
+      record-equal (w0-is o (p-read r .get02 .ensures)) (w1-is o (q-read r .get12 .ensures))
       (count-T b (i (removed r)) (w2-is o (t-read r .get2 .ensures))) (w3-is o (r .get3 .ensures))
 
 -- The branch of which the contract speaks.

@@ -6,12 +6,12 @@ use native.Mathlib.Omega.{arith}
 use lib.ListN.{length}
 use mir.Syntax.{w32}
 use mir.Val.{Fits}
-use Rattle.records.specs.Records.{Rec, mk, view, room}
+use Rattle.records.specs.Records.{Rec, record-of, view, room}
 use Rattle.stored.specs.Stored.{member, skip-to}
 use Rattle.branches.specs.Words.{put-P}
 use Rattle.branches.specs.Area.{Stored, Held, with-open, capacity, put-into-P}
 use Rattle.branches.proofs.AreaLaws.{place, at-of, own-of, storable-open, place-inside, at-inside, end-P, p-is, all-P}
-use Rattle.branches.proofs.ControlLaws.{Read, end-le-top, fits-free, over-free, fits-wide, next-fits, at-fits, top-fits, mk-equal, w1-is, w2-is, w3-is}
+use Rattle.branches.proofs.ControlLaws.{Read, end-le-top, fits-free, over-free, fits-wide, next-fits, at-fits, top-fits, record-equal, w1-is, w2-is, w3-is}
 use Rattle.changes.proofs.ChangeLaws.{Gap, gap-inside, end-in-fits, own-in, top-kept, held-in}
 use Rattle.branches.proofs.LengthLaws.{inside-room, still-inside, first-inside}
 use Rattle.changes.proofs.PutLaws.{counts-small, leaves-held, leaves-same, no-room}
@@ -99,7 +99,7 @@ abbrev top : Reading → ℕ
 top r = top-read r .get2 .result
 
 abbrev own : tie.After-put-rec → Rec
-own c = mk (from-own c .get02 .result + 1) (q-read c .get12 .result) (t-read c .get22 .result) (under-read c .get3 .result)
+own c = record-of (from-own c .get02 .result + 1) (q-read c .get12 .result) (t-read c .get22 .result) (under-read c .get3 .result)
 
 read : (r : Reading) → Read (view (w r)) (at r) (end r)
 read r = record { at-word = at-read r .get0 .ensures; end-word = end-read r .get1 .ensures }
@@ -136,7 +136,7 @@ module _ {b : Stored} {bs ss : List Stored} where
       let i = insert-of c in
       let o = own-in H (read r) (gap (i .before .before) H) (i .insert .ensures) in
       let count = count-P (f r) b (new-is (i .before .before .before .before .before) H) in
-      mk-equal (ap (λ (n : ℕ). n + 1) (count-is r H) ∙ sym count)
+      record-equal (ap (λ (n : ℕ). n + 1) (count-is r H) ∙ sym count)
       (w1-is o (q-read c .get12 .ensures)) (w2-is o (t-read c .get22 .ensures)) (w3-is o (under-read c .get3 .ensures))
 
 -- The branch of which the contract speaks.

@@ -8,12 +8,12 @@ use native.Mathlib.Omega.{arith}
 use lib.ListN.{length, take, drop}
 use mir.Syntax.{w32}
 use mir.Val.{Fits}
-use Rattle.records.specs.Records.{Rec, mk, view, room}
+use Rattle.records.specs.Records.{Rec, record-of, view, room}
 use Rattle.stored.specs.Stored.{member, skip-to}
 use Rattle.branches.specs.Words.{put-Q, is-one}
 use Rattle.branches.specs.Area.{Stored, Held, with-open, capacity, put-into-Q}
 use Rattle.branches.proofs.AreaLaws.{place, at-of, own-of, storable-open, place-inside, at-inside, end-P, p-is, q-is, parted-Q}
-use Rattle.branches.proofs.ControlLaws.{Read, end-le-top, fits-free, over-free, fits-wide, next-fits, at-fits, top-fits, mk-equal, w2-is, w3-is}
+use Rattle.branches.proofs.ControlLaws.{Read, end-le-top, fits-free, over-free, fits-wide, next-fits, at-fits, top-fits, record-equal, w2-is, w3-is}
 use Rattle.changes.proofs.ChangeLaws.{Gap, gap-inside, end-in-fits, own-in, top-kept, held-in}
 use Rattle.branches.proofs.LengthLaws.{inside-room, still-inside, first-inside}
 use Rattle.changes.proofs.PutLaws.{counts-small, leaves-held, leaves-same, no-room, one, not-one-by-length, not-one-by-coefficient, not-one-by-monomial}
@@ -107,7 +107,7 @@ abbrev top : Reading → ℕ
 top r = top-read r .get2 .result
 
 abbrev own : tie.After-put-rec → Rec
-own c = let r = from-own c in mk (p-read r .get02 .result) (r .get12 .result + 1) (t-read c .get22 .result) (under-read c .get3 .result)
+own c = let r = from-own c in record-of (p-read r .get02 .result) (r .get12 .result + 1) (t-read c .get22 .result) (under-read c .get3 .result)
 
 read : (r : Reading) → Read (view (w r)) (at r) (end r)
 read r = record { at-word = at-read r .get0 .ensures; end-word = end-read r .get1 .ensures }
@@ -162,7 +162,7 @@ module _ {b : Stored} {bs ss : List Stored} where
       let i = insert-of c in
       let o = own-in H (read r) (gap (i .before .before) H) (i .insert .ensures) in
       let count = count-Q (left r) (f r) b (new-is (i .before .before .before .before .before) H) in
-      mk-equal (p-is H _ (read r .at-word) _ (p-read r .get02 .ensures)) (ap (λ (n : ℕ). n + 1) (count-is r H) ∙ sym count)
+      record-equal (p-is H _ (read r .at-word) _ (p-read r .get02 .ensures)) (ap (λ (n : ℕ). n + 1) (count-is r H) ∙ sym count)
       (w2-is o (t-read c .get22 .ensures)) (w3-is o (under-read c .get3 .ensures))
 
 -- The branch of which the contract speaks.

@@ -4,11 +4,11 @@ use mathlib.Core.List.{List, [], _++_}
 use Prim.Native.Nat.{ℕ, suc, _+_, _-_, _≤_, _<_}
 use native.Mathlib.Omega.{arith}
 use lib.ListN.{length, take, drop, getD}
-use Rattle.records.specs.Records.{Rec, mk, nul, view, room}
+use Rattle.records.specs.Records.{Rec, record-of, zero-record, view, room}
 use Rattle.stored.specs.Stored.{skip-to}
 use Rattle.branches.specs.Area.{Stored, Held, with-open, capacity, without-P}
 use Rattle.branches.proofs.AreaLaws.{place, at-of, own-of, storable-open, place-inside, at-inside, skip-P, parted-P}
-use Rattle.branches.proofs.ControlLaws.{Read, at-fits, mk-equal, w0-is, w1-is, w2-is, w3-is}
+use Rattle.branches.proofs.ControlLaws.{Read, at-fits, record-equal, w0-is, w1-is, w2-is, w3-is}
 use Rattle.changes.proofs.ChangeLaws.{More, more-P, Spot, spot, member-inside, spot-inside, end-out-fits, own-out, held-out, count-remove, storable-remove}
 use Rattle.branches.proofs.LengthLaws.{inside-room, still-inside, first-inside}
 use borrow.Author.Needs.{needs}
@@ -91,7 +91,7 @@ abbrev at : Reading → ℕ
 at r = at-read r .get0 .result
 
 abbrev own : tie.After-put-rec-arg → Rec
-own c = mk (p-read c .get03 .result - 1) (q-read c .get12 .result) (t-read c .get2 .result) (under-read c .get3 .result)
+own c = record-of (p-read c .get03 .result - 1) (q-read c .get12 .result) (t-read c .get2 .result) (under-read c .get3 .result)
 
 read : (r : Reading) → Read (view (w r)) (at r) (r .get1 .result)
 read r = record { at-word = at-read r .get0 .ensures; end-word = r .get1 .ensures }
@@ -125,7 +125,7 @@ module _ {b : Stored} {bs ss : List Stored} where
       Spot H (read r) (c .before .before .skip .result) (c .get02 .result + 1) (without-P (i r) b) (before-it r b) (it r b) (behind-it r b)
   member c H = let r = from-size c in spot H (read r) (takes r H) (c .before .before .skip .ensures ∙ there r H) (c .get02 .ensures)
 
-  own-kept : (c : tie.After-remove) → Entry (from-remove c) b bs ss → getD (view (c .remove .last .0)) (at (from-remove c)) nul ≡ own-of b bs
+  own-kept : (c : tie.After-remove) → Entry (from-remove c) b bs ss → getD (view (c .remove .last .0)) (at (from-remove c)) zero-record ≡ own-of b bs
   own-kept c H = own-out H (read (from-remove c)) (member (c .before .before) H) (c .remove .ensures)
 
   p-is : (c : tie.After-put-rec-arg) → Entry (from-remove (remove-before-own c)) b bs ss → p-read c .get03 .result ≡ length (b .P)
@@ -136,7 +136,7 @@ module _ {b : Stored} {bs ss : List Stored} where
   own-is c H =
       let r = from-remove (remove-before-own c) in
       let o = own-kept (remove-before-own c) H in
-      mk-equal (count-remove (b .P) (i-small r H) (p-is c H))
+      record-equal (count-remove (b .P) (i-small r H) (p-is c H))
       (w1-is o (q-read c .get12 .ensures)) (w2-is o (t-read c .get2 .ensures)) (w3-is o (under-read c .get3 .ensures))
 
 -- The branch of which the contract speaks.

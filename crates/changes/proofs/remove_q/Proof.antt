@@ -4,11 +4,11 @@ use mathlib.Core.List.{List, [], _++_}
 use Prim.Native.Nat.{ℕ, suc, _+_, _-_, _≤_, _<_}
 use native.Mathlib.Omega.{arith}
 use lib.ListN.{length, take, drop, getD}
-use Rattle.records.specs.Records.{Rec, mk, nul, view, room}
+use Rattle.records.specs.Records.{Rec, record-of, zero-record, view, room}
 use Rattle.stored.specs.Stored.{skip-to}
 use Rattle.branches.specs.Area.{Stored, Held, with-open, capacity, without-Q}
 use Rattle.branches.proofs.AreaLaws.{place, at-of, own-of, storable-open, place-inside, at-inside, skip-Q, end-P, p-is, parted-Q}
-use Rattle.branches.proofs.ControlLaws.{Read, at-fits, mk-equal, w1-is, w2-is, w3-is}
+use Rattle.branches.proofs.ControlLaws.{Read, at-fits, record-equal, w1-is, w2-is, w3-is}
 use Rattle.changes.proofs.ChangeLaws.{More, more-Q, Spot, spot, member-inside, spot-inside, end-out-fits, own-out, held-out, count-remove, storable-remove}
 use Rattle.branches.proofs.LengthLaws.{inside-room, still-inside, first-inside}
 use borrow.Author.Needs.{needs}
@@ -94,7 +94,7 @@ abbrev end : Reading → ℕ
 end r = end-read r .get1 .result
 
 abbrev own : tie.After-put-rec-arg → Rec
-own c = mk (from-remove (remove-before-own c) .get02 .result) (q-read c .get12 .result - 1) (t-read c .get2 .result) (under-read c .get3 .result)
+own c = record-of (from-remove (remove-before-own c) .get02 .result) (q-read c .get12 .result - 1) (t-read c .get2 .result) (under-read c .get3 .result)
 
 read : (r : Reading) → Read (view (w r)) (at r) (end r)
 read r = record { at-word = at-read r .get0 .ensures; end-word = end-read r .get1 .ensures }
@@ -138,7 +138,7 @@ module _ {b : Stored} {bs ss : List Stored} where
       let s = c .before .before in
       spot H (read r) (takes r H) (s .skip2 .ensures ∙ there (s .before) H) (c .get03 .ensures)
 
-  own-kept : (c : tie.After-remove) → Entry (from-remove c) b bs ss → getD (view (c .remove .last .0)) (at (from-remove c)) nul ≡ own-of b bs
+  own-kept : (c : tie.After-remove) → Entry (from-remove c) b bs ss → getD (view (c .remove .last .0)) (at (from-remove c)) zero-record ≡ own-of b bs
   own-kept c H = own-out H (read (from-remove c)) (member (c .before .before) H) (c .remove .ensures)
 
   q-is : (c : tie.After-put-rec-arg) → Entry (from-remove (remove-before-own c)) b bs ss → q-read c .get12 .result ≡ length (b .Q)
@@ -149,7 +149,7 @@ module _ {b : Stored} {bs ss : List Stored} where
   own-is c H =
       let r = from-remove (remove-before-own c) in
       let o = own-kept (remove-before-own c) H in
-      mk-equal (p-is H _ (read r .at-word) _ (r .get02 .ensures)) (count-remove (b .Q) (i-small r H) (q-is c H))
+      record-equal (p-is H _ (read r .at-word) _ (r .get02 .ensures)) (count-remove (b .Q) (i-small r H) (q-is c H))
       (w2-is o (t-read c .get2 .ensures)) (w3-is o (under-read c .get3 .ensures))
 
 -- The branch of which the contract speaks.

@@ -4,7 +4,7 @@ use Prim.Native.Nat.{ℕ, _+_, _-_, _≤_}
 use native.Mathlib.Omega.{arith}
 use lib.ListN.{length, drop}
 use lib.Seq.{paste, paste-zero}
-use Rattle.records.specs.Records.{nul, view}
+use Rattle.records.specs.Records.{zero-record, view}
 use Rattle.records.proofs.Rows.{length-view}
 use Rattle.records.proofs.Moves.{up-turn}
 use Rattle.records.proofs.move_up.Statement.{statement}
@@ -47,7 +47,7 @@ loop-again c =
     let a = head .before .before .args in (
       omega arith,
       omega arith,
-      up-turn nul (view (a .w .now)) (view (head .loop .w)) (view (c .before .before .copy-rec .last .0)) (a .from) (a .n) (a .to) (head .loop .i)
+      up-turn zero-record (view (a .w .now)) (view (head .loop .w)) (view (c .before .before .copy-rec .last .0)) (a .from) (a .n) (a .to) (head .loop .i)
           (omega arith) (omega arith) (omega arith) (omega (arith, length-view (a .w .now))) (head .loop .inv .2) (c .before .before .copy-rec .ensures),
     )
 

@@ -5,7 +5,7 @@ use Prim.Native.Nat.{_+_, _*_, _-_, _≤_}
 use native.Mathlib.Omega.{arith}
 use lib.Dec.{eqb}
 use lib.ListN.{length, drop, getD}
-use Rattle.records.specs.Records.{nul, view}
+use Rattle.records.specs.Records.{zero-record, view}
 use Rattle.records.proofs.Rows.{length-view}
 use Rattle.stored.specs.Stored.{size-at, words-at, same}
 use Rattle.stored.specs.laws.Stored.{length-words-at}
@@ -41,7 +41,7 @@ turned : (c : tie.In-loop Inv-loop μ-loop)
     → (let a = c .before .before .before .before .before .before .args in
     let i = c .before .loop .i in
     let x = words-at (view (a .w .now)) (a .at) in
-    let r = getD (view (a .w .now)) (a .at + 1 + i) nul in
+    let r = getD (view (a .w .now)) (a .at + 1 + i) zero-record in
     (eqb (r .w0) (getD (a .f .now) (2 * i) 0) && (eqb (r .w1 * 4294967296 + r .w2) (getD (a .f .now) (2 * i + 1) 0) && same (drop (2 * (i + 1)) x) (drop (2 * (i + 1)) (a .f .now))))
     ≡ same x (a .f .now))
 turned c =
@@ -79,7 +79,7 @@ returns-2 c =
     let i = turn .loop .i in
     let f = a .f .now in
     let x = words-at (view (a .w .now)) (a .at) in
-    let r = getD (view (a .w .now)) (a .at + 1 + i) nul in
+    let r = getD (view (a .w .now)) (a .at + 1 + i) zero-record in
     let rest = eqb (r .w1 * 4294967296 + r .w2) (getD f (2 * i + 1) 0) && same (drop (2 * (i + 1)) x) (drop (2 * (i + 1)) f) in
     sym (eqb-and-unequal (r .w0) (getD f (2 * i) 0) rest (λ e. c .if2 .taken (c .before .before .get02 .ensures ∙ e))) ∙ turned (c .before .before .before)
 
@@ -111,7 +111,7 @@ returns-3 c =
     let i = turn .loop .i in
     let f = a .f .now in
     let x = words-at (view (a .w .now)) (a .at) in
-    let r = getD (view (a .w .now)) (a .at + 1 + i) nul in
+    let r = getD (view (a .w .now)) (a .at + 1 + i) zero-record in
     let m = r .w1 * 4294967296 + r .w2 in
     let behind = same (drop (2 * (i + 1)) x) (drop (2 * (i + 1)) f) in
     let first : r .w0 ≡ getD f (2 * i) 0 = sym (c .before .before .before .before .before .get02 .ensures) ∙ c .before .before .before .if2 .left in
@@ -132,7 +132,7 @@ loop-again c =
     let i = turn .loop .i in
     let f = a .f .now in
     let x = words-at (view (a .w .now)) (a .at) in
-    let r = getD (view (a .w .now)) (a .at + 1 + i) nul in
+    let r = getD (view (a .w .now)) (a .at + 1 + i) zero-record in
     let m = r .w1 * 4294967296 + r .w2 in
     let behind = same (drop (2 * (i + 1)) x) (drop (2 * (i + 1)) f) in
     let first : r .w0 ≡ getD f (2 * i) 0 = sym (c .before .before .before .before .before .get02 .ensures) ∙ c .before .before .before .if2 .left in

@@ -4,7 +4,7 @@ use Prim.Native.Nat.{_+_, _*_, _-_, _/_, _≤_}
 use native.Mathlib.Omega.{arith}
 use lib.ListN.{length, getD}
 use lib.Seq.{paste, paste-zero}
-use Rattle.records.specs.Records.{nul, view}
+use Rattle.records.specs.Records.{zero-record, view}
 use Rattle.records.proofs.Rows.{length-view}
 use Rattle.records.proofs.Moves.{paste-turn}
 use Rattle.stored.specs.Stored.{head, term-record, term-records}
@@ -87,7 +87,7 @@ loop-again c =
     let f = a .f .now in (
       omega arith,
       omega arith,
-      paste-turn nul (view (head .last .0)) (view (turn .loop .w)) (view (again .last .0)) (term-records f) (a .at + 1) i
+      paste-turn zero-record (view (head .last .0)) (view (turn .loop .w)) (view (again .last .0)) (term-records f) (a .at + 1) i
           (term-record (getD f (2 * i) 0) (getD f (2 * i + 1) 0)) (omega (arith, length-view (head .last .0))) (omega (arith, length-term-records f))
           (turn .loop .inv .2) (again .ensures) (getD-term-records f i (omega arith)),
     )

@@ -10,7 +10,7 @@ use borrow.Author.Tests.{eqb-true, eq-eqb}
 use lib.Dec.{eqb}
 use lib.ListN.{length, take, drop, length-append, length-drop}
 use lib.Seq.{length-take-le, take-at, drop-at, getD-at, drop-append-add}
-use Rattle.records.specs.Records.{Rec, nul}
+use Rattle.records.specs.Records.{Rec, zero-record}
 use Rattle.stored.specs.Stored.{head, term-records, poly-records, polys-records, size-at, pairs-of, words-at, skip-to, polys-at, same, inserted, removed}
 
 -- ── encoding ──
@@ -64,7 +64,7 @@ length-words-at v i h =
 module _ (v pre : List Rec) (i : ℕ) (at : length pre ≡ i) (s : List ℕ) (post : List Rec) (e : v ≡ pre ++ (poly-records s ++ post)) where
   pub size-at-poly-records : size-at v i ≡ length s / 2
   size-at-poly-records =
-      ap (λ (u : List Rec). size-at u i) e ∙ ap (λ (r : Rec). r .w0) (getD-at pre (head (length s / 2)) (term-records s ++ post) nul i at)
+      ap (λ (u : List Rec). size-at u i) e ∙ ap (λ (r : Rec). r .w0) (getD-at pre (head (length s / 2)) (term-records s ++ post) zero-record i at)
 
   pub words-at-poly-records : length s % 2 ≡ 0 → words-at v i ≡ s
   unfolding words-at

@@ -6,7 +6,7 @@ use Prim.Native.Nat.{ℕ, _+_, _-_, _≤_, _<_}
 use native.Mathlib.Omega.{arith}
 use borrow.Author.Needs.{needs}
 use lib.ListN.{getD}
-use Rattle.records.specs.Records.{nul, room, view}
+use Rattle.records.specs.Records.{zero-record, room, view}
 use Rattle.records.proofs.Rows.{length-view}
 use Rattle.stored.specs.Stored.{skip-to, polys-at}
 use Rattle.branches.specs.Area.{Stored, Held, capacity, with-open}
@@ -62,8 +62,8 @@ inside c =
     let o = s .pre .0 in
     let v = view (s .args .w .now) in
     let at = c .get0 .result in
-    let p = getD v at nul .w0 in
-    let l = lies v (capacity (s .args .w .now)) (o .0) (o .1) (o .2) (o .3) at p (getD v at nul .w1) (skip-to v (at + 1) p) (c .get0 .ensures) refl refl refl in
+    let p = getD v at zero-record .w0 in
+    let l = lies v (capacity (s .args .w .now)) (o .0) (o .1) (o .2) (o .3) at p (getD v at zero-record .w1) (skip-to v (at + 1) p) (c .get0 .ensures) refl refl refl in
     omega (arith, length-view (s .args .w .now), l .inside)
 
 get0-requires-2 : tie.Need-get0-requires-2

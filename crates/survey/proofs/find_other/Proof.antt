@@ -5,7 +5,7 @@ use Prim.Native.Nat.{ℕ, _+_}
 use native.Mathlib.Omega.{arith}
 use borrow.Author.Needs.{needs}
 use lib.ListN.{getD}
-use Rattle.records.specs.Records.{nul, view}
+use Rattle.records.specs.Records.{zero-record, view}
 use Rattle.records.proofs.Rows.{length-view}
 use Rattle.stored.specs.Stored.{skip-to}
 use Rattle.branches.specs.Area.{Stored, Held, capacity, with-open}
@@ -24,10 +24,10 @@ module _ (c : tie.After-get0) where
   abbrev start : ℕ
   start = c .get0 .result
 
-  lies-at : (p : ℕ) → p ≡ getD (view area) start nul .w0 → (b : Stored) (bs ss : List Stored) → Held (view area) (capacity area) (with-open b bs ss)
-      → Lies (view area) b start p (getD (view area) start nul .w1) (skip-to (view area) (start + 1) p)
+  lies-at : (p : ℕ) → p ≡ getD (view area) start zero-record .w0 → (b : Stored) (bs ss : List Stored) → Held (view area) (capacity area) (with-open b bs ss)
+      → Lies (view area) b start p (getD (view area) start zero-record .w1) (skip-to (view area) (start + 1) p)
   lies-at p e b bs ss H =
-      lies (view area) (capacity area) b bs ss H start p (getD (view area) start nul .w1) (skip-to (view area) (start + 1) p) (c .get0 .ensures) e refl refl
+      lies (view area) (capacity area) b bs ss H start p (getD (view area) start zero-record .w1) (skip-to (view area) (start + 1) p) (c .get0 .ensures) e refl refl
 
 get0-requires : tie.Need-get0-requires
 get0-requires c κs = search needs
@@ -38,7 +38,7 @@ cast-at c = search needs
 get0-requires-2 : tie.Need-get0-requires-2
 get0-requires-2 c κs =
     let o = c .before .before .pre .0 .0 in
-    omega (arith, length-view (area c), lies-at c (getD (view (area c)) (start c) nul .w0) refl (o .0) (o .1) (o .2) (o .3) .inside)
+    omega (arith, length-view (area c), lies-at c (getD (view (area c)) (start c) zero-record .w0) refl (o .0) (o .1) (o .2) (o .3) .inside)
 
 cast-p : tie.Need-cast-p
 cast-p c = search needs

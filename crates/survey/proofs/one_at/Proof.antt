@@ -8,7 +8,7 @@ use borrow.Author.Needs.{needs}
 use borrow.Author.Tests.{eq-eqb, ne-eqb}
 use lib.Dec.{eqb}
 use lib.ListN.{length, getD}
-use Rattle.records.specs.Records.{nul, view}
+use Rattle.records.specs.Records.{zero-record, view}
 use Rattle.records.proofs.Rows.{length-view}
 use Rattle.stored.specs.Stored.{size-at}
 use Rattle.polynomials.specs.Packed.{bytes}
@@ -42,8 +42,8 @@ returns-2 c =
     let i = s .args .i in
     let fits : i + 1 + size-at v i ≤ length v = omega (arith, length-view (s .args .w .now), s .pre .1) in
     let one : size-at v i ≡ 1 = omega (arith, c .before .before .before .get0 .ensures) in
-    let differ : getD v (i + 1) nul .w0 ≢ 1 = λ (e : getD v (i + 1) nul .w0 ≡ 1). omega (arith, c .before .get02 .ensures) in
-    sym (one-at-first v i fits one ∙ ap (λ (b : Bool). b && all-zeros (bytes 8 (monomial-at v (i + 1)))) (ne-eqb (getD v (i + 1) nul .w0) 1 differ))
+    let differ : getD v (i + 1) zero-record .w0 ≢ 1 = λ (e : getD v (i + 1) zero-record .w0 ≡ 1). omega (arith, c .before .get02 .ensures) in
+    sym (one-at-first v i fits one ∙ ap (λ (b : Bool). b && all-zeros (bytes 8 (monomial-at v (i + 1)))) (ne-eqb (getD v (i + 1) zero-record .w0) 1 differ))
 
 add-monomial : tie.Need-add-monomial
 add-monomial c = search needs
@@ -58,11 +58,11 @@ returns-3 c =
     let i = s .args .i in
     let fits : i + 1 + size-at v i ≤ length v = omega (arith, length-view (s .args .w .now), s .pre .1) in
     let one : size-at v i ≡ 1 = omega (arith, c .before .before .before .before .get0 .ensures) in
-    let first : getD v (i + 1) nul .w0 ≡ 1 = omega (arith, c .before .before .get02 .ensures) in
+    let first : getD v (i + 1) zero-record .w0 ≡ 1 = omega (arith, c .before .before .get02 .ensures) in
     let m = monomial-at v (i + 1) in
     let small : m < 18446744073709551616 = omega (arith, c .monomial .ensures) in
     ap (λ (n : ℕ). eqb n 0) (c .monomial .ensures)
-    ∙ sym (one-at-first v i fits one ∙ ap₂ _&&_ (eq-eqb (getD v (i + 1) nul .w0) 1 first) (sym (all-zeros-bytes 8 m small)))
+    ∙ sym (one-at-first v i fits one ∙ ap₂ _&&_ (eq-eqb (getD v (i + 1) zero-record .w0) 1 first) (sym (all-zeros-bytes 8 m small)))
 
 pub one-at-spec : {M : Type 1} → statement M
 one-at-spec =

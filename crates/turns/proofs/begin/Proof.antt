@@ -4,7 +4,7 @@ use mathlib.Core.Logic.{⊎-elim}
 use Prim.Native.Nat.{ℕ}
 use native.Mathlib.Omega.{arith}
 use lib.ListN.{set}
-use Rattle.records.specs.Records.{mk, view}
+use Rattle.records.specs.Records.{record-of, view}
 use Rattle.records.proofs.Rows.{length-view}
 use Rattle.branches.specs.Area.{capacity}
 use Rattle.turns.proofs.TurnLaws.{begun}
@@ -34,7 +34,7 @@ returns c =
     let v = view w in
     let p = c .before .before .before .before .before .before in
     begun v _ _ (capacity w) (s .pre) (omega (arith, length-view w)) (omega arith)
-    (p .put-rec .ensures ∙ ap (λ (k : ℕ). set v 0 (mk 1 2 k 0)) (most-is (p .before .before .before))) (c .before .before .put-rec2 .ensures)
+    (p .put-rec .ensures ∙ ap (λ (k : ℕ). set v 0 (record-of 1 2 k 0)) (most-is (p .before .before .before))) (c .before .before .put-rec2 .ensures)
 
 pub begin-spec : {M : Type 1} → statement M
 begin-spec =

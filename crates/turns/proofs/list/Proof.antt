@@ -4,11 +4,11 @@ use mathlib.Core.List.{List}
 use Prim.Native.Nat.{ℕ, _≤_, _<_}
 use native.Mathlib.Omega.{arith}
 use lib.ListN.{length}
-use Rattle.records.specs.Records.{mk, room, view}
+use Rattle.records.specs.Records.{record-of, room, view}
 use Rattle.branches.specs.Area.{Stored, Held, with-open, capacity}
 use Rattle.branches.proofs.LengthLaws.{inside-room}
 use Rattle.branches.proofs.AreaLaws.{own-of, lies, first-is, own-read}
-use Rattle.branches.proofs.ControlLaws.{mk-equal, w0-is, w1-is, w2-is, w3-is, Read, bounds-inside}
+use Rattle.branches.proofs.ControlLaws.{record-equal, w0-is, w1-is, w2-is, w3-is, Read, bounds-inside}
 use Rattle.turns.proofs.TurnLaws.{few-systems, listed}
 use borrow.Author.Needs.{needs}
 use Rattle.turns.proofs.list.Statement.{statement}
@@ -88,10 +88,10 @@ Entry r b bs ss = Held (view (w r)) (capacity (w r)) (with-open b bs ss)
 
 module _ {b : Stored} {bs ss : List Stored} where
   own-is : (c : tie.After-get32) → Entry (from-own c) b bs ss
-      → mk (p-read c .get02 .result) (q-read c .get12 .result) (t-read c .get22 .result) (c .get32 .result) ≡ own-of b bs
+      → record-of (p-read c .get02 .result) (q-read c .get12 .result) (t-read c .get22 .result) (c .get32 .result) ≡ own-of b bs
   own-is c H =
       let o = own-read H _ (at-read (from-own c) .get0 .ensures) in
-      mk-equal (w0-is o (p-read c .get02 .ensures)) (w1-is o (q-read c .get12 .ensures)) (w2-is o (t-read c .get22 .ensures)) (w3-is o (c .get32 .ensures))
+      record-equal (w0-is o (p-read c .get02 .ensures)) (w1-is o (q-read c .get12 .ensures)) (w2-is o (t-read c .get22 .ensures)) (w3-is o (c .get32 .ensures))
 
   systems-is : (r : Reading) → Entry r b bs ss → r .get3 .result ≡ length ss
   systems-is r H = w3-is (first-is (lies H)) (r .get3 .ensures)

@@ -60,7 +60,8 @@ decimal-digits (suc k) n f l =
 
 -- ── text ──
 -- The bytes x were copied over the text's rest, of which y is what was not lent.
-pub copied : (text part x rest y : List ℕ) (end k : ℕ) → end ≤ length text → length x ≡ k → part ≡ take (length x) x ++ drop (length x) rest → take (end + k) (take end text ++ (part ++ y)) ≡ take end text ++ x
+pub copied : (text part x rest y : List ℕ) (end k : ℕ) → end ≤ length text → length x ≡ k
+    → part ≡ take (length x) x ++ drop (length x) rest → take (end + k) (take end text ++ (part ++ y)) ≡ take end text ++ x
 copied text part x rest y end k h e q =
     let z = drop (length x) rest in
     ap (λ (p : List ℕ). take (end + k) (take end text ++ p)) (ap (λ (p : List ℕ). p ++ y) (q ∙ ap (λ (p : List ℕ). p ++ z) (take-length x)) ∙ append-assoc x z y)
@@ -88,7 +89,8 @@ line-none text (n ∷ ns) s e q = absurd (omega arith)
 
 module _ (numbers text : List ℕ) (end : ℕ) {e : ℕ} (s : e ≡ end) where
   -- The next number is added behind a blank.
-  pub lined-on : (y : List ℕ) {whole z : List ℕ} (i : ℕ) → i < length numbers → Lined numbers i whole (take end text) → y ≡ take e text ++ (32 ∷ []) → z ≡ y ++ decimal (getD numbers i 0) → Lined numbers (i + 1) whole z
+  pub lined-on : (y : List ℕ) {whole z : List ℕ} (i : ℕ) → i < length numbers → Lined numbers i whole (take end text)
+      → y ≡ take e text ++ (32 ∷ []) → z ≡ y ++ decimal (getD numbers i 0) → Lined numbers (i + 1) whole z
   unfolding rest-text
   lined-on y i h l q f =
       let n = getD numbers i 0 in
@@ -108,7 +110,8 @@ module _ (numbers text : List ℕ) (end : ℕ) {e : ℕ} (s : e ≡ end) where
       ∙ sym (ap (λ (t : List ℕ). take end text ++ rest-text t) (ap (λ (k : ℕ). drop k numbers) h ∙ drop-length numbers)) ∙ l
 
 -- The whole line, of which the first number stands there.
-pub lined-whole : (text : List ℕ) {end e : ℕ} (x : List ℕ) {y : List ℕ} (numbers : List ℕ) → e ≡ end → 0 < length numbers → x ≡ take e text ++ decimal (getD numbers 0 0) → y ≡ x ++ rest-text (drop 1 numbers)
+pub lined-whole : (text : List ℕ) {end e : ℕ} (x : List ℕ) {y : List ℕ} (numbers : List ℕ) → e ≡ end → 0 < length numbers
+    → x ≡ take e text ++ decimal (getD numbers 0 0) → y ≡ x ++ rest-text (drop 1 numbers)
     → y ≡ take end text ++ line-text numbers
 unfolding line-text
 lined-whole text x [] s h e q = absurd (omega arith)

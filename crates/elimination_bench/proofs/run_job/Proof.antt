@@ -6,6 +6,13 @@ use Rattle.input.proofs.InputLaws.{within, within-take}
 use Rattle.elimination_bench.proofs.run_job.Statement.{statement}
 use Rattle.elimination_bench.proofs.run_job.Tie as tie
 
+-- The places: the job is read, the table's length known.
+abbrev table-read : tie.After-n → tie.After-counted
+table-read c = c .before .before .before .before .before .before
+
+abbrev start : tie.After-counted → tie.Start
+start c = c .before .before .before .before .before .before .before .before .before .before .before .before .before .before .before .before .before
+
 slice-aggregate-fill : tie.Need-slice-aggregate-fill
 slice-aggregate-fill c = search needs
 
@@ -73,22 +80,32 @@ returns-4 : tie.Need-returns-4
 returns-4 c = search needs
 
 slice-reshare-prefix-answer : tie.Need-slice-reshare-prefix-answer
-slice-reshare-prefix-answer c = within (c .before .before .before .before .before .before .before .before .before .before .before .counted .last .1 .1 .0) (c .before .before .before .before .before .before .before .before .before .before .before .counted .ensures) (c .before .before .before .before .before .n .given .1)
+slice-reshare-prefix-answer c =
+    let n = c .before .before .before .before .before in
+    let d = table-read n .counted in
+    within (d .last .1 .1 .0) (d .ensures) (n .n .given .1)
 
 slice-aggregate-answer : tie.Need-slice-aggregate-answer
-slice-aggregate-answer c = within-take (c .before .before .before .before .before .before .before .before .before .before .before .before .counted .last .1 .1 .0) (c .before .before .before .before .before .before .before .before .before .before .before .before .counted .ensures) (c .before .before .before .before .before .before .n .given .1)
+slice-aggregate-answer c =
+    let n = c .before .before .before .before .before .before in
+    let d = table-read n .counted in
+    within-take (d .last .1 .1 .0) (d .ensures) (n .n .given .1)
 
 slice-relend-prefix-answer : tie.Need-slice-relend-prefix-answer
 slice-relend-prefix-answer c = search needs
 
 slice-aggregate-answer-2 : tie.Need-slice-aggregate-answer-2
-slice-aggregate-answer-2 c = sym (length-take-le (c .before .before .before .before .before .size .result) (c .before .before .before .before .before .before .before .before .before .before .before .before .before .before .before .before .before .before .before .before .before .before .before .before .before .before .before .before .before .before .args .work .now) (c .before .before .before .if1 .left))
+slice-aggregate-answer-2 c =
+    let a = start (table-read (c .before .before .before .before .before .before .before)) .args in
+    sym (length-take-le (c .before .before .before .before .before .size .result) (a .work .now) (c .before .before .before .if1 .left))
 
 slice-relend-prefix-answer-2 : tie.Need-slice-relend-prefix-answer-2
 slice-relend-prefix-answer-2 c = search needs
 
 slice-aggregate-answer-3 : tie.Need-slice-aggregate-answer-3
-slice-aggregate-answer-3 c = sym (length-take-le (c .before .before .before .before .before .size2 .result) (c .before .before .before .before .before .before .before .before .before .before .before .before .before .before .before .before .before .before .before .before .before .before .before .before .before .before .before .before .before .before .before .args .output .now) (c .before .before .before .if2 .left))
+slice-aggregate-answer-3 c =
+    let a = start (table-read (c .before .before .before .before .before .before .before .before)) .args in
+    sym (length-take-le (c .before .before .before .before .before .size2 .result) (a .output .now) (c .before .before .before .if2 .left))
 
 array-read-answer : tie.Need-array-read-answer
 array-read-answer c = search needs

@@ -33,7 +33,10 @@ slice-relend-prefix-fill : tie.Need-slice-relend-prefix-fill
 slice-relend-prefix-fill c = search needs
 
 slice-aggregate-fill : tie.Need-slice-aggregate-fill
-slice-aggregate-fill c = sym (length-take-le (c .before .before .before .before .count .given .0 .0) (c .before .before .before .before .before .before .before .before .before .before .before .before .args .words .now) (c .before .before .if1 .left))
+slice-aggregate-fill c =
+    let k = c .before .before .before .before in
+    let a = k .before .before .before .before .before .before .before .before .args in
+    sym (length-take-le (k .count .given .0 .0) (a .words .now) (c .before .before .if1 .left))
 
 fill-requires : tie.Need-fill-requires
 fill-requires c κs = search needs

@@ -97,7 +97,9 @@ answer-requires : tie.Need-answer-requires
 answer-requires c κs = search needs
 
 print-requires : tie.Need-print-requires
-print-requires c κs = c .before .before .before .before .before .before .before .before .before .before .before .before .before .before .before .before .before .before .before .before .before .before .before .before .before .before .before .before .before .before .before .before .before .before .before .pre
+print-requires c κs =
+    let d = table-read (table-known (c .before .before .before .before .before)) in
+    d .before .before .before .before .before .before .before .before .before .before .before .before .before .before .pre
 
 same-length-7 : tie.Need-same-length-7
 same-length-7 c =

@@ -7,7 +7,9 @@ use Rattle.elimination_bench.proofs.timing.measure.Statement.{statement
 use Rattle.elimination_bench.proofs.timing.measure.Tie as tie
 
 abbrev Inv-loop : tie.InvT-loop
-Inv-loop table work₀ output₀ limit repetitions batches calls best₀ total₀ left₀ work output best total left = (length work ≡ length work₀) × (length output ≡ length output₀) × (1 ≤ calls) × (1 ≤ batches) × (batches ≤ 16) × (left ≤ batches) × (best ≤ 35184372088832) × (total + 35184372088832 * left ≤ 35184372088832 * batches)
+Inv-loop table work₀ output₀ limit repetitions batches calls best₀ total₀ left₀ work output best total left =
+    (length work ≡ length work₀) × (length output ≡ length output₀) × (1 ≤ calls) × (1 ≤ batches) × (batches ≤ 16) × (left ≤ batches)
+    × (best ≤ 35184372088832) × (total + 35184372088832 * left ≤ 35184372088832 * batches)
 
 abbrev μ-loop : tie.MeasureT-loop
 μ-loop table work₀ output₀ limit repetitions batches calls best₀ total₀ left₀ work output best total left = left

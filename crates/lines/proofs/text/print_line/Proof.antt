@@ -44,6 +44,9 @@ cast-put-number c = omega (arith, c .shared-slice-known2 .given 0)
 put-number-requires : tie.Need-put-number-requires Inv-loop μ-loop
 put-number-requires c κs = search needs
 
+abbrev start : tie.At-loop Inv-loop μ-loop → tie.Start Inv-loop μ-loop
+start c = c .before .before .before .before .before .before .before .before .before .before .before
+
 loop-holds : tie.Need-loop-holds Inv-loop μ-loop
 loop-holds c =
     let n = c .before .before .put-number in
@@ -81,7 +84,8 @@ loop-less c = search needs
 
 loop-again : tie.Need-loop-again Inv-loop μ-loop
 loop-again c =
-    let l = c .before .before .before .before .before .before .before .before .before .before .before .before .loop in
+    let t = c .before .before .before .before .before .before .before .before .before .before .before in
+    let l = t .before .loop in
     let n = c .before .before .put-number2 in
     let b = c .before .before .before .before .before .before .before .put-byte2 in
     let r = c .before .before .before .before .before .before .before .before .before .room2 .ensures in (
@@ -94,7 +98,8 @@ loop-again c =
           let s = r .1 (omega (arith, z .near)) in
           record {
             near = omega (arith, z .near, n .ensures .0, b .ensures .0, s);
-            lined = lined-on (c .before .before .before .before .before .before .before .before .before .before .before .before .before .before .before .before .before .before .before .before .before .before .before .args .numbers .now) (l .text) (l .last) s (take (b .result) (b .last .0)) (l .i) (c .before .before .before .before .before .before .before .before .before .before .before .loop-test .taken) (z .lined) (b .ensures .1) (n .ensures .1);
+            lined = lined-on (start (t .before) .args .numbers .now) (l .text) (l .last) s (take (b .result) (b .last .0)) (l .i)
+                (t .loop-test .taken) (z .lined) (b .ensures .1) (n .ensures .1);
           },
     )
 
@@ -109,9 +114,11 @@ same-length-2 c = search needs
 
 returns-2 : tie.Need-returns-2 Inv-loop μ-loop
 returns-2 c =
-    let a = c .before .before .before .before .before .before .before .before .before .before .before .before .before .before .before .before .before .before .args in
-    let l = c .before .before .before .before .before .before .before .loop in
-    let n = c .before .before .before .before .before .before .before .before .before .before .put-number in
+    let k = c .before .before .before .before .before .before .before in
+    let a = start k .args in
+    let l = k .loop in
+    let n = k .before .before .before .put-number in
+    let m = k .before .before .before .before .before .before .before .room in
     let b = c .before .before .put-byte3 in
     let r = c .before .before .before .before .room3 .ensures in (
       omega (arith, b .ensures .0, r .0, b .kept .0),
@@ -120,7 +127,7 @@ returns-2 c =
           let s = r .1 (omega (arith, z .near)) in
           record {
             near = omega (arith, z .near, b .ensures .0, s);
-            is = lined-whole (a .text .now) (take (n .result) (n .last .0)) (a .numbers .now) (c .before .before .before .before .before .before .before .before .before .before .before .before .before .before .room .ensures .1 (omega arith)) (search needs) (n .ensures .1)
+            is = lined-whole (a .text .now) (take (n .result) (n .last .0)) (a .numbers .now) (m .ensures .1 (omega arith)) (search needs) (n .ensures .1)
                 (lined-end (a .numbers .now) (l .text) (l .last) s (l .i) (omega arith) (z .lined) (b .ensures .1));
           },
     )

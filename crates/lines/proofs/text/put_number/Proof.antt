@@ -35,22 +35,26 @@ copy-requires c κs =
     simp (length-take, length-drop) (omega (arith, l))
 
 add-result : tie.Need-add-result
-add-result c = omega (arith, few-digits (c .before .before .before .before .before .decimal .result) (c .before .before .before .before .before .before .before .before .args .n) (c .before .before .before .before .before .decimal .ensures .1 .0) (search needs))
+add-result c =
+    let d = c .before .before .before .before .before in
+    omega (arith, few-digits (d .decimal .result) (d .before .before .before .args .n) (d .decimal .ensures .1 .0) (search needs))
 
 same-length : tie.Need-same-length
 same-length c = search needs
 
 returns : tie.Need-returns
 returns c =
-    let k = c .before .before .before .before .before .decimal .result in
-    let x = take k (c .before .before .before .before .before .decimal .last .1 .0) in
-    let text = c .before .before .before .before .before .before .before .before .args .text .now in
-    let end = c .before .before .before .before .before .before .before .before .args .end in
-    let l = few-digits k (c .before .before .before .before .before .before .before .before .args .n) (c .before .before .before .before .before .decimal .ensures .1 .0) (search needs) in (
+    let d = c .before .before .before .before .before .decimal in
+    let a = c .before .before .before .before .before .before .before .before .args in
+    let k = d .result in
+    let x = take k (d .last .1 .0) in
+    let text = a .text .now in
+    let end = a .end in
+    let l = few-digits k (a .n) (d .ensures .1 .0) (search needs) in (
       omega (arith, l),
       copied text (c .before .before .copy .last .1 .0) x (take (length text - end) (drop end text)) (drop (length text - end) (drop end text)) end k (omega arith)
-          (length-take-le k (c .before .before .before .before .before .decimal .last .1 .0) (c .before .before .before .before .before .decimal .ensures .0 .0)) (c .before .before .copy .ensures .1)
-          ∙ ap (λ (d : List ℕ). take end text ++ d) (c .before .before .before .before .before .decimal .ensures .1 .1 ∙ decimal-digits k (c .before .before .before .before .before .before .before .before .args .n) (c .before .before .before .before .before .decimal .ensures .1 .0) l),
+          (length-take-le k (d .last .1 .0) (d .ensures .0 .0)) (c .before .before .copy .ensures .1)
+          ∙ ap (λ (t : List ℕ). take end text ++ t) (d .ensures .1 .1 ∙ decimal-digits k (a .n) (d .ensures .1 .0) l),
     )
 
 pub put-number-spec : {M : Type 1} → statement M

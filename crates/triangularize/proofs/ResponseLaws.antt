@@ -32,7 +32,8 @@ records-alone w rest i (suc n) h =
     (records-alone w rest (suc i) n (omega arith))
 
 module _ (w : List ℕ) (work output limit : ℕ) (out : List ℕ) where
-  listed-said : (n : ℕ) (ss : List System) (words : List ℕ) → eliminated w work output limit ≡ listed n ss words → said (answer-of (listed n ss words)) (output-after (listed n ss words) out) ≡ answer-text (listed n ss words)
+  listed-said : (n : ℕ) (ss : List System) (words : List ℕ) → eliminated w work output limit ≡ listed n ss words
+      → said (answer-of (listed n ss words)) (output-after (listed n ss words) out) ≡ answer-text (listed n ss words)
   unfolding said-of answer-text
   listed-said n ss words e =
       let d = listed-delivered w work output limit n ss words e in

@@ -47,7 +47,8 @@ pub said-refused : (steps at : ℕ) (out : List ℕ) {why : Reason} {o : Outcome
 unfolding said-of
 said-refused steps at out eo en e = e ∙ ap (λ (k : ℕ). line-text (k ∷ steps ∷ at ∷ [])) en ∙ ap (λ (x : Outcome). said-of steps x out) (sym eo)
 
-pub said-systems : (steps count : ℕ) (out x : List ℕ) {o : Outcome} {k : ℕ} {t : List ℕ} → o ≡ Systems count → x ≡ line-text (0 ∷ steps ∷ count ∷ []) → k ≡ extent out → t ≡ x ++ records-text out 0 k → t ≡ said-of steps o out
+pub said-systems : (steps count : ℕ) (out x : List ℕ) {o : Outcome} {k : ℕ} {t : List ℕ} → o ≡ Systems count → x ≡ line-text (0 ∷ steps ∷ count ∷ [])
+    → k ≡ extent out → t ≡ x ++ records-text out 0 k → t ≡ said-of steps o out
 unfolding said-of
 said-systems steps count out x {o} {k} eo ex ek e =
     e ∙ ap (λ (j : ℕ). x ++ records-text out 0 j) ek ∙ ap (λ (y : List ℕ). y ++ records-text out 0 (extent out)) ex

@@ -55,7 +55,10 @@ returns-2 c =
     let l = c .before .before .before .before .before .before .before .print-line2 in
     let e = l .ensures .1 (omega arith) in
     let p = c .before .before .put-records in
-    (omega (arith, e .near, p .ensures .0, p .kept .0, l .kept .0, c .before .before .before .written-records .ensures .1), said-systems (a .answer .steps) (r .0 .0) (a .output .now) (take (l .result) (l .last .0)) (r .1) (e .is) (c .before .before .before .written-records .ensures .0) (p .ensures .1))
+    let w = c .before .before .before .written-records in (
+      omega (arith, e .near, p .ensures .0, p .kept .0, l .kept .0, w .ensures .1),
+      said-systems (a .answer .steps) (r .0 .0) (a .output .now) (take (l .result) (l .last .0)) (r .1) (e .is) (w .ensures .0) (p .ensures .1),
+    )
 
 pub put-answer-spec : {M : Type 1} → statement M
 put-answer-spec =

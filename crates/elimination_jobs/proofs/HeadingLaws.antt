@@ -42,7 +42,8 @@ module _ (w : List ℕ) (i k : ℕ) (h : k + 1 ≡ i) (l : i ≤ length w) {n : 
 pub heading-systems : (steps count k : ℕ) {o : Outcome} → o ≡ Systems count → _≡_ {A = Heading} (record { outcome = 0; steps = steps; value = count; nonzero = k }) (heading steps o k)
 heading-systems steps count k e = ap (λ (o : Outcome). heading steps o k) (sym e)
 
-pub heading-refused : (steps at k : ℕ) {why : Reason} {o : Outcome} {n : ℕ} → o ≡ Refused why at → n ≡ number why → _≡_ {A = Heading} (record { outcome = n; steps = steps; value = at; nonzero = k }) (heading steps o k)
+pub heading-refused : (steps at k : ℕ) {why : Reason} {o : Outcome} {n : ℕ} → o ≡ Refused why at → n ≡ number why
+    → _≡_ {A = Heading} (record { outcome = n; steps = steps; value = at; nonzero = k }) (heading steps o k)
 heading-refused steps at k e f = ap (λ (n : ℕ). record { outcome = n; steps = steps; value = at; nonzero = k }) f ∙ ap (λ (o : Outcome). heading steps o k) (sym e)
 
 -- ── the shape ──

@@ -21,7 +21,10 @@ slice-reshare-prefix-run-all : tie.Need-slice-reshare-prefix-run-all
 slice-reshare-prefix-run-all c = search needs
 
 slice-aggregate-run-all : tie.Need-slice-aggregate-run-all
-slice-aggregate-run-all c = sym (length-take-le (c .before .before .shorter .result) (c .before .before .before .before .before .before .before .before .before .before .before .before .before .before .before .before .run .last .1 .1 .0) (c .before .before .shorter .ensures .1))
+slice-aggregate-run-all c =
+    let s = c .before .before in
+    let r = s .before .before .before .before .before .before .before .before .before .before .before .before .before .before .run in
+    sym (length-take-le (s .shorter .result) (r .last .1 .1 .0) (s .shorter .ensures .1))
 
 run-all-requires : tie.Need-run-all-requires
 run-all-requires c κs = search needs

@@ -59,8 +59,14 @@ loop-less c = search needs
 loop-again : tie.Need-loop-again Inv-loop μ-loop
 loop-again c =
     let r = c .before .before .before .before .before .before .before .before .before .before .before .before .before .run-job in
-    let i = c .before .before .before .before .before .before .before .before .before .before .before .before .before .before .before .before .before .before .before .before .loop .inv in
-    (r .kept .0 ∙ i .0, r .kept .1 .1 .0 ∙ i .1, r .kept .1 .1 .1 .0 ∙ i .2, r .kept .1 .1 .1 .1 .0 ∙ i .3, r .kept .1 .1 .1 .1 .1 .0 ∙ i .4, ends-next (r .last .1 .1 .1 .1 .1 .0) (r .ensures) (c .before .after .given .1))
+    let i = c .before .before .before .before .before .before .before .before .before .before .before .before .before .before .before .before .before .before .before .before .loop .inv in (
+      r .kept .0 ∙ i .0,
+      r .kept .1 .1 .0 ∙ i .1,
+      r .kept .1 .1 .1 .0 ∙ i .2,
+      r .kept .1 .1 .1 .1 .0 ∙ i .3,
+      r .kept .1 .1 .1 .1 .1 .0 ∙ i .4,
+      ends-next (r .last .1 .1 .1 .1 .1 .0) (r .ensures) (c .before .after .given .1),
+    )
 
 same-length-6 : tie.Need-same-length-6 Inv-loop μ-loop
 same-length-6 c = search needs

@@ -8,7 +8,8 @@ use Rattle.elimination_jobs.proofs.tries.run_all.Statement.{statement}
 use Rattle.elimination_jobs.proofs.tries.run_all.Tie as tie
 
 abbrev Inv-loop : tie.InvT-loop
-Inv-loop bytes₀ table systems count text₀ end numbers₀ rest₀ last₀ left₀ bytes text numbers rest last left = (length bytes ≡ length bytes₀) × (length numbers ≡ 16) × (length text ≡ length text₀) × (last ≤ length text)
+Inv-loop bytes₀ table systems count text₀ end numbers₀ rest₀ last₀ left₀ bytes text numbers rest last left =
+    (length bytes ≡ length bytes₀) × (length numbers ≡ 16) × (length text ≡ length text₀) × (last ≤ length text)
 
 abbrev μ-loop : tie.MeasureT-loop
 μ-loop bytes₀ table systems count text₀ end numbers₀ rest₀ last₀ left₀ bytes text numbers rest last left = left

@@ -19,7 +19,8 @@ place-line-requires c κs = search needs
 returns : tie.Need-returns
 returns c =
     let a = c .before .before .before .before .before .before .before .args in
-    tried-both (a .table .now) (a .systems .now) (a .numbers .now) (c .before .before .before .try-table .ensures) (c .before .before .try-list .ensures) (c .before .trial-line .ensures) (c .place-line .ensures)
+    tried-both (a .table .now) (a .systems .now) (a .numbers .now)
+    (c .before .before .before .try-table .ensures) (c .before .before .try-list .ensures) (c .before .trial-line .ensures) (c .place-line .ensures)
 
 pub try-both-spec : {M : Type 1} → statement M
 try-both-spec =

@@ -1,6 +1,6 @@
 -- When a put into P or Q keeps the branch, when it adds the polynomial, and when there is no room for it.
 use mathlib.Core.Path.{_≡_, refl, sym, ap, ap₂, _∙_, subst}
-use mathlib.Core.Bool.{Bool, true, false, _&&_, _||_}
+use mathlib.Core.Bool.{Bool, true, false, _&&_, _||_, false≢true}
 use mathlib.Core.List.{List, [], _∷_, _++_, append-assoc}
 use Prim.Native.Nat.{ℕ, zero, suc, _+_, _-_, _/_, _<_}
 use native.Mathlib.Omega.{arith}
@@ -20,9 +20,6 @@ pub leaves-held : {v : List Rec} {most : ℕ} {a : Area} → Held v most a → L
 unfolding size
 leaves-held {v} {most} {a} H = record { answer = sym (le-leb (size a) most (omega (arith, H .fits))); held = λ e. H }
 
-nothing : false ≡ true → ⊥
-nothing e = let z : _≡_ {A = ℕ} 0 1 = cc in omega arith
-
 module _ {v : List Rec} {most : ℕ} {b : Stored} {bs ss : List Stored} (H : Held v most (with-open b bs ss)) where
   pub no-room : {b₁ : Stored} {xs : List (List ℕ)} {f : List ℕ} {ys : List (List ℕ)} → More b b₁ xs f ys → length (H .free) < length f / 2 + 1
       → Leaves most (with-open b₁ bs ss) false v
@@ -30,7 +27,7 @@ module _ {v : List Rec} {most : ℕ} {b : Stored} {bs ss : List Stored} (H : Hel
   no-room {b₁} m h =
       record {
         answer = sym (lt-leb (size (with-open b₁ bs ss)) most (omega (arith, room-is H, end-is b₁ bs, more-ends m bs)));
-        held = λ e. absurd (nothing e);
+        held = λ e. absurd (false≢true e);
       }
 
   -- The counts of the open branch are small.
@@ -102,10 +99,10 @@ pub not-one-by-length : (f : List ℕ) → (length f ≡ 2 → ⊥) → is-one f
 not-one-by-length f h = is-false (is-one f) (λ e. h (ap length (ones f e)))
 
 pub not-one-by-coefficient : (f : List ℕ) → eqb (getD f 0 0) 1 ≡ false → is-one f ≡ false
-not-one-by-coefficient f h = is-false (is-one f) (λ e. nothing (sym h ∙ ap (λ (l : List ℕ). eqb (getD l 0 0) 1) (ones f e)))
+not-one-by-coefficient f h = is-false (is-one f) (λ e. false≢true (sym h ∙ ap (λ (l : List ℕ). eqb (getD l 0 0) 1) (ones f e)))
 
 pub not-one-by-monomial : (f : List ℕ) → eqb (getD f 1 0) 0 ≡ false → is-one f ≡ false
-not-one-by-monomial f h = is-false (is-one f) (λ e. nothing (sym h ∙ ap (λ (l : List ℕ). eqb (getD l 1 0) 0) (ones f e)))
+not-one-by-monomial f h = is-false (is-one f) (λ e. false≢true (sym h ∙ ap (λ (l : List ℕ). eqb (getD l 1 0) 0) (ones f e)))
 
 pub put-Q-one : (f : List ℕ) (fs : List (List ℕ)) → is-one f ≡ true → put-Q f fs ≡ fs
 unfolding put-Q

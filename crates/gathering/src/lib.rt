@@ -1,7 +1,7 @@
 // The rows of a product, gathered in two lent buffers: a row, one term of a factor times the other factor, is added at a time.
 //
 // What is gathered can pass 256 terms and come back by cancelling. But a row cancels no more terms than it has, so the gathering
-// stops once the rows left can't bring it back: half of all term products is the most that a buffer must hold. Mostly it is far less:
+// stops once the rows left can't bring it back: little more than half of all term products (`room-for`) is the most that a buffer must hold. Mostly it is far less:
 // a gathering goes on until a row finds no room.
 ghost use mathlib.Core.Path.{_≡_};
 ghost use mathlib.Core.Bool.{false};

@@ -19,7 +19,7 @@ use Rattle.elimination.specs.declared.Answer.{Answer}
 use Rattle.run.specs.Stretch.{Ran}
 use Rattle.loading.specs.Started.{Started}
 use Rattle.loading.proofs.MonicLaws.{readable-modulus}
-use Rattle.tables.specs.laws.Accepted.{TableRead as Chains, table-read as chains}
+use Rattle.tables.specs.laws.Accepted.{TableRead, table-read}
 use Rattle.elimination.proofs.StretchLaws.{Runs, runs-from-0}
 use Rattle.elimination.proofs.WholeLaws.{no-room, begins, run-is, in-words}
 use Rattle.elimination.proofs.eliminate_accepted.Statement.{statement}
@@ -37,9 +37,9 @@ module _ (s : tie.Start) where
   abbrev due : Input → Ended
   due t = run-of (limits-in most) (s .args .limit) t
 
-  -- The chains of the table that the contract's `requires` tells of.
-  told : Chains (s .args .table .now) (s .pre .0)
-  told = chains (s .args .table .now) (s .pre .0) (s .pre .1)
+  -- What is read of the table that the contract's `requires` tells of.
+  told : TableRead (s .args .table .now) (s .pre .0)
+  told = table-read (s .args .table .now) (s .pre .0) (s .pre .1)
 
   header : 4 ≤ length (s .args .table .now)
   header = readable-words (told .readable)
@@ -123,7 +123,7 @@ module _ (m : tie.Joined2) where
       let a = entry from-start .args in
       subst (Ran (due (entry from-start) t) (t .modulus) (answer .steps) (answer .outcome) (view left)) left-room
       (run-is t (most (entry from-start)) (a .limit) (view (area from-start)) (begun from-start t e) (found-room (run-due m))
-      (chains (a .table .now) t e .modulus) (same-room from-start) (has-run .1))
+      (table-read (a .table .now) t e .modulus) (same-room from-start) (has-run .1))
 
 -- ── the answers ──
 slice-aggregate-start : tie.Need-slice-aggregate-start

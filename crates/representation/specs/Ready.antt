@@ -1,6 +1,6 @@
 -- What holds of the state in the work area between two steps of the run.
 use mathlib.Core.Logic.{_≢_}
-use mathlib.Core.List.{List, [], _∷_}
+use mathlib.Core.List.{List, []}
 use Prim.Native.Nat.{ℕ, _-_, _<_}
 use Rattle.residues.specs.Each.{Each}
 use Rattle.residues.specs.Prime.{Prime}
@@ -11,13 +11,11 @@ use Rattle.representation.specs.Represent.{All-listed, Area-sound, All-m
 
 -- Every polynomial of every P is monic, as each was put.
 abbrev pub P-monic : List Stored → Type 0
-P-monic [] = Unit {0}
-P-monic (b ∷ bs) = All-monic (b .P) × P-monic bs
+P-monic bs = Each (λ b. All-monic (b .P)) bs
 
 -- No polynomial of a P is zero: none was put.
 abbrev pub P-nonzero : List Stored → Type 0
-P-nonzero [] = Unit {0}
-P-nonzero (b ∷ bs) = Each (λ f. f ≢ []) (b .P) × P-nonzero bs
+P-nonzero bs = Each (λ b. Each (λ f. f ≢ []) (b .P)) bs
 
 pub record Ready (p : ℕ) (a : Area) : Type 0 where
   pub sound : Area-sound p a

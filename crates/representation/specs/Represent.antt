@@ -38,8 +38,7 @@ pub record Sound (p : ℕ) (s : List ℕ) : Type 0 where
   pub small : (i : ℕ) → getD s i 0 < 18446744073709551616
 
 abbrev pub All-sound : ℕ → List (List ℕ) → Type 0
-All-sound p [] = Unit {0}
-All-sound p (f ∷ fs) = Sound p f × All-sound p fs
+All-sound p fs = Each (Sound p) fs
 
 -- The first coefficient is 1, if there is one.
 abbrev pub Monic : Poly → Type 0
@@ -55,8 +54,7 @@ pub record Branch-sound (p : ℕ) (b : Stored) : Type 0 where
   pub in-T : All-sound p (b .T)
 
 abbrev pub Branches-sound : ℕ → List Stored → Type 0
-Branches-sound p [] = Unit {0}
-Branches-sound p (b ∷ bs) = Branch-sound p b × Branches-sound p bs
+Branches-sound p bs = Each (Branch-sound p) bs
 
 pub record Area-sound (p : ℕ) (a : Area) : Type 0 where
   pub branches : Branches-sound p (a .branches)
@@ -64,5 +62,4 @@ pub record Area-sound (p : ℕ) (a : Area) : Type 0 where
 
 -- The listed branches have an empty P: it is no part of a system.
 abbrev pub All-listed : List Stored → Type 0
-All-listed [] = Unit {0}
-All-listed (b ∷ bs) = (b .P ≡ []) × All-listed bs
+All-listed bs = Each (λ b. b .P ≡ []) bs

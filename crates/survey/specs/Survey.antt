@@ -2,6 +2,7 @@
 use mathlib.Core.Bool.{true, false, _||_}
 use mathlib.Core.List.{List, [], _∷_}
 use Prim.Native.Nat.{ℕ, _-_}
+use Rattle.residues.specs.Each.{Each}
 use Rattle.polynomials.specs.Poly.{Poly}
 use Rattle.polynomials.specs.Working.{Holds}
 use Rattle.rules.specs.Branch.{Branch, Found, none, found, some-one, some-zero, highest-leader, pivot}
@@ -12,8 +13,7 @@ use Rattle.survey.specs.declared.Other.the-variants.{None, At}
 
 -- A stored polynomial is canonical modulo p, with at most 256 terms.
 abbrev pub All-hold : ℕ → List (List ℕ) → Type 0
-All-hold p [] = Unit {0}
-All-hold p (s ∷ ss) = Holds p s × All-hold p ss
+All-hold p ss = Each (Holds p) ss
 
 abbrev pub choice-of-P : List Poly → Choice
 choice-of-P [] = Lists

@@ -18,7 +18,7 @@ use Rattle.tables.specs.declared.Reason.{Reason}
 use Rattle.rules.specs.Branch.{Branch}
 use Rattle.rules.specs.Room.{Limits, unlimited}
 use Rattle.rules.specs.Step.{stopped, step}
-use Rattle.rules.specs.Run.{finished, run-of}
+use Rattle.rules.specs.Run.{finished, run-steps, run-of}
 use Rattle.rules.specs.Eliminate.{limits-of, listed, turned-back, steps-of, eliminated}
 use Rattle.rules.specs.Cause.{Cause, Met}
 use Rattle.rules.specs.Jobs
@@ -26,6 +26,7 @@ use Rattle.rules.specs.Solutions.{Some, Solves-input, Solves-system, Non
 use Rattle.rules.specs.laws.Points
 use Rattle.rules.specs.laws.Initials
 use Rattle.rules.specs.laws.Rising as RisingLaws
+use Rattle.rules.specs.laws.Runs
 use Rattle.rules.specs.laws.Causes
 use Rattle.rules.specs.laws.Answers
 use Rattle.rules.specs.laws.AdmissibleRun
@@ -53,6 +54,10 @@ module _ (l : Limits) (limit : ℕ) (t : Input) (proper : Proper t) (n : ℕ) (s
 
   pub initials-modulo : (x : List ℕ) → Each (λ s. solves (t .modulus) x (s .T) (s .U) ≡ true → Each (λ f. value-modulo (t .modulus) (initial (leader f - 1) f) x ≢ 0) (s .T)) ss
   initials-modulo x = Answers.initials-modulo l limit t proper n ss ended x
+
+-- "Never more than the caller's limit", under any limits: of a run that finished and of one that was refused.
+pub run-steps-within : (l : Limits) (limit : ℕ) (t : Input) → run-steps (run-of l limit t) ≤ limit
+run-steps-within l limit t = Runs.run-of-steps l limit t
 
 -- A call of elimination, over the words of the table, of the work area and of the output, and the limit.
 module _ (w : List ℕ) (work output limit : ℕ) where

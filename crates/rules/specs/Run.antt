@@ -13,6 +13,11 @@ pub data Ended : Type 0 where
   finished : ℕ → List System → Ended
   refused : ℕ → Reason → Ended
 
+-- The whole steps of a run.
+abbrev pub run-steps : Ended → ℕ
+run-steps (finished n ss) = n
+run-steps (refused n why) = n
+
 abbrev pub after-step : (State → Ended) → ℕ → Stepped → Ended
 after-step k n (next s) = k s
 after-step k n (stopped why) = refused n why

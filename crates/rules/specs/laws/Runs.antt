@@ -12,7 +12,7 @@ use Rattle.tables.specs.declared.Reason.the-variants.{Room, Steps}
 use Rattle.rules.specs.Branch.{Branch}
 use Rattle.rules.specs.Room.{Limits, State, live}
 use Rattle.rules.specs.Step.{Stepped, next, stopped, step}
-use Rattle.rules.specs.Run.{Ended, finished, refused, after-step, run, start, run-of}
+use Rattle.rules.specs.Run.{Ended, finished, refused, run-steps, after-step, run, start, run-of}
 use Rattle.rules.specs.Cause.{Leads, first-state}
 use Rattle.rules.specs.laws.Taken.{within-room-is, Taken, step-taken}
 
@@ -154,10 +154,6 @@ module _ {ℓ} (l : Limits) (t : Input) (Inv : State → Type ℓ) where
       run-of-steps-keep (λ b waiting listed s f. keeps b waiting listed s (step-taken l (t .modulus) waiting listed b s f)) limit n ss e (λ o. h)
 
 -- ── steps ──
-abbrev pub run-steps : Ended → ℕ
-run-steps (finished n ss) = n
-run-steps (refused n why) = n
-
 pub run-of-steps : (l : Limits) (limit : ℕ) (t : Input) → run-steps (run-of l limit t) ≤ limit
 run-of-steps l limit t =
     run-of-ends l t limit (λ r. run-steps r ≤ limit) (λ o. omega arith) (λ n s b bs o h q u. omega (arith, q)) (λ n s b bs why o h q u f. omega (arith, q))

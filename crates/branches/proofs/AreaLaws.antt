@@ -2,29 +2,21 @@
 -- looked at as one list.
 use mathlib.Core.Path.{_≡_, sym, ap, ap₂, _∙_}
 use mathlib.Core.List.{List, [], _∷_, _++_, append-assoc}
-use Prim.Native.Nat.{ℕ, zero, suc, _+_, _*_, _-_, _/_, _%_, _≤_, _<_}
+use Prim.Native.Nat.{ℕ, suc, _+_, _*_, _-_, _/_, _%_, _≤_, _<_}
 use native.Mathlib.Omega.{arith}
 use lib.ListN.{length, take, drop, getD, set, length-append, length-drop, take-append-drop}
 use lib.Seq.{getD-at, set-at, drop-append-le, length-take-le, take-all, split-at}
+use Rattle.residues.specs.Each.{Each}
+use Rattle.residues.specs.laws.Each.{each-take, each-member}
 use Rattle.records.specs.Records.{Rec, record-of, zero-record}
 use Rattle.stored.specs.Stored.{poly-records, polys-records, size-at, words-at, skip-to, polys-at, inserted, removed, Storable}
 use Rattle.stored.specs.laws.Stored.{length-poly-records, polys-records-append, size-at-poly-records, words-at-poly-records, skip-to-polys-records}
 use Rattle.stored.specs.laws.Stored.{polys-at-polys-records, inserted-in-parts, removed-in-parts, All-pairs}
-use Rattle.branches.specs.Area.{Stored, Held, with-open, stack, systems-records, branch-records, All-storable}
+use Rattle.branches.specs.Area.{Stored, Held, with-open, stack, systems-records, branch-records, Storable-branch}
 
-pub all-pairs : (fs : List (List ℕ)) → All-storable fs → All-pairs fs
+pub all-pairs : (fs : List (List ℕ)) → Each Storable fs → All-pairs fs
 all-pairs [] h = h
 all-pairs (f ∷ fs) h = (h .0 .pairs, all-pairs fs (h .1))
-
-pub storable-take : (k : ℕ) (fs : List (List ℕ)) → All-storable fs → All-storable (take k fs)
-storable-take zero fs h = tt
-storable-take (suc k) [] h = h
-storable-take (suc k) (f ∷ fs) h = (h .0, storable-take k fs (h .1))
-
-pub storable-member : (fs : List (List ℕ)) (i : ℕ) → i < length fs → All-storable fs → Storable (getD fs i [])
-storable-member [] i l h = absurd (omega arith)
-storable-member (f ∷ fs) zero l h = h .0
-storable-member (f ∷ fs) (suc i) l h = storable-member fs i (omega arith) (h .1)
 
 -- ── a branch's record, then polynomials fs ──
 abbrev pub place : ℕ → List (List ℕ) → ℕ
@@ -71,7 +63,7 @@ module _ {v pre : List Rec} {own : Rec} {fs : List (List ℕ)} {free fin : List 
   pub skips : (xs gs ys : List (List ℕ)) → fs ≡ xs ++ (gs ++ ys) → skip-to v (place at xs) (length gs) ≡ place at xs + length (polys-records gs)
   skips xs gs ys s = skip-to-polys-records v (front xs) (place at xs) gs (polys-records ys ++ (free ++ fin)) (length-front xs) (split₂ xs gs ys s)
 
-  pub finds : (xs gs ys : List (List ℕ)) → fs ≡ xs ++ (gs ++ ys) → All-storable gs → polys-at v (place at xs) (length gs) ≡ gs
+  pub finds : (xs gs ys : List (List ℕ)) → fs ≡ xs ++ (gs ++ ys) → Each Storable gs → polys-at v (place at xs) (length gs) ≡ gs
   finds xs gs ys s h =
       polys-at-polys-records v (front xs) (place at xs) gs (polys-records ys ++ (free ++ fin)) (length-front xs) (split₂ xs gs ys s) (all-pairs gs h)
 
@@ -214,13 +206,10 @@ module _ {v : List Rec} {most : ℕ} {b : Stored} {bs ss : List Stored} (H : Hel
         length-append (systems-records ss) (H .beyond),
       )
 
-  pub storable-open : All-storable (b .P) × All-storable (b .Q) × All-storable (b .T)
-  storable-open = (H .storable .0 .0, H .storable .0 .1, H .storable .0 .2)
-
   -- The state with another open branch, from its records.
   pub held-again : (v₁ : List Rec) (b₁ : Stored) (free : List Rec)
       → Lies v₁ (control b₁ bs ss free ∷ stack bs .0) (own-of b₁ bs) (all b₁) free (systems-records ss ++ H .beyond) (at-of bs)
-      → end-of b₁ bs + length free ≡ end-of b bs + length (H .free) → All-storable (b₁ .P) × All-storable (b₁ .Q) × All-storable (b₁ .T)
+      → end-of b₁ bs + length free ≡ end-of b bs + length (H .free) → Storable-branch b₁
       → Held v₁ most (with-open b₁ bs ss)
   held-again v₁ b₁ free L ends h =
       record {
@@ -229,7 +218,7 @@ module _ {v : List Rec} {most : ℕ} {b : Stored} {bs ss : List Stored} (H : Hel
         is = L .is ∙ sym (same-records b₁ bs ss free (systems-records ss ++ H .beyond));
         fits = omega (arith, H .fits, end-is b bs, end-is b₁ bs);
         few = H .few;
-        storable = ((h .0, h .1, h .2, H .storable .0 .3), H .storable .1);
+        storable = ((h, H .storable .0 .1), H .storable .1);
       }
 
 -- ── reading the open branch ──
@@ -289,7 +278,7 @@ module _ {v : List Rec} {most : ℕ} {b : Stored} {bs ss : List Stored} (H : Hel
   pub in-Q : (q k : ℕ) → q ≡ place (at-of bs) (b .P) → k ≤ length (b .Q) → polys-at v q k ≡ take k (b .Q)
   in-Q q k e h =
       ap₂ (polys-at v) e (sym (length-take-le k (b .Q) h))
-      ∙ finds (lies H) (b .P) (take k (b .Q)) (drop k (b .Q) ++ b .T) (parted-Q-behind b k) (storable-take k (b .Q) (H .storable .0 .1))
+      ∙ finds (lies H) (b .P) (take k (b .Q)) (drop k (b .Q) ++ b .T) (parted-Q-behind b k) (each-take Storable k (b .Q) (H .storable .0 .0 .1))
 
   pub skip-Q : (q k : ℕ) → q ≡ place (at-of bs) (b .P) → k ≤ length (b .Q) → skip-to v q k ≡ place (at-of bs) (b .P ++ take k (b .Q))
   skip-Q q k e h =
@@ -320,7 +309,7 @@ module _ {v : List Rec} {most : ℕ} {b : Stored} {bs ss : List Stored} (H : Hel
     pub in-P : (k : ℕ) → k ≤ length (b .P) → polys-at v (a + 1) k ≡ take k (b .P)
     in-P k h =
         ap₂ (polys-at v) from-P (sym (length-take-le k (b .P) h))
-        ∙ finds (lies H) [] (take k (b .P)) (drop k (b .P) ++ (b .Q ++ b .T)) (parted-P b k) (storable-take k (b .P) (H .storable .0 .0))
+        ∙ finds (lies H) [] (take k (b .P)) (drop k (b .P) ++ (b .Q ++ b .T)) (parted-P b k) (each-take Storable k (b .P) (H .storable .0 .0 .0))
 
     pub skip-P : (k : ℕ) → k ≤ length (b .P) → skip-to v (a + 1) k ≡ place (at-of bs) (take k (b .P))
     skip-P k h =
@@ -348,4 +337,4 @@ module _ {v : List Rec} {most : ℕ} {b : Stored} {bs ss : List Stored} (H : Hel
 
       pub found-P : (r : ℕ) → r ≡ skip-to v (a + 1) i → Found v most r (getD (b .P) i [])
       found-P r e =
-          found (take i (b .P)) (getD (b .P) i []) (drop (suc i) (b .P) ++ (b .Q ++ b .T)) (parted-at-P b i h) (storable-member (b .P) i h (H .storable .0 .0)) r (e ∙ skip-P i (omega arith))
+          found (take i (b .P)) (getD (b .P) i []) (drop (suc i) (b .P) ++ (b .Q ++ b .T)) (parted-at-P b i h) (each-member Storable i (b .P) [] h (H .storable .0 .0 .0)) r (e ∙ skip-P i (omega arith))

@@ -9,7 +9,8 @@ use mathlib.Core.List.{List, [], _∷_, _++_}
 use Prim.Native.Nat.{ℕ, _+_, _-_, _/_, _≤_, min}
 use lib.Dec.{leb}
 use lib.ListN.{length, getD, take, drop}
-use Rattle.records.specs.Records.{Rec, record-of}
+use Rattle.residues.specs.Each.{Each}
+use Rattle.records.specs.Records.{Rec, record-of, view}
 use Rattle.stored.specs.Stored.{polys-records, Storable}
 use Rattle.branches.specs.Words.{put-P, put-Q-before, remove}
 
@@ -46,13 +47,8 @@ abbrev pub capacity : List ℕ → ℕ
 capacity w = min (length w / 4) 65536
 
 -- All polynomials are such as records can hold.
-abbrev pub All-storable : List (List ℕ) → Type 0
-All-storable [] = Unit {0}
-All-storable (f ∷ fs) = Storable f × All-storable fs
-
-abbrev pub Branches-storable : List Stored → Type 0
-Branches-storable [] = Unit {0}
-Branches-storable (b ∷ bs) = All-storable (b .P) × All-storable (b .Q) × All-storable (b .T) × Branches-storable bs
+abbrev pub Storable-branch : Stored → Type 0
+Storable-branch b = Each Storable (b .P) × Each Storable (b .Q) × Each Storable (b .T)
 
 -- The records v hold the state a, in a work area with so many records.
 pub record Held (v : List Rec) (most : ℕ) (a : Area) : Type 0 where
@@ -63,7 +59,7 @@ pub record Held (v : List Rec) (most : ℕ) (a : Area) : Type 0 where
       ∷ (stack (a .branches) .0 ++ (free ++ (systems-records (a .systems) ++ beyond)))
   pub fits : 1 + length (stack (a .branches) .0) + length free + length (systems-records (a .systems)) ≡ most
   pub few : most ≤ 65536
-  pub storable : Branches-storable (a .branches) × Branches-storable (a .systems)
+  pub storable : Each Storable-branch (a .branches) × Each Storable-branch (a .systems)
 
 -- An operation that may find no room: it answers whether the state fits, and leaves it if so.
 pub record Leaves (most : ℕ) (a : Area) (r : Bool) (v : List Rec) : Type 0 where
@@ -111,6 +107,19 @@ kept-open i n f initial c =
 abbrev pub split-area : ℕ → List ℕ → List ℕ → Stored → List Stored → List Stored → Area
 split-area i initial rest b bs ss = record { branches = put-into-Q 0 initial b ∷ (aside i initial rest b ∷ bs); systems = ss }
 
+-- ── what a lent work area holds, before and after a call ──
+-- The words hold the state a.
+abbrev pub Held-in : List ℕ → Area → Type 0
+Held-in w a = Held (view w) (capacity w) a
+
 -- Some state with an open branch is held.
-abbrev pub Opened : List Rec → ℕ → Type 0
-Opened v most = (b : Stored) × (bs : List Stored) × (ss : List Stored) × Held v most (with-open b bs ss)
+abbrev pub Opened : List ℕ → Type 0
+Opened w = (b : Stored) × (bs : List Stored) × (ss : List Stored) × Held-in w (with-open b bs ss)
+
+-- Φ, of the open branch, the waiting ones and the systems that the words hold.
+abbrev pub When-open : List ℕ → (Stored → List Stored → List Stored → Type 0) → Type 0
+When-open w Φ = (b : Stored) (bs ss : List Stored) → Held-in w (with-open b bs ss) → Φ b bs ss
+
+-- The open branch b becomes g b; the waiting branches and the systems stay.
+abbrev pub Open-becomes : (Stored → Stored) → List ℕ → List ℕ → Type 0
+Open-becomes g w w' = When-open w (λ b bs ss. Held (view w') (capacity w) (with-open (g b) bs ss))

@@ -1,18 +1,17 @@
 // The state of a run in the work area: the open branch, the waiting ones, and the listed systems; `specs/Area.antt` has the layout. What is read of the
 // open branch: whether Q holds a polynomial, and the words of one.
 ghost use mathlib.Core.Path.{_≡_};
-ghost use mathlib.Core.List.{List, []};
+ghost use mathlib.Core.List.{[]};
 ghost use Prim.Native.Nat.{_≤_, _<_};
 ghost use lib.ListN.{length, getD, take};
-ghost use Rattle.records.specs.Records.{view};
 ghost use Rattle.stored.specs.Stored.{member, Storable};
-ghost use Rattle.branches.specs.Area.{Stored, Held, Opened, capacity, with-open};
+ghost use Rattle.branches.specs.Area.{Opened, When-open};
 
 // Whether Q holds f.
 pub fn find_q(w: &[u32], f: &[u64]) -> bool
-    requires { ⌜ Opened (view (now w)) (capacity (now w)) ⌝ }
+    requires { ⌜ Opened (now w) ⌝ }
     requires { ⌜ Storable (now f) ⌝ }
-    ensures { λ r. ⌜ ((b : Stored) (bs ss : List Stored) → Held (view (now (w .entry))) (capacity (now (w .entry))) (with-open b bs ss) → r ≡ member (now (f .entry)) (b .Q)) ⌝ }
+    ensures { λ r. ⌜ When-open (now (w .entry)) (λ b bs ss. r ≡ member (now (f .entry)) (b .Q)) ⌝ }
 {
     let at = records::get0(w, 0) as usize;
     let p = records::get0(w, at) as usize;
@@ -23,9 +22,9 @@ pub fn find_q(w: &[u32], f: &[u64]) -> bool
 
 // How many words the member of P at place i takes.
 pub fn words_p(w: &[u32], i: usize) -> usize
-    requires { ⌜ Opened (view (now w)) (capacity (now w)) ⌝ }
-    requires { ⌜ ((b : Stored) (bs ss : List Stored) → Held (view (now w)) (capacity (now w)) (with-open b bs ss) → i < length (b .P)) ⌝ }
-    ensures { λ r. ⌜ ((b : Stored) (bs ss : List Stored) → Held (view (now (w .entry))) (capacity (now (w .entry))) (with-open b bs ss) → r ≡ length (getD (b .P) i [])) ⌝ }
+    requires { ⌜ Opened (now w) ⌝ }
+    requires { ⌜ When-open (now w) (λ b bs ss. i < length (b .P)) ⌝ }
+    ensures { λ r. ⌜ When-open (now (w .entry)) (λ b bs ss. r ≡ length (getD (b .P) i [])) ⌝ }
 {
     let at = records::get0(w, 0) as usize;
     let head = stored::skip(w, at + 1, i);
@@ -34,11 +33,11 @@ pub fn words_p(w: &[u32], i: usize) -> usize
 
 // Loads the member of P at place i into the first words of `out`; how many.
 pub fn load_p(w: &[u32], i: usize, out: &mut [u64]) -> usize
-    requires { ⌜ Opened (view (now w)) (capacity (now w)) ⌝ }
-    requires { ⌜ ((b : Stored) (bs ss : List Stored) → Held (view (now w)) (capacity (now w)) (with-open b bs ss) → i < length (b .P)) ⌝ }
-    requires { ⌜ ((b : Stored) (bs ss : List Stored) → Held (view (now w)) (capacity (now w)) (with-open b bs ss) → length (getD (b .P) i []) ≤ length (now out)) ⌝ }
-    ensures { λ r. ⌜ ((b : Stored) (bs ss : List Stored) → Held (view (now (w .entry))) (capacity (now (w .entry))) (with-open b bs ss)
-        → (r ≡ length (getD (b .P) i [])) × (take r (now (out .exit)) ≡ getD (b .P) i [])) ⌝ }
+    requires { ⌜ Opened (now w) ⌝ }
+    requires { ⌜ When-open (now w) (λ b bs ss. i < length (b .P)) ⌝ }
+    requires { ⌜ When-open (now w) (λ b bs ss. length (getD (b .P) i []) ≤ length (now out)) ⌝ }
+    ensures { λ r. ⌜ When-open (now (w .entry)) (λ b bs ss.
+        (r ≡ length (getD (b .P) i [])) × (take r (now (out .exit)) ≡ getD (b .P) i [])) ⌝ }
 {
     let at = records::get0(w, 0) as usize;
     let from = stored::skip(w, at + 1, i);
@@ -47,11 +46,11 @@ pub fn load_p(w: &[u32], i: usize, out: &mut [u64]) -> usize
 
 // Loads the member of Q at place i into the first words of `out`; how many.
 pub fn load_q(w: &[u32], i: usize, out: &mut [u64]) -> usize
-    requires { ⌜ Opened (view (now w)) (capacity (now w)) ⌝ }
-    requires { ⌜ ((b : Stored) (bs ss : List Stored) → Held (view (now w)) (capacity (now w)) (with-open b bs ss) → i < length (b .Q)) ⌝ }
+    requires { ⌜ Opened (now w) ⌝ }
+    requires { ⌜ When-open (now w) (λ b bs ss. i < length (b .Q)) ⌝ }
     requires { ⌜ 512 ≤ length (now out) ⌝ }
-    ensures { λ r. ⌜ ((b : Stored) (bs ss : List Stored) → Held (view (now (w .entry))) (capacity (now (w .entry))) (with-open b bs ss)
-        → (r ≡ length (getD (b .Q) i [])) × (take r (now (out .exit)) ≡ getD (b .Q) i [])) ⌝ }
+    ensures { λ r. ⌜ When-open (now (w .entry)) (λ b bs ss.
+        (r ≡ length (getD (b .Q) i [])) × (take r (now (out .exit)) ≡ getD (b .Q) i [])) ⌝ }
 {
     let at = records::get0(w, 0) as usize;
     let p = records::get0(w, at) as usize;

@@ -2,7 +2,7 @@
 -- The records hold the state with the branch so changed.
 use mathlib.Core.Path.{_≡_, sym, ap, ap₂, _∙_, subst}
 use mathlib.Core.List.{List, [], _∷_, _++_, append-assoc}
-use Prim.Native.Nat.{ℕ, zero, suc, _+_, _-_, _/_, _≤_, _<_}
+use Prim.Native.Nat.{ℕ, suc, _+_, _-_, _/_, _≤_, _<_}
 use native.Mathlib.Omega.{arith}
 use mir.Syntax.{w32}
 use mir.Val.{Fits}
@@ -11,23 +11,14 @@ use Rattle.records.specs.Records.{Rec, record-of, zero-record}
 use Rattle.stored.specs.Stored.{poly-records, size-at, inserted, removed}
 use Rattle.branches.specs.Words.{remove}
 use Rattle.branches.specs.laws.Words.{remove-in-parts, length-remove}
-use Rattle.branches.specs.Area.{Stored, Held, with-open, stack, systems-records, All-storable, without-P, without-Q}
+use Rattle.branches.specs.Area.{Stored, Held, with-open, stack, systems-records, Storable-branch, without-P, without-Q}
 use Rattle.branches.proofs.AreaLaws.{Lies, lies, place, place-add, place-one, own-is, first-is, size-of, own-set, first-set, put-in, take-out}
 use Rattle.branches.proofs.AreaLaws.{freed, length-freed, all, at-of, end-of, own-of, control, room-is, held-again, parted-at-P, parted-at-Q}
 use Rattle.branches.proofs.ControlLaws.{record-equal, w2-is, w3-is, Read, start-is, ends, fits-word}
 
-abbrev pub Storable-branch : Stored → Type 0
-Storable-branch b = All-storable (b .P) × All-storable (b .Q) × All-storable (b .T)
-
 -- ── a member taken out of a list ──
 pub count-remove : {i n : ℕ} (fs : List (List ℕ)) → i < length fs → n ≡ length fs → n - 1 ≡ length (remove i fs)
 count-remove {i} fs h e = omega (arith, length-remove i fs h)
-
-pub storable-remove : (i : ℕ) (fs : List (List ℕ)) → All-storable fs → All-storable (remove i fs)
-unfolding remove
-storable-remove i [] h = h
-storable-remove zero (f ∷ fs) h = h .1
-storable-remove (suc i) (f ∷ fs) h = (h .0, storable-remove i fs (h .1))
 
 -- ── a polynomial more ──
 -- The branch b₁ has the polynomial f besides those of b, between xs and ys.

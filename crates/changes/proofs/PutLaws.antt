@@ -2,18 +2,21 @@
 use mathlib.Core.Path.{_≡_, refl, sym, ap, ap₂, _∙_, subst}
 use mathlib.Core.Bool.{Bool, true, false, _&&_, _||_, false≢true}
 use mathlib.Core.List.{List, [], _∷_, _++_, append-assoc}
-use Prim.Native.Nat.{ℕ, zero, suc, _+_, _-_, _/_, _<_}
+use Prim.Native.Nat.{ℕ, _+_, _-_, _/_, _<_}
 use native.Mathlib.Omega.{arith}
 use borrow.Author.Tests.{le-leb, lt-leb}
 use lib.Dec.{eqb}
 use lib.ListN.{length, take, drop, getD, length-append, take-append-drop}
+use Rattle.branches.specs.laws.Words.{each-remove}
+use Rattle.residues.specs.Each.{Each}
+use Rattle.residues.specs.laws.Each.{each-append, each-take, each-drop, each-member}
 use Rattle.records.specs.Records.{Rec}
 use Rattle.stored.specs.Stored.{member, same, skip-to, polys-at, Storable}
 use Rattle.stored.specs.laws.Stored.{equal-of-same, length-le-polys-records}
 use Rattle.branches.specs.Words.{put-P, put-Q, put-Q-before, is-zero, is-one, unless, remove}
-use Rattle.branches.specs.Area.{Stored, Area, Held, Leaves, size, with-open, All-storable, put-into-P, put-into-Q, without-P, closed}
-use Rattle.branches.proofs.AreaLaws.{place, place-add, at-of, end-is, room-is, storable-take, storable-member, parted-Q, in-Q, skip-Q}
-use Rattle.changes.proofs.ChangeLaws.{Storable-branch, storable-remove, More, more-ends}
+use Rattle.branches.specs.Area.{Stored, Area, Held, Leaves, size, with-open, Storable-branch, put-into-P, put-into-Q, without-P, closed}
+use Rattle.branches.proofs.AreaLaws.{place, place-add, at-of, end-is, room-is, parted-Q, in-Q, skip-Q}
+use Rattle.changes.proofs.ChangeLaws.{More, more-ends}
 
 -- ── the answers ──
 pub leaves-held : {v : List Rec} {most : ℕ} {a : Area} → Held v most a → Leaves most a true v
@@ -45,10 +48,6 @@ module _ {v : List Rec} {most : ℕ} {b : Stored} {bs ss : List Stored} (H : Hel
   leaves-same b₁ e = leaves-held (subst (λ (x : Stored). Held v most (with-open x bs ss)) e H)
 
 -- ── lists ──
-pub storable-append : (xs ys : List (List ℕ)) → All-storable xs → All-storable ys → All-storable (xs ++ ys)
-storable-append [] ys h k = k
-storable-append (f ∷ xs) ys h k = (h .0, storable-append xs ys (h .1) k)
-
 -- ── P ──
 pub put-P-zero : (f : List ℕ) (fs : List (List ℕ)) → length f ≡ 0 → put-P f fs ≡ fs
 unfolding put-P is-zero
@@ -77,7 +76,7 @@ module _ (f : List ℕ) (b : Stored) where
     count-P = ap length e ∙ length-append (b .P) (f ∷ [])
 
     pub storable-P : Storable-branch b → Storable f → Storable-branch (put-into-P f b)
-    storable-P h k = (subst All-storable (sym e) (storable-append (b .P) (f ∷ []) (h .0) (k, tt)), h .1, h .2)
+    storable-P h k = (subst (Each Storable) (sym e) (each-append Storable (b .P) (f ∷ []) .1 (h .0, (k, tt))), h .1, h .2)
 
 -- ── Q ──
 pub one : (f : List ℕ) → length f ≡ 2 → eqb (getD f 0 0) 1 ≡ true → eqb (getD f 1 0) 0 ≡ true → is-one f ≡ true
@@ -119,11 +118,6 @@ put-Q-found f fs h = go (is-one f)
 pub put-Q-new : (f : List ℕ) (fs : List (List ℕ)) → is-one f ≡ false → member f fs ≡ false → put-Q f fs ≡ fs ++ (f ∷ [])
 unfolding put-Q
 put-Q-new f fs n h = ap₂ (λ (t m : Bool). unless (t || m) f fs) n h
-
-pub storable-drop : (k : ℕ) (fs : List (List ℕ)) → All-storable fs → All-storable (drop k fs)
-storable-drop zero fs h = h
-storable-drop (suc k) [] h = h
-storable-drop (suc k) (f ∷ fs) h = storable-drop k fs (h .1)
 
 -- How many members of Q are looked at.
 abbrev pub seen : ℕ → Stored → ℕ
@@ -169,9 +163,9 @@ module _ (left : ℕ) (f : List ℕ) (b : Stored) where
 
     pub storable-Q : Storable-branch b → Storable f → Storable-branch (put-into-Q left f b)
     storable-Q h k =
-        let xs = storable-take (seen left b) (b .Q) (h .1) in
-        let ys = storable-drop (seen left b) (b .Q) (h .1) in
-        (h .0, subst All-storable (sym new-Q) (storable-append (take (seen left b) (b .Q)) (f ∷ drop (seen left b) (b .Q)) xs (k, ys)), h .2)
+        let xs = each-take Storable (seen left b) (b .Q) (h .1) in
+        let ys = each-drop Storable (seen left b) (b .Q) (h .1) in
+        (h .0, subst (Each Storable) (sym new-Q) (each-append Storable (take (seen left b) (b .Q)) (f ∷ drop (seen left b) (b .Q)) .1 (xs, (k, ys))), h .2)
 
 -- ── a member of P moved to the front of T ──
 module _ (b : Stored) (i : ℕ) where
@@ -185,4 +179,4 @@ module _ (b : Stored) (i : ℕ) where
   count-T e = omega arith
 
   pub storable-T : i < length (b .P) → Storable-branch b → Storable-branch (closed i b)
-  storable-T l h = (storable-remove i (b .P) (h .0), h .1, (storable-member (b .P) i l (h .0), h .2))
+  storable-T l h = (each-remove Storable i (b .P) (h .0), h .1, (each-member Storable i (b .P) [] l (h .0), h .2))

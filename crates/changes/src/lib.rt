@@ -1,18 +1,18 @@
 // The open branch changed: a polynomial is put into P or Q, taken out, or moved from P to T.
 ghost use mathlib.Core.Path.{_≡_};
-ghost use mathlib.Core.List.{List, []};
+ghost use mathlib.Core.List.{[]};
 ghost use Prim.Native.Nat.{_≤_, _<_};
 ghost use lib.ListN.{length, getD};
 ghost use Rattle.records.specs.Records.{view};
 ghost use Rattle.stored.specs.Stored.{Storable};
-ghost use Rattle.branches.specs.Area.{Stored, Held, Leaves, Opened, capacity, with-open, put-into-P, put-into-Q, without-P, without-Q, closed};
+ghost use Rattle.branches.specs.Area.{Leaves, Opened, capacity, with-open, put-into-P, put-into-Q, without-P, without-Q, closed, When-open, Open-becomes};
 
 // Puts f into P; whether there is room.
 pub fn put_p(w: &mut [u32], f: &[u64]) -> bool
-    requires { ⌜ Opened (view (now w)) (capacity (now w)) ⌝ }
+    requires { ⌜ Opened (now w) ⌝ }
     requires { ⌜ Storable (now f) ⌝ }
-    ensures { λ r. ⌜ ((b : Stored) (bs ss : List Stored) → Held (view (now (w .entry))) (capacity (now (w .entry))) (with-open b bs ss)
-        → Leaves (capacity (now (w .entry))) (with-open (put-into-P (now (f .entry)) b) bs ss) r (view (now (w .exit)))) ⌝ }
+    ensures { λ r. ⌜ When-open (now (w .entry)) (λ b bs ss.
+        Leaves (capacity (now (w .entry))) (with-open (put-into-P (now (f .entry)) b) bs ss) r (view (now (w .exit)))) ⌝ }
 {
     let at = records::get0(w, 0) as usize;
     let end = records::get1(w, 0) as usize;
@@ -41,11 +41,11 @@ pub fn put_p(w: &mut [u32], f: &[u64]) -> bool
 
 // Puts f into Q, before its last `left` members; whether there is room.
 pub fn put_q(w: &mut [u32], left: usize, f: &[u64]) -> bool
-    requires { ⌜ Opened (view (now w)) (capacity (now w)) ⌝ }
-    requires { ⌜ ((b : Stored) (bs ss : List Stored) → Held (view (now w)) (capacity (now w)) (with-open b bs ss) → left ≤ length (b .Q)) ⌝ }
+    requires { ⌜ Opened (now w) ⌝ }
+    requires { ⌜ When-open (now w) (λ b bs ss. left ≤ length (b .Q)) ⌝ }
     requires { ⌜ Storable (now f) ⌝ }
-    ensures { λ r. ⌜ ((b : Stored) (bs ss : List Stored) → Held (view (now (w .entry))) (capacity (now (w .entry))) (with-open b bs ss)
-        → Leaves (capacity (now (w .entry))) (with-open (put-into-Q left (now (f .entry)) b) bs ss) r (view (now (w .exit)))) ⌝ }
+    ensures { λ r. ⌜ When-open (now (w .entry)) (λ b bs ss.
+        Leaves (capacity (now (w .entry))) (with-open (put-into-Q left (now (f .entry)) b) bs ss) r (view (now (w .exit)))) ⌝ }
 {
     let at = records::get0(w, 0) as usize;
     let end = records::get1(w, 0) as usize;
@@ -76,10 +76,9 @@ pub fn put_q(w: &mut [u32], left: usize, f: &[u64]) -> bool
 
 // Takes the member of P at place i out.
 pub fn remove_p(w: &mut [u32], i: usize)
-    requires { ⌜ Opened (view (now w)) (capacity (now w)) ⌝ }
-    requires { ⌜ ((b : Stored) (bs ss : List Stored) → Held (view (now w)) (capacity (now w)) (with-open b bs ss) → i < length (b .P)) ⌝ }
-    ensures { λ _. ⌜ ((b : Stored) (bs ss : List Stored) → Held (view (now (w .entry))) (capacity (now (w .entry))) (with-open b bs ss)
-        → Held (view (now (w .exit))) (capacity (now (w .entry))) (with-open (without-P i b) bs ss)) ⌝ }
+    requires { ⌜ Opened (now w) ⌝ }
+    requires { ⌜ When-open (now w) (λ b bs ss. i < length (b .P)) ⌝ }
+    ensures { λ _. ⌜ Open-becomes (without-P i) (now (w .entry)) (now (w .exit)) ⌝ }
 {
     let at = records::get0(w, 0) as usize;
     let end = records::get1(w, 0) as usize;
@@ -98,10 +97,9 @@ pub fn remove_p(w: &mut [u32], i: usize)
 
 // Takes the member of Q at place i out.
 pub fn remove_q(w: &mut [u32], i: usize)
-    requires { ⌜ Opened (view (now w)) (capacity (now w)) ⌝ }
-    requires { ⌜ ((b : Stored) (bs ss : List Stored) → Held (view (now w)) (capacity (now w)) (with-open b bs ss) → i < length (b .Q)) ⌝ }
-    ensures { λ _. ⌜ ((b : Stored) (bs ss : List Stored) → Held (view (now (w .entry))) (capacity (now (w .entry))) (with-open b bs ss)
-        → Held (view (now (w .exit))) (capacity (now (w .entry))) (with-open (without-Q i b) bs ss)) ⌝ }
+    requires { ⌜ Opened (now w) ⌝ }
+    requires { ⌜ When-open (now w) (λ b bs ss. i < length (b .Q)) ⌝ }
+    ensures { λ _. ⌜ Open-becomes (without-Q i) (now (w .entry)) (now (w .exit)) ⌝ }
 {
     let at = records::get0(w, 0) as usize;
     let end = records::get1(w, 0) as usize;
@@ -120,11 +118,10 @@ pub fn remove_q(w: &mut [u32], i: usize)
 
 // Moves the member of P at place i, which is f, to the front of T.
 pub fn close(w: &mut [u32], i: usize, f: &[u64])
-    requires { ⌜ Opened (view (now w)) (capacity (now w)) ⌝ }
-    requires { ⌜ ((b : Stored) (bs ss : List Stored) → Held (view (now w)) (capacity (now w)) (with-open b bs ss) → (i < length (b .P)) × (getD (b .P) i [] ≡ now f)) ⌝ }
+    requires { ⌜ Opened (now w) ⌝ }
+    requires { ⌜ When-open (now w) (λ b bs ss. (i < length (b .P)) × (getD (b .P) i [] ≡ now f)) ⌝ }
     requires { ⌜ Storable (now f) ⌝ }
-    ensures { λ _. ⌜ ((b : Stored) (bs ss : List Stored) → Held (view (now (w .entry))) (capacity (now (w .entry))) (with-open b bs ss)
-        → Held (view (now (w .exit))) (capacity (now (w .entry))) (with-open (closed i b) bs ss)) ⌝ }
+    ensures { λ _. ⌜ Open-becomes (closed i) (now (w .entry)) (now (w .exit)) ⌝ }
 {
     remove_p(w, i);
     let at = records::get0(w, 0) as usize;

@@ -5,7 +5,7 @@ use mathlib.Core.List.{List}
 use native.Mathlib.Nat.{sub-zero}
 use lib.ListN.{length}
 use Rattle.records.specs.Records.{view}
-use Rattle.branches.specs.Area.{Area, Held, capacity}
+use Rattle.branches.specs.Area.{Area, Held, capacity, Held-in}
 use Rattle.branches.proofs.LengthLaws.{same-capacity}
 use Rattle.rules.specs.Run.{Ended, run}
 use Rattle.representation.specs.Represent.{state-of}
@@ -21,17 +21,17 @@ use Rattle.run.proofs.RunLaws.{Answers}
 -- q answers the run from every state that w held, `from` steps being done; v is the area then.
 abbrev pub Runs-to : ℕ → ℕ → ℕ → List ℕ → Answer → List ℕ → Type 0
 Runs-to p limit from w q v =
-    (a : Area) → Held (view w) (capacity w) a → Ready p a
+    (a : Area) → Held-in w a → Ready p a
     → Ran (run (limits-in (capacity w)) p (limit - from) from (state-of a)) p (q .steps) (q .outcome) (view v) (capacity w)
 
 -- The same, from the run's first step.
 abbrev pub Runs : ℕ → ℕ → List ℕ → Answer → List ℕ → Type 0
 Runs p limit w q v =
-    (a : Area) → Held (view w) (capacity w) a → Ready p a → Ran (run (limits-in (capacity w)) p limit 0 (state-of a)) p (q .steps) (q .outcome) (view v) (capacity w)
+    (a : Area) → Held-in w a → Ready p a → Ran (run (limits-in (capacity w)) p limit 0 (state-of a)) p (q .steps) (q .outcome) (view v) (capacity w)
 
 pub runs-from-0 : (p limit : ℕ) (w : List ℕ) (q : Answer) (v : List ℕ) → Runs-to p limit 0 w q v → Runs p limit w q v
 runs-from-0 p limit w q v =
-    subst (λ (n : ℕ). (a : Area) → Held (view w) (capacity w) a → Ready p a
+    subst (λ (n : ℕ). (a : Area) → Held-in w a → Ready p a
     → Ran (run (limits-in (capacity w)) p n 0 (state-of a)) p (q .steps) (q .outcome) (view v) (capacity w)) (sub-zero limit)
 
 -- What a call of `run` has told.
@@ -40,7 +40,7 @@ pub record Told (p limit from : ℕ) (w : List ℕ) (q : Stretch) (v : List ℕ)
   pub answers : Answers p limit from w q v
 
 module _ {p limit from : ℕ} {w : List ℕ} {q : Stretch} {v : List ℕ} (S : Told p limit from w q v) where
-  by-ending : (e : Ending) → q .ending ≡ e → (a : Area) → Held (view w) (capacity w) a → Ready p a
+  by-ending : (e : Ending) → q .ending ≡ e → (a : Area) → Held-in w a → Ready p a
       → Stretched (run (limits-in (capacity w)) p (limit - from) from (state-of a)) p limit (q .steps) e (view v) (capacity w)
   by-ending e k a H R =
       let E = run (limits-in (capacity w)) p (limit - from) from (state-of a) in
@@ -54,10 +54,10 @@ module _ {p limit from : ℕ} {w : List ℕ} {q : Stretch} {v : List ℕ} (S : T
 
   -- ── it pauses: the steps done, and a state to go on from ──
   module _ (k : q .ending ≡ Paused) where
-    pub pause-within : ((a : Area) × Held (view w) (capacity w) a × Ready p a) → q .steps ≤ limit
+    pub pause-within : ((a : Area) × Held-in w a × Ready p a) → q .steps ≤ limit
     pause-within s = by-ending Paused k (s .0) (s .1) (s .2) .0
 
-    pub pause-holds : ((a : Area) × Held (view w) (capacity w) a × Ready p a) → (a : Area) × Held (view v) (capacity v) a × Ready p a
+    pub pause-holds : ((a : Area) × Held-in w a × Ready p a) → (a : Area) × Held-in v a × Ready p a
     pause-holds s =
         let b = by-ending Paused k (s .0) (s .1) (s .2) .1 in
         (b .0, subst (λ (m : ℕ). Held (view v) m (b .0)) (sym kept) (b .1), b .2)

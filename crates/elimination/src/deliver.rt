@@ -8,7 +8,7 @@ ghost use Rattle.tables.specs.Read.{Input, good, read-table};
 ghost use Rattle.rules.specs.Written.{list-records};
 ghost use Rattle.rules.specs.Run.{Ended};
 ghost use Rattle.rules.specs.Eliminate.{delivered};
-ghost use Rattle.branches.specs.Area.{Stored, Held, capacity};
+ghost use Rattle.branches.specs.Area.{Stored, capacity, Held-in};
 ghost use Rattle.representation.specs.Represent.{All-listed, system-of};
 ghost use Rattle.run.specs.Stretch.{Ran};
 ghost use Rattle.elimination.specs.Delivered.{Delivered};
@@ -18,8 +18,8 @@ use tables::Reason;
 
 // How many records the list of the systems in the work area needs.
 fn list_size(work: &[u32]) -> usize
-    requires { ⌜ ((ss : List Stored) × Held (view (now work)) (capacity (now work)) (record { branches = []; systems = ss }) × All-listed ss) ⌝ }
-    ensures { λ r. ⌜ ((ss : List Stored) → Held (view (now (work .entry))) (capacity (now (work .entry))) (record { branches = []; systems = ss })
+    requires { ⌜ ((ss : List Stored) × Held-in (now work) (record { branches = []; systems = ss }) × All-listed ss) ⌝ }
+    ensures { λ r. ⌜ ((ss : List Stored) → Held-in (now (work .entry)) (record { branches = []; systems = ss })
         → All-listed ss → r ≡ list-records (reverse (map system-of ss))) ⌝ }
 {
     let top = records::get2(work, 0) as usize;

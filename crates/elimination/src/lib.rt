@@ -6,7 +6,7 @@ ghost use Prim.Native.Nat.{_-_, _/_, _≤_};
 ghost use lib.ListN.{length};
 ghost use Rattle.tables.specs.Read.{Input, good, read-table};
 ghost use Rattle.records.specs.Records.{view};
-ghost use Rattle.branches.specs.Area.{Area, Held, capacity};
+ghost use Rattle.branches.specs.Area.{Area, capacity, Held-in};
 ghost use Rattle.representation.specs.Represent.{state-of};
 ghost use Rattle.rules.specs.Run.{run, run-of};
 ghost use Rattle.rules.specs.Eliminate.{delivered, limits-of};
@@ -50,8 +50,8 @@ fn eliminate_accepted(table: &[u32], work: &mut [u32], output: &mut [u32], limit
 
 // Runs in short scratch, and goes on in long scratch where the run pauses: a small job need not clear what only a large one uses.
 fn run_short(work: &mut [u32], p: u64, limit: u32, divided: &mut [u64]) -> Answer
-    requires { ⌜ Modulus p × ((a : Area) × Held (view (now work)) (capacity (now work)) a × Ready p a) × (512 ≤ length (now divided)) ⌝ }
-    ensures { λ q. ⌜ ((a : Area) → Held (view (now (work .entry))) (capacity (now (work .entry))) a → Ready p a
+    requires { ⌜ Modulus p × ((a : Area) × Held-in (now work) a × Ready p a) × (512 ≤ length (now divided)) ⌝ }
+    ensures { λ q. ⌜ ((a : Area) → Held-in (now (work .entry)) a → Ready p a
         → Ran (run (limits-in (capacity (now (work .entry)))) p limit 0 (state-of a)) p (q .steps) (q .outcome) (view (now (work .exit))) (capacity (now (work .entry)))) ⌝ }
 {
     let mut pivot = [0u64; 32];
@@ -84,8 +84,8 @@ fn run_short(work: &mut [u32], p: u64, limit: u32, divided: &mut [u64]) -> Answe
 
 // Goes on with the run, `from` steps being done, in scratch that suits every step: 40 KiB, cleared once.
 fn run_long(work: &mut [u32], p: u64, limit: u32, from: u32) -> Answer
-    requires { ⌜ Modulus p × (from ≤ limit) × ((a : Area) × Held (view (now work)) (capacity (now work)) a × Ready p a) ⌝ }
-    ensures { λ q. ⌜ ((a : Area) → Held (view (now (work .entry))) (capacity (now (work .entry))) a → Ready p a
+    requires { ⌜ Modulus p × (from ≤ limit) × ((a : Area) × Held-in (now work) a × Ready p a) ⌝ }
+    ensures { λ q. ⌜ ((a : Area) → Held-in (now (work .entry)) a → Ready p a
         → Ran (run (limits-in (capacity (now (work .entry)))) p (limit - from) from (state-of a)) p (q .steps) (q .outcome) (view (now (work .exit))) (capacity (now (work .entry)))) ⌝ }
 {
     let mut pivot = [0u64; 512];

@@ -12,7 +12,7 @@ ghost use Rattle.tables.specs.Read.{Input, good, read-head, read-heads, read-ta
 ghost use Rattle.tables.specs.Walk.{Readable};
 ghost use Rattle.rules.specs.Branch.{Branch};
 ghost use Rattle.rules.specs.Run.{start};
-ghost use Rattle.branches.specs.Area.{Stored, Held, Opened, Leaves, capacity, with-open};
+ghost use Rattle.branches.specs.Area.{Opened, Leaves, capacity, with-open, When-open};
 ghost use Rattle.representation.specs.Ready.{limits-in};
 ghost use Rattle.loading.specs.Started.{Loaded, put-into, put-heads, Alone, Filled, Started};
 use tables::words;
@@ -47,10 +47,10 @@ fn load_monic(table: &[u32], p: u32, n: u32, head: usize, out: &mut [u64]) -> us
 
 // Puts f into Q, or into P; whether there is room.
 fn put_one(work: &mut [u32], f: &[u64], in_q: bool) -> bool
-    requires { ⌜ Opened (view (now work)) (capacity (now work)) ⌝ }
+    requires { ⌜ Opened (now work) ⌝ }
     requires { ⌜ Storable (now f) ⌝ }
-    ensures { λ r. ⌜ ((b : Stored) (bs ss : List Stored) → Held (view (now (work .entry))) (capacity (now (work .entry))) (with-open b bs ss)
-        → Leaves (capacity (now (work .entry))) (with-open (put-into in_q (now (f .entry)) b) bs ss) r (view (now (work .exit)))) ⌝ }
+    ensures { λ r. ⌜ When-open (now (work .entry)) (λ b bs ss.
+        Leaves (capacity (now (work .entry))) (with-open (put-into in_q (now (f .entry)) b) bs ss) r (view (now (work .exit)))) ⌝ }
 {
     if in_q {
         return changes::put_q(work, 0, f);

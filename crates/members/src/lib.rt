@@ -7,15 +7,15 @@ ghost use Rattle.polynomials.specs.Poly.{monic};
 ghost use Rattle.polynomials.specs.Packed.{terms};
 ghost use Rattle.polynomials.specs.Working.{Holds};
 ghost use Rattle.records.specs.Records.{view};
-ghost use Rattle.branches.specs.Area.{Stored, Held, Leaves, Opened, capacity, with-open};
+ghost use Rattle.branches.specs.Area.{Held, Leaves, Opened, capacity, with-open, When-open};
 ghost use Rattle.representation.specs.Represent.{Sound};
 ghost use Rattle.representation.specs.Ready.{Modulus};
 ghost use Rattle.members.specs.Members.{Has-left, Has-behind, next-member, taken-out, put-in};
 
 // How many members Q has.
 pub fn count_q(w: &[u32]) -> usize
-    requires { ⌜ Opened (view (now w)) (capacity (now w)) ⌝ }
-    ensures { λ r. ⌜ ((b : Stored) (bs ss : List Stored) → Held (view (now (w .entry))) (capacity (now (w .entry))) (with-open b bs ss) → r ≡ length (b .Q)) ⌝ }
+    requires { ⌜ Opened (now w) ⌝ }
+    ensures { λ r. ⌜ When-open (now (w .entry)) (λ b bs ss. r ≡ length (b .Q)) ⌝ }
 {
     let at = records::get0(w, 0) as usize;
     records::get1(w, at) as usize
@@ -23,11 +23,11 @@ pub fn count_q(w: &[u32]) -> usize
 
 // Takes the next member to be divided out of the area and loads it into r: the member of P at `place`, or the first of the last `left` of Q. How many words.
 pub fn take(w: &mut [u32], closing: bool, place: usize, left: usize, r: &mut [u64]) -> usize
-    requires { ⌜ Opened (view (now w)) (capacity (now w)) ⌝ }
-    requires { ⌜ ((b : Stored) (bs ss : List Stored) → Held (view (now w)) (capacity (now w)) (with-open b bs ss) → Has-left closing place left b) ⌝ }
+    requires { ⌜ Opened (now w) ⌝ }
+    requires { ⌜ When-open (now w) (λ b bs ss. Has-left closing place left b) ⌝ }
     requires { ⌜ 512 ≤ length (now r) ⌝ }
-    ensures { λ n. ⌜ ((b : Stored) (bs ss : List Stored) → Held (view (now (w .entry))) (capacity (now (w .entry))) (with-open b bs ss)
-        → (n ≡ length (next-member closing place left b)) × (take n (now (r .exit)) ≡ next-member closing place left b)
+    ensures { λ n. ⌜ When-open (now (w .entry)) (λ b bs ss.
+        (n ≡ length (next-member closing place left b)) × (take n (now (r .exit)) ≡ next-member closing place left b)
         × Held (view (now (w .exit))) (capacity (now (w .entry))) (with-open (taken-out closing place left b) bs ss)) ⌝ }
 {
     if closing {
@@ -43,11 +43,11 @@ pub fn take(w: &mut [u32], closing: bool, place: usize, left: usize, r: &mut [u6
 
 // Makes the first n words of r monic and puts them into P, or into Q before its last `left` members; whether there is room.
 pub fn put_back(w: &mut [u32], p: u64, closing: bool, left: usize, r: &mut [u64], n: usize) -> bool
-    requires { ⌜ Opened (view (now w)) (capacity (now w)) × Modulus p ⌝ }
-    requires { ⌜ ((b : Stored) (bs ss : List Stored) → Held (view (now w)) (capacity (now w)) (with-open b bs ss) → Has-behind closing left b) ⌝ }
+    requires { ⌜ Opened (now w) × Modulus p ⌝ }
+    requires { ⌜ When-open (now w) (λ b bs ss. Has-behind closing left b) ⌝ }
     requires { ⌜ (n ≤ length (now r)) × Holds p (take n (now r)) ⌝ }
-    ensures { λ k. ⌜ ((b : Stored) (bs ss : List Stored) → Held (view (now (w .entry))) (capacity (now (w .entry))) (with-open b bs ss)
-        → (f : List ℕ) × Sound p f × (terms f ≡ monic p (terms (take n (now (r .entry)))))
+    ensures { λ k. ⌜ When-open (now (w .entry)) (λ b bs ss.
+        (f : List ℕ) × Sound p f × (terms f ≡ monic p (terms (take n (now (r .entry)))))
         × Leaves (capacity (now (w .entry))) (with-open (put-in closing left f b) bs ss) k (view (now (w .exit)))) ⌝ }
 {
     sums::monic(p, &mut r[..n]);

@@ -20,7 +20,7 @@ use Rattle.rules.specs.Room.{Limits}
 use Rattle.rules.specs.Step.{Stepped, remainder-by, step}
 use Rattle.rules.specs.Run.{Ended, finished, refused, after-step, run}
 use Rattle.records.specs.Records.{view}
-use Rattle.branches.specs.Area.{Stored, Area, Held, with-open, capacity}
+use Rattle.branches.specs.Area.{Stored, Area, Held, with-open, capacity, Held-in}
 use Rattle.representation.specs.Represent.{branch-of, system-of, state-of}
 use Rattle.representation.specs.Ready.{Ready, limits-in}
 use Rattle.members.specs.Members.{Has-members, rest-of-step}
@@ -39,7 +39,7 @@ pub record AtRun (p limit from : ℕ) (w₀ w : List ℕ) (steps : ℕ) : Type 0
   pub within : steps ≤ limit
   pub some : (a : Area) × Held (view w) (capacity w₀) a × Ready p a
   pub all :
-      (a₀ : Area) → Held (view w₀) (capacity w₀) a₀ → Ready p a₀
+      (a₀ : Area) → Held-in w₀ a₀ → Ready p a₀
       → (a : Area) × Held (view w) (capacity w₀) a × Ready p a
       × (run-in (capacity w₀) p (limit - steps) steps a ≡ run-in (capacity w₀) p (limit - from) from a₀)
 
@@ -50,7 +50,7 @@ pub record AtMembers (p k : ℕ) (f : Poly) (closing : Bool) (place left₀ : �
       (b : Stored) × (bs : List Stored) × (ss : List Stored) × Held (view w) (capacity w₀) (with-open b bs ss) × Ready p (with-open b bs ss)
       × Has-members closing place left b
   pub all :
-      (b₀ : Stored) (bs ss : List Stored) → Held (view w₀) (capacity w₀) (with-open b₀ bs ss) → Ready p (with-open b₀ bs ss)
+      (b₀ : Stored) (bs ss : List Stored) → Held-in w₀ (with-open b₀ bs ss) → Ready p (with-open b₀ bs ss)
       → Has-members closing place left₀ b₀
       → (b : Stored) × Held (view w) (capacity w₀) (with-open b bs ss) × Ready p (with-open b bs ss) × Has-members closing place left b
       × (rest-in (capacity w₀) p closing place left k f b bs ss ≡ rest-in (capacity w₀) p closing place left₀ k f b₀ bs ss)
@@ -66,7 +66,7 @@ pub record AtDivision (p k d : ℕ) (f : Poly) (r₀ : List ℕ) (n₀ : ℕ) (r
       × (bounded-remainder standard p k d f s (terms (take n r)) ≡ bounded-remainder standard p k d f s₀ (terms (take n₀ r₀)))
 
 -- ── where a loop begins ──
-pub run-begins : (p limit from : ℕ) (w : List ℕ) → from ≤ limit → ((a : Area) × Held (view w) (capacity w) a × Ready p a) → AtRun p limit from w w from
+pub run-begins : (p limit from : ℕ) (w : List ℕ) → from ≤ limit → ((a : Area) × Held-in w a × Ready p a) → AtRun p limit from w w from
 run-begins p limit from w l h = record { same = refl; within = l; some = h; all = λ a H R. (a, H, R, refl) }
 
 pub division-begins : (p k d : ℕ) (f : Poly) (r : List ℕ) (n : ℕ) → n ≤ length r → Holds p (take n r) → AtDivision p k d f r n r n

@@ -19,11 +19,11 @@ use Rattle.rules.specs.Room.{Limits}
 use Rattle.rules.specs.Step.{Stepped, next, stopped, after-division, remainder-by, state, replace}
 use Rattle.records.specs.Records.{view}
 use Rattle.branches.specs.Words.{put-Q, put-Q-before, remove}
-use Rattle.branches.specs.Area.{Stored, Held, Opened, with-open, without-P, without-Q, capacity}
+use Rattle.branches.specs.Area.{Stored, Held, Opened, with-open, without-P, without-Q, capacity, Held-in}
 use Rattle.branches.proofs.LengthLaws.{same-capacity}
-use Rattle.branches.specs.laws.Words.{length-remove}
+use Rattle.branches.specs.laws.Words.{length-remove, each-remove}
 use Rattle.representation.specs.Represent.{Sound, branch-of, system-of, state-of, with-new, Monic}
-use Rattle.representation.specs.laws.Lists.{each-remove, sound-at}
+use Rattle.representation.specs.laws.Lists.{sound-at}
 use Rattle.representation.specs.laws.Sounds.{put-into-P-sound, put-into-Q-sound, without-P-sound, without-Q-sound}
 use Rattle.representation.specs.laws.Monics.{stored-monic, remove-monic, put-P-monic}
 use Rattle.representation.specs.laws.Steps.{if-fits}
@@ -83,7 +83,7 @@ module _ (p place left : ℕ) (b : Stored) (bs ss : List Stored) where
 
 -- ── where the loop begins ──
 pub members-begin : (p k : ℕ) (f : Poly) (closing : Bool) (place left : ℕ) (w : List ℕ) (b : Stored) (bs ss : List Stored)
-    → Held (view w) (capacity w) (with-open b bs ss) → Ready p (with-open b bs ss) → Has-members closing place left b
+    → Held-in w (with-open b bs ss) → Ready p (with-open b bs ss) → Has-members closing place left b
     → AtMembers p k f closing place left w w left
 members-begin p k f closing place left w b bs ss H R M = record { same = refl; some = (b, bs, ss, H, R, M); all = λ c cs us H R M. (c, H, R, M, refl) }
 
@@ -96,7 +96,7 @@ pub record AtMember (p k : ℕ) (f : Poly) (closing : Bool) (place left₀ : ℕ
       (b : Stored) × (bs : List Stored) × (ss : List Stored) × Took closing place left b bs ss n r (view w) (capacity w₀) × Ready p (with-open b bs ss)
       × Has-members closing place left b
   pub all :
-      (b₀ : Stored) (bs ss : List Stored) → Held (view w₀) (capacity w₀) (with-open b₀ bs ss) → Ready p (with-open b₀ bs ss)
+      (b₀ : Stored) (bs ss : List Stored) → Held-in w₀ (with-open b₀ bs ss) → Ready p (with-open b₀ bs ss)
       → Has-members closing place left₀ b₀
       → (b : Stored) × Took closing place left b bs ss n r (view w) (capacity w₀) × Ready p (with-open b bs ss) × Has-members closing place left b
       × (rest-in (capacity w₀) p closing place left k f b bs ss ≡ rest-in (capacity w₀) p closing place left₀ k f b₀ bs ss)
@@ -104,12 +104,12 @@ pub record AtMember (p k : ℕ) (f : Poly) (closing : Bool) (place left₀ : ℕ
 -- The words s were put into the area w. Whether they fitted is q, and v is the area then.
 pub record PutBack (p : ℕ) (closing : Bool) (left : ℕ) (s w : List ℕ) (q : Bool) (v : List ℕ) : Type 0 where
   pub same : length v ≡ length w
-  pub puts : (b : Stored) (bs ss : List Stored) → Held (view w) (capacity w) (with-open b bs ss) → Put p closing left s b bs ss q (view v) (capacity w)
+  pub puts : (b : Stored) (bs ss : List Stored) → Held-in w (with-open b bs ss) → Put p closing left s b bs ss q (view v) (capacity w)
 
 -- What is left of the step comes to S, from whatever state was held where the loop began.
 abbrev pub Comes-to : ℕ → ℕ → Poly → Bool → ℕ → ℕ → List ℕ → Stepped → Type 0
 Comes-to p k f closing place left₀ w₀ S =
-    (b₀ : Stored) (bs ss : List Stored) → Held (view w₀) (capacity w₀) (with-open b₀ bs ss) → Ready p (with-open b₀ bs ss)
+    (b₀ : Stored) (bs ss : List Stored) → Held-in w₀ (with-open b₀ bs ss) → Ready p (with-open b₀ bs ss)
     → Has-members closing place left₀ b₀
     → rest-in (capacity w₀) p closing place left₀ k f b₀ bs ss ≡ S
 
@@ -118,10 +118,10 @@ module _ {p k : ℕ} {f : Poly} {closing : Bool} {place left₀ : ℕ} {w₀ w :
     cap : capacity w ≡ capacity w₀
     cap = same-capacity w w₀ (A .same)
 
-    pub members-open : Opened (view w) (capacity w)
+    pub members-open : Opened w
     members-open = let s = A .some in (s .0, s .1, s .2, subst (λ (m : ℕ). Held (view w) m (with-open (s .0) (s .1) (s .2))) (sym cap) (s .3))
 
-    pub members-left : 1 ≤ left → (b : Stored) (bs ss : List Stored) → Held (view w) (capacity w) (with-open b bs ss) → Has-left closing place left b
+    pub members-left : 1 ≤ left → (b : Stored) (bs ss : List Stored) → Held-in w (with-open b bs ss) → Has-left closing place left b
     members-left one b bs ss H =
         let s = A .some in
         of-left closing (subst (λ (m : ℕ). Held (view w) m (with-open b bs ss)) cap H) (s .3) (has-left p place left (s .0) (s .1) (s .2) one closing (s .5))
@@ -133,7 +133,7 @@ module _ {p k : ℕ} {f : Poly} {closing : Bool} {place left₀ : ℕ} {w₀ w :
         of-left true {b} {c} {bs} {ss} {cs} {us} H K h = of-every (λ P Q. (1 ≤ left) × (left ≤ length Q)) K h b bs ss H
 
     pub member-taken : 1 ≤ left → (v : List ℕ) (n : ℕ) (r : List ℕ) → length v ≡ length w
-        → ((b : Stored) (bs ss : List Stored) → Held (view w) (capacity w) (with-open b bs ss) → Took closing place left b bs ss n r (view v) (capacity w))
+        → ((b : Stored) (bs ss : List Stored) → Held-in w (with-open b bs ss) → Took closing place left b bs ss n r (view v) (capacity w))
         → AtMember p k f closing place left₀ w₀ v left n r
     member-taken one v n r e took = record {
       same = e ∙ A .same;
@@ -159,13 +159,13 @@ module _ {p k : ℕ} {f : Poly} {closing : Bool} {place left₀ : ℕ} {w₀ w :
     member-cap : capacity w ≡ capacity w₀
     member-cap = same-capacity w w₀ (A .same)
 
-    pub member-open : Opened (view w) (capacity w)
+    pub member-open : Opened w
     member-open =
         let s = A .some in
         let b = taken-out closing place left (s .0) in
         (b, s .1, s .2, subst (λ (m : ℕ). Held (view w) m (with-open b (s .1) (s .2))) (sym member-cap) (s .3 .2))
 
-    pub member-behind : (b : Stored) (bs ss : List Stored) → Held (view w) (capacity w) (with-open b bs ss) → Has-behind closing (left - 1) b
+    pub member-behind : (b : Stored) (bs ss : List Stored) → Held-in w (with-open b bs ss) → Has-behind closing (left - 1) b
     member-behind b bs ss H =
         let s = A .some in
         let H₀ = subst (λ (m : ℕ). Held (view w) m (with-open b bs ss)) member-cap H in

@@ -12,7 +12,7 @@ use Rattle.rules.specs.Step.{Stepped, next, stopped, step}
 use Rattle.rules.specs.Run.{Ended, finished, refused, after-step, run}
 use Rattle.records.specs.Records.{Rec, room, view, zero-record}
 use Rattle.records.proofs.Rows.{length-view}
-use Rattle.branches.specs.Area.{Stored, Area, Held, has-branch, with-open, capacity}
+use Rattle.branches.specs.Area.{Stored, Area, Held, has-branch, with-open, capacity, Held-in}
 use Rattle.branches.proofs.LengthLaws.{same-capacity}
 use Rattle.representation.specs.Represent.{branch-of, system-of, state-of}
 use Rattle.steps.specs.declared.Division.{Division}
@@ -45,14 +45,14 @@ Stops most p w why =
 
 -- w holds a state with an open branch, ready for a step.
 abbrev pub Some-open : ℕ → List ℕ → Type 0
-Some-open p w = (b : Stored) × (bs : List Stored) × (ss : List Stored) × Held (view w) (capacity w) (with-open b bs ss) × Ready p (with-open b bs ss)
+Some-open p w = (b : Stored) × (bs : List Stored) × (ss : List Stored) × Held-in w (with-open b bs ss) × Ready p (with-open b bs ss)
 
 -- ── what was prepared ──
 -- The answer q to the step from whatever state w held. t and i have the pivot and its initial, and v is the area then.
 pub record Preparation (p : ℕ) (w : List ℕ) (q : Prepared) (t i v : List ℕ) : Type 0 where
   pub same : length v ≡ length w
   pub answers :
-      (b : Stored) (bs ss : List Stored) → Held (view w) (capacity w) (with-open b bs ss) → Ready p (with-open b bs ss)
+      (b : Stored) (bs ss : List Stored) → Held-in w (with-open b bs ss) → Ready p (with-open b bs ss)
       → Prepares (limits-in (capacity w)) p (step-in (capacity w) p b bs ss) q t i (view v) (capacity w) bs ss
 
 -- The pivot of the division d is in t, and its initial in i.
@@ -133,10 +133,10 @@ closed a e = go (a .branches) e
 
 -- No branch of a state held by w is open; or one is.
 abbrev pub None-open : List ℕ → Type 0
-None-open w = (a : Area) → Held (view w) (capacity w) a → has-branch a ≡ false
+None-open w = (a : Area) → Held-in w a → has-branch a ≡ false
 
 abbrev pub All-open : List ℕ → Type 0
-All-open w = (a : Area) → Held (view w) (capacity w) a → has-branch a ≡ true
+All-open w = (a : Area) → Held-in w a → has-branch a ≡ true
 
 -- The outcome o, so many steps being done; or a pause.
 abbrev pub ended : ℕ → Outcome → Stretch
@@ -151,14 +151,14 @@ final-not-paused e = absurd (let z : _≡_ {A = ℕ} 0 1 = cc in omega arith)
 -- q is the stretch of the run from every state that w held, `from` steps being done; v is the area then.
 abbrev pub Answers : ℕ → ℕ → ℕ → List ℕ → Stretch → List ℕ → Type 0
 Answers p limit from w q v =
-    (a : Area) → Held (view w) (capacity w) a → Ready p a
+    (a : Area) → Held-in w a → Ready p a
     → Stretches (run (limits-in (capacity w)) p (limit - from) from (state-of a)) p limit q (view v) (capacity w)
 
 module _ {p limit from : ℕ} {w₀ w : List ℕ} {steps : ℕ} (A : AtRun p limit from w₀ w steps) where
   capacity-kept : capacity w ≡ capacity w₀
   capacity-kept = same-capacity w w₀ (A .same)
 
-  pub run-holds-some : (a : Area) × Held (view w) (capacity w) a
+  pub run-holds-some : (a : Area) × Held-in w a
   run-holds-some = let s = A .some in (s .0, subst (λ (m : ℕ). Held (view w) m (s .0)) (sym capacity-kept) (s .1))
 
   pub run-has-control : 0 < room w
@@ -189,7 +189,7 @@ module _ {p limit from : ℕ} {w₀ w : List ℕ} {steps : ℕ} (A : AtRun p lim
   -- ── a branch is left ──
   module _ (some : All-open w) where
     -- Whatever state the run began with, it comes to one with an open branch.
-    pub run-open : (a₀ : Area) → Held (view w₀) (capacity w₀) a₀ → Ready p a₀
+    pub run-open : (a₀ : Area) → Held-in w₀ a₀ → Ready p a₀
         → (b : Stored) × (bs : List Stored) × (ss : List Stored) × Held (view w) (capacity w₀) (with-open b bs ss) × Ready p (with-open b bs ss)
         × (run-in (capacity w₀) p (limit - steps) steps (with-open b bs ss) ≡ run-in (capacity w₀) p (limit - from) from a₀)
     run-open a₀ H₀ R₀ =
@@ -208,11 +208,11 @@ module _ {p limit from : ℕ} {w₀ w : List ℕ} {steps : ℕ} (A : AtRun p lim
         let s = A .some in
         let h = subst (λ (m : ℕ). Held (view w) m (s .0)) (sym capacity-kept) (s .1) in
         let o = opened (s .0) (some (s .0) h) in
-        (o .0, o .1, s .0 .systems, subst (Held (view w) (capacity w)) (o .2) h, subst (Ready p) (o .2) (s .2))
+        (o .0, o .1, s .0 .systems, subst (Held-in w) (o .2) h, subst (Ready p) (o .2) (s .2))
 
     -- The run is refused from every state that it may have begun with.
     refused-all : (why : Reason) (v : List ℕ)
-        → ((a₀ : Area) → Held (view w₀) (capacity w₀) a₀ → Ready p a₀ → refused steps why ≡ run-in (capacity w₀) p (limit - from) from a₀)
+        → ((a₀ : Area) → Held-in w₀ a₀ → Ready p a₀ → refused steps why ≡ run-in (capacity w₀) p (limit - from) from a₀)
         → Answers p limit from w₀ (ended steps (Refused why 0)) v
     refused-all why v ends a₀ H₀ R₀ =
         subst (λ (E : Ended). Ran E p steps (Refused why 0) (view v) (capacity w₀)) (ends a₀ H₀ R₀)

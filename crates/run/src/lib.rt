@@ -4,7 +4,7 @@ ghost use mathlib.Core.Logic.{_⊎_};
 ghost use Prim.Native.Nat.{_-_, _≤_, _<_};
 ghost use lib.ListN.{length};
 ghost use Rattle.records.specs.Records.{view};
-ghost use Rattle.branches.specs.Area.{Area, Held, capacity};
+ghost use Rattle.branches.specs.Area.{Area, capacity, Held-in};
 ghost use Rattle.rules.specs.Run.{run};
 ghost use Rattle.representation.specs.Represent.{state-of};
 ghost use Rattle.representation.specs.Ready.{Ready, Modulus, limits-in};
@@ -48,10 +48,10 @@ pub fn run(
     y: &mut [u64],
     z: &mut [u64],
 ) -> Stretch
-    requires { ⌜ Modulus p × (from ≤ limit) × ((a : Area) × Held (view (now w)) (capacity (now w)) a × Ready p a) ⌝ }
+    requires { ⌜ Modulus p × (from ≤ limit) × ((a : Area) × Held-in (now w) a × Ready p a) ⌝ }
     requires { ⌜ (length (now t) ≤ length (now i)) × (512 ≤ length (now r))
         × (length (now x) ≤ length (now r)) × (length (now x) ≤ length (now y)) × (length (now x) ≤ length (now z)) ⌝ }
-    ensures { λ q. ⌜ ((a : Area) → Held (view (now (w .entry))) (capacity (now (w .entry))) a → Ready p a
+    ensures { λ q. ⌜ ((a : Area) → Held-in (now (w .entry)) a → Ready p a
         → Stretches (run (limits-in (capacity (now (w .entry)))) p (limit - from) from (state-of a)) p limit q (view (now (w .exit))) (capacity (now (w .entry)))) ⌝ }
     ensures { λ q. ⌜ (q .ending ≡ Paused → (length (now (t .entry)) < 512) ⊎ (length (now (x .entry)) < 1024)) ⌝ }
 {

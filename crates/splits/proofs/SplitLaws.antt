@@ -7,13 +7,14 @@ use native.Mathlib.Omega.{arith}
 use borrow.Author.Tests.{le-leb, lt-leb}
 use lib.ListN.{length, take, drop, getD, set, length-append, length-drop, take-append-drop}
 use lib.Seq.{take-at, drop-append-le, drop-append-add, length-take-le, paste, set-split}
+use Rattle.residues.specs.Each.{Each}
+use Rattle.residues.specs.laws.Each.{each-append, each-take, each-drop}
 use Rattle.records.specs.Records.{Rec, record-of, zero-record, moved}
 use Rattle.stored.specs.Stored.{poly-records, polys-records, skip-to, Storable}
 use Rattle.stored.specs.laws.Stored.{skip-to-polys-records, polys-records-append, polys-records-snoc, length-poly-records, length-le-polys-records}
-use Rattle.branches.specs.Area.{Stored, Held, Leaves, stack, branch-records, systems-records, with-open, size, kept-open, Branches-storable}
+use Rattle.branches.specs.Area.{Stored, Held, Leaves, stack, branch-records, systems-records, with-open, size, kept-open, Storable-branch}
 use Rattle.splits.proofs.PieceLaws.{Grown, grow-copied, grow-stored, top-left, last-part}
-use Rattle.branches.proofs.AreaLaws.{storable-take, at-of, own-of, most-inside}
-use Rattle.changes.proofs.PutLaws.{storable-append, storable-drop}
+use Rattle.branches.proofs.AreaLaws.{at-of, own-of, most-inside}
 
 -- ── the parts of P ──
 abbrev pub front-P : ℕ → Stored → List Rec
@@ -310,14 +311,16 @@ module _ {v : List Rec} {most : ℕ} {c : Stored} {bs ss : List Stored} (H : Hel
     end-inside : needed ≤ top - end → end < length v
     end-inside room = let fits = fits-in room in omega (arith, most-inside H, H .fits, G .end-is)
 
-    storable-kept : Storable f → Storable initial → Branches-storable (kept-open i n f initial c ∷ (c ∷ bs))
+    storable-kept : Storable f → Storable initial → Each Storable-branch (kept-open i n f initial c ∷ (c ∷ bs))
     storable-kept sf si =
-        let h = H .storable .0 in
-        let back = storable-take (n - i) (drop i (c .P)) (storable-drop i (c .P) (h .0)) in (
-          storable-append (take i (c .P)) (f ∷ take (n - i) (drop i (c .P))) (storable-take i (c .P) (h .0)) (sf, back),
-          storable-append (c .Q) (initial ∷ []) (h .1) (si, tt),
-          h .2,
-          h,
+        let h = H .storable .0 .0 in
+        let back = each-take Storable (n - i) (drop i (c .P)) (each-drop Storable i (c .P) (h .0)) in (
+          (
+            each-append Storable (take i (c .P)) (f ∷ take (n - i) (drop i (c .P))) .1 (each-take Storable i (c .P) (h .0), (sf, back)),
+            each-append Storable (c .Q) (initial ∷ []) .1 (h .1, (si, tt)),
+            h .2,
+          ),
+          H .storable .0,
         )
 
     pub kept : needed ≤ top - end → Storable f → Storable initial → {v₈ : List Rec} → Copied v n at end top q t front back in-q in-t f initial v₈

@@ -1,26 +1,26 @@
 // A split: the initial goes into Q of the open branch, and a new branch is set aside under it.
 ghost use mathlib.Core.Path.{_≡_};
 ghost use mathlib.Core.Bool.{false};
-ghost use mathlib.Core.List.{List, [], _∷_};
+ghost use mathlib.Core.List.{[], _∷_};
 ghost use Prim.Native.Nat.{_+_, _/_, _≤_, _<_};
 ghost use lib.ListN.{length, getD};
 ghost use lib.Seq.{paste};
 ghost use Rattle.records.specs.Records.{room, view, moved};
 ghost use Rattle.stored.specs.Stored.{member, poly-records, Storable};
 ghost use Rattle.branches.specs.Words.{is-one};
-ghost use Rattle.branches.specs.Area.{Stored, Held, Leaves, Opened, capacity, with-open, kept-open, split-area};
+ghost use Rattle.branches.specs.Area.{Leaves, Opened, capacity, with-open, kept-open, split-area, When-open};
 
 // The initial goes into Q, and a branch is set aside with P without its member at place i, which is f, then the initial, then the rest; with Q as it
 // was; with T. Whether there is room. The open branch is made the one set aside, and the other is built on top of it.
 pub fn split(w: &mut [u32], i: usize, f: &[u64], initial: &[u64], rest: &[u64]) -> bool
-    requires { ⌜ Opened (view (now w)) (capacity (now w)) ⌝ }
-    requires { ⌜ ((b : Stored) (bs ss : List Stored) → Held (view (now w)) (capacity (now w)) (with-open b bs ss)
-        → (i < length (b .P)) × (getD (b .P) i [] ≡ now f) × (is-one (now initial) ≡ false) × (member (now initial) (b .Q) ≡ false)) ⌝ }
+    requires { ⌜ Opened (now w) ⌝ }
+    requires { ⌜ When-open (now w) (λ b bs ss.
+        (i < length (b .P)) × (getD (b .P) i [] ≡ now f) × (is-one (now initial) ≡ false) × (member (now initial) (b .Q) ≡ false)) ⌝ }
     requires { ⌜ Storable (now f) ⌝ }
     requires { ⌜ Storable (now initial) ⌝ }
     requires { ⌜ Storable (now rest) ⌝ }
-    ensures { λ r. ⌜ ((b : Stored) (bs ss : List Stored) → Held (view (now (w .entry))) (capacity (now (w .entry))) (with-open b bs ss)
-        → Leaves (capacity (now (w .entry))) (split-area i (now (initial .entry)) (now (rest .entry)) b bs ss) r (view (now (w .exit)))) ⌝ }
+    ensures { λ r. ⌜ When-open (now (w .entry)) (λ b bs ss.
+        Leaves (capacity (now (w .entry))) (split-area i (now (initial .entry)) (now (rest .entry)) b bs ss) r (view (now (w .exit)))) ⌝ }
 {
     let at = records::get0(w, 0) as usize;
     let p = records::get0(w, at) as usize;
@@ -37,12 +37,12 @@ pub fn split(w: &mut [u32], i: usize, f: &[u64], initial: &[u64], rest: &[u64]) 
 // Builds the branch that stays open on top of the one set aside, from its first n members of P with f put in at place i, its Q with the initial, and its T.
 // Whether there is room.
 fn keep_open(w: &mut [u32], i: usize, n: usize, f: &[u64], initial: &[u64]) -> bool
-    requires { ⌜ Opened (view (now w)) (capacity (now w)) ⌝ }
-    requires { ⌜ ((c : Stored) (bs ss : List Stored) → Held (view (now w)) (capacity (now w)) (with-open c bs ss) → (i ≤ n) × (n ≤ length (c .P))) ⌝ }
+    requires { ⌜ Opened (now w) ⌝ }
+    requires { ⌜ When-open (now w) (λ c bs ss. (i ≤ n) × (n ≤ length (c .P))) ⌝ }
     requires { ⌜ Storable (now f) ⌝ }
     requires { ⌜ Storable (now initial) ⌝ }
-    ensures { λ r. ⌜ ((c : Stored) (bs ss : List Stored) → Held (view (now (w .entry))) (capacity (now (w .entry))) (with-open c bs ss)
-        → Leaves (capacity (now (w .entry))) (with-open (kept-open i n (now (f .entry)) (now (initial .entry)) c) (c ∷ bs) ss) r (view (now (w .exit)))) ⌝ }
+    ensures { λ r. ⌜ When-open (now (w .entry)) (λ c bs ss.
+        Leaves (capacity (now (w .entry))) (with-open (kept-open i n (now (f .entry)) (now (initial .entry)) c) (c ∷ bs) ss) r (view (now (w .exit)))) ⌝ }
 {
     let at = records::get0(w, 0) as usize;
     let end = records::get1(w, 0) as usize;

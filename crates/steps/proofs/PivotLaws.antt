@@ -7,6 +7,7 @@ use Prim.Native.Nat.{ℕ, _+_, _-_, _≤_, _<_}
 use native.Mathlib.Omega.{arith}
 use lib.ListN.{length, getD, take, drop}
 use lib.Seq.{length-take-le}
+use Rattle.branches.specs.laws.Words.{each-remove}
 use Rattle.polynomials.specs.Poly.{Poly}
 use Rattle.polynomials.specs.Division.{leader, initial, degree}
 use Rattle.polynomials.specs.Packed.{terms}
@@ -26,7 +27,7 @@ use Rattle.records.specs.Records.{Rec}
 use Rattle.branches.specs.Words.{is-one}
 use Rattle.branches.specs.Area.{Stored, Held, with-open, closed}
 use Rattle.representation.specs.Represent.{Sound, All-sound, branch-of, system-of, chosen, with-new}
-use Rattle.representation.specs.laws.Lists.{sound-at, each-remove}
+use Rattle.representation.specs.laws.Lists.{sound-at}
 use Rattle.representation.specs.laws.Sounds.{closed-sound}
 use Rattle.representation.specs.laws.Monics.{remove-monic}
 use Rattle.representation.specs.laws.Tests.{is-one-terms, member-terms}

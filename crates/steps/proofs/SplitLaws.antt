@@ -6,6 +6,7 @@ use mathlib.Core.List.{List, [], map, reverse}
 use Prim.Native.Nat.{ℕ}
 use native.Mathlib.Omega.{arith}
 use lib.ListN.{getD}
+use Rattle.branches.specs.laws.Words.{each-remove}
 use Rattle.residues.specs.Prime.{Prime}
 use Rattle.polynomials.specs.Poly.{monic}
 use Rattle.polynomials.specs.Division.{initial, rest}
@@ -19,7 +20,7 @@ use Rattle.records.specs.Records.{Rec}
 use Rattle.branches.specs.Words.{put-P, remove}
 use Rattle.branches.specs.Area.{Stored, Area, Held, Leaves, with-open, split-area}
 use Rattle.representation.specs.Represent.{Sound, branch-of, system-of, state-of, chosen, Monic}
-use Rattle.representation.specs.laws.Lists.{sound-at, each-remove, put-P-nonzero}
+use Rattle.representation.specs.laws.Lists.{sound-at, put-P-nonzero}
 use Rattle.representation.specs.laws.Sounds.{split-area-sound}
 use Rattle.representation.specs.laws.Monics.{initial-monic, stored-initial-own, stored-monic, remove-monic, put-P-monic, monic-at}
 use Rattle.representation.specs.laws.Steps.{if-fits, apply-split}

@@ -8,7 +8,7 @@ ghost use Rattle.polynomials.specs.Poly.{monic};
 ghost use Rattle.polynomials.specs.Packed.{terms};
 ghost use Rattle.records.specs.Records.{view};
 ghost use Rattle.branches.specs.Words.{is-one};
-ghost use Rattle.branches.specs.Area.{Stored, Held, Leaves, Opened, capacity, with-open, split-area};
+ghost use Rattle.branches.specs.Area.{Stored, Held, Leaves, Opened, capacity, with-open, split-area, Held-in, When-open};
 ghost use Rattle.stored.specs.Stored.{Storable, member};
 ghost use Rattle.polynomials.specs.Division.{degree, leader, initial, rest};
 ghost use Rattle.rules.specs.Branch.{other};
@@ -45,11 +45,11 @@ pub enum Prepared {
 
 // Rule 4 or 5 for the pivot t, which stands in P at `place`: at rule 5 it goes to T.
 fn prepare_division(w: &mut [u32], k: u32, place: usize, t: &[u64], initial: usize) -> Division
-    requires { ⌜ Opened (view (now w)) (capacity (now w)) × (k < 8) × Storable (now t) ⌝ }
-    requires { ⌜ ((b : Stored) (bs ss : List Stored) → Held (view (now w)) (capacity (now w)) (with-open b bs ss) → (p : ℕ) × All-hold p (b .P)) ⌝ }
-    requires { ⌜ ((b : Stored) (bs ss : List Stored) → Held (view (now w)) (capacity (now w)) (with-open b bs ss) → (place < length (b .P)) × (getD (b .P) place [] ≡ now t)) ⌝ }
-    ensures { λ d. ⌜ ((b : Stored) (bs ss : List Stored) → Held (view (now (w .entry))) (capacity (now (w .entry))) (with-open b bs ss)
-        → (d ≡ division-of (other k place (branch-of b .P)) k (degree k (terms (now (t .entry)))) (length (now (t .entry))) initial b)
+    requires { ⌜ Opened (now w) × (k < 8) × Storable (now t) ⌝ }
+    requires { ⌜ When-open (now w) (λ b bs ss. (p : ℕ) × All-hold p (b .P)) ⌝ }
+    requires { ⌜ When-open (now w) (λ b bs ss. (place < length (b .P)) × (getD (b .P) place [] ≡ now t)) ⌝ }
+    ensures { λ d. ⌜ When-open (now (w .entry)) (λ b bs ss.
+        (d ≡ division-of (other k place (branch-of b .P)) k (degree k (terms (now (t .entry)))) (length (now (t .entry))) initial b)
         × Held (view (now (w .exit))) (capacity (now (w .entry))) (with-open (aimed (other k place (branch-of b .P)) place b) bs ss)) ⌝ }
 {
     let degree = degrees::degree(t, k);
@@ -84,10 +84,10 @@ fn prepare_division(w: &mut [u32], k: u32, place: usize, t: &[u64], initial: usi
 
 // Whether f is 1 or in Q.
 fn is_settled(w: &[u32], f: &[u64]) -> bool
-    requires { ⌜ Opened (view (now w)) (capacity (now w)) ⌝ }
+    requires { ⌜ Opened (now w) ⌝ }
     requires { ⌜ Storable (now f) ⌝ }
-    ensures { λ r. ⌜ ((b : Stored) (bs ss : List Stored) → Held (view (now (w .entry))) (capacity (now (w .entry))) (with-open b bs ss)
-        → r ≡ (is-one (now (f .entry)) || member (now (f .entry)) (b .Q))) ⌝ }
+    ensures { λ r. ⌜ When-open (now (w .entry)) (λ b bs ss.
+        r ≡ (is-one (now (f .entry)) || member (now (f .entry)) (b .Q))) ⌝ }
 {
     if f.len() == 2 && f[0] == 1 && f[1] == 0 {
         return true;
@@ -105,13 +105,13 @@ fn apply_split(
     i: &[u64],
     r: &mut [u64],
 ) -> bool
-    requires { ⌜ Opened (view (now w)) (capacity (now w)) × Modulus p × (512 ≤ length (now r)) ⌝ }
+    requires { ⌜ Opened (now w) × Modulus p × (512 ≤ length (now r)) ⌝ }
     requires { ⌜ Sound p (now t) × (leader (terms (now t)) ≡ k + 1) ⌝ }
     requires { ⌜ Sound p (now i) × (terms (now i) ≡ initial k (terms (now t))) ⌝ }
-    requires { ⌜ ((b : Stored) (bs ss : List Stored) → Held (view (now w)) (capacity (now w)) (with-open b bs ss)
-        → (place < length (b .P)) × (getD (b .P) place [] ≡ now t) × (is-one (now i) ≡ false) × (member (now i) (b .Q) ≡ false)) ⌝ }
-    ensures { λ q. ⌜ ((b : Stored) (bs ss : List Stored) → Held (view (now (w .entry))) (capacity (now (w .entry))) (with-open b bs ss)
-        → (f : List ℕ) × Sound p f × (terms f ≡ monic p (rest k (terms (now (t .entry)))))
+    requires { ⌜ When-open (now w) (λ b bs ss.
+        (place < length (b .P)) × (getD (b .P) place [] ≡ now t) × (is-one (now i) ≡ false) × (member (now i) (b .Q) ≡ false)) ⌝ }
+    ensures { λ q. ⌜ When-open (now (w .entry)) (λ b bs ss.
+        (f : List ℕ) × Sound p f × (terms f ≡ monic p (rest k (terms (now (t .entry)))))
         × Leaves (capacity (now (w .entry))) (split-area place (now (i .entry)) f b bs ss) q (view (now (w .exit)))) ⌝ }
 {
     let m = i.len();
@@ -131,11 +131,11 @@ fn with_pivot(
     i: &mut [u64],
     r: &mut [u64],
 ) -> Prepared
-    requires { ⌜ Modulus p × ((b : Stored) × (bs : List Stored) × (ss : List Stored) × Held (view (now w)) (capacity (now w)) (with-open b bs ss)
+    requires { ⌜ Modulus p × ((b : Stored) × (bs : List Stored) × (ss : List Stored) × Held-in (now w) (with-open b bs ss)
         × Ready p (with-open b bs ss) × Leads k place b) ⌝ }
     requires { ⌜ (length (now t) ≤ length (now i)) × (512 ≤ length (now r)) ⌝ }
-    ensures { λ q. ⌜ ((b : Stored) (bs ss : List Stored) → Held (view (now (w .entry))) (capacity (now (w .entry))) (with-open b bs ss)
-        → Ready p (with-open b bs ss) → Leads k place b
+    ensures { λ q. ⌜ When-open (now (w .entry)) (λ b bs ss.
+        Ready p (with-open b bs ss) → Leads k place b
         → Prepares (limits-in (capacity (now (w .entry)))) p
         (apply (limits-in (capacity (now (w .entry)))) p (map branch-of bs) (reverse (map system-of ss)) (rule-with k (chosen b place) (branch-of b)) (branch-of b))
         q (now (t .exit)) (now (i .exit)) (view (now (w .exit))) (capacity (now (w .entry))) bs ss) ⌝ }
@@ -158,9 +158,9 @@ fn with_pivot(
 
 // Finds the rule that fits and applies it, but for the divisions of rules 4 and 5.
 pub fn prepare(w: &mut [u32], p: u64, t: &mut [u64], i: &mut [u64], r: &mut [u64]) -> Prepared
-    requires { ⌜ Modulus p × ((b : Stored) × (bs : List Stored) × (ss : List Stored) × Held (view (now w)) (capacity (now w)) (with-open b bs ss) × Ready p (with-open b bs ss)) ⌝ }
+    requires { ⌜ Modulus p × ((b : Stored) × (bs : List Stored) × (ss : List Stored) × Held-in (now w) (with-open b bs ss) × Ready p (with-open b bs ss)) ⌝ }
     requires { ⌜ (length (now t) ≤ length (now i)) × (512 ≤ length (now r)) ⌝ }
-    ensures { λ q. ⌜ ((b : Stored) (bs ss : List Stored) → Held (view (now (w .entry))) (capacity (now (w .entry))) (with-open b bs ss) → Ready p (with-open b bs ss)
+    ensures { λ q. ⌜ When-open (now (w .entry)) (λ b bs ss. Ready p (with-open b bs ss)
         → Prepares (limits-in (capacity (now (w .entry)))) p
         (step (limits-in (capacity (now (w .entry)))) p (branch-of b) (map branch-of bs) (reverse (map system-of ss)))
         q (now (t .exit)) (now (i .exit)) (view (now (w .exit))) (capacity (now (w .entry))) bs ss) ⌝ }

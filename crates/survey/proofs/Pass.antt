@@ -9,6 +9,7 @@ use native.Mathlib.Omega.{arith}
 use borrow.Author.Tests.{lt-ltb, le-ltb, ltb-true, ltb-false, eq-eqb, ne-eqb}
 use lib.Dec.{eqb, ltb}
 use lib.ListN.{length, getD}
+use Rattle.residues.specs.Each.{Each}
 use Rattle.polynomials.specs.Poly.{Poly}
 use Rattle.polynomials.specs.Canonical.{All}
 use Rattle.polynomials.specs.Division.{degree, leader}
@@ -25,10 +26,6 @@ use Rattle.survey.specs.Survey.{All-hold, pivot-place}
 -- Bounds under which the rank orders degrees, and then terms.
 abbrev pub Bounded : ℕ → Poly → Type 0
 Bounded k f = (degree k f < 256) × (length f < 512)
-
-abbrev pub All-bounded : ℕ → List Poly → Type 0
-All-bounded k [] = Unit {0}
-All-bounded k (f ∷ fs) = Bounded k f × All-bounded k fs
 
 module _ (k : ℕ) where
   pub rank-led : (f : Poly) → leader f ≡ suc k → rank k f ≡ 512 * degree k f + length f
@@ -111,7 +108,7 @@ module _ (k : ℕ) where
   Finds place least j fs c =
       (rank k (c .poly) < least → passed place least j fs ≡ j + c .place) × (least ≤ rank k (c .poly) → passed place least j fs ≡ place)
 
-  pivot-bounded : (f : Poly) (fs : List Poly) → All-bounded k (f ∷ fs) → Bounded k (pivot k f fs .poly)
+  pivot-bounded : (f : Poly) (fs : List Poly) → Each (Bounded k) (f ∷ fs) → Bounded k (pivot k f fs .poly)
   unfolding pivot
   pivot-bounded f [] u = u .0
   pivot-bounded f (g ∷ fs) u = go (better k (pivot k g fs .poly) f) (pivot-bounded g fs (u .1))
@@ -120,7 +117,7 @@ module _ (k : ℕ) where
       go true ih = ih
       go false ih = u .0
 
-  passed-finds : (f : Poly) (fs : List Poly) → All-bounded k (f ∷ fs) → (place least j : ℕ) → Finds place least j (f ∷ fs) (pivot k f fs)
+  passed-finds : (f : Poly) (fs : List Poly) → Each (Bounded k) (f ∷ fs) → (place least j : ℕ) → Finds place least j (f ∷ fs) (pivot k f fs)
   unfolding pivot passed
   passed-finds f [] u place least j = (λ h. passed-lower place least j f [] h ∙ end j (rank k f) (j + 1) ∙ plus, λ h. passed-by place least j f [] h ∙ end place least (j + 1))
     where
@@ -158,7 +155,7 @@ module _ (k : ℕ) where
           here = omega arith
 
   -- A pivot that v(k+1) does not lead is the first.
-  unled-first : (f : Poly) (fs : List Poly) → All-bounded k (f ∷ fs) → 131072 ≤ rank k (pivot k f fs .poly) → pivot k f fs .place ≡ 0
+  unled-first : (f : Poly) (fs : List Poly) → Each (Bounded k) (f ∷ fs) → 131072 ≤ rank k (pivot k f fs .poly) → pivot k f fs .place ≡ 0
   unfolding pivot
   unled-first f [] u h = refl
   unled-first f (g ∷ fs) u h = go (better k (pivot k g fs .poly) f) (pivot k g fs) (better-rank (pivot k g fs .poly) f (pivot-bounded g fs (u .1)) (u .0)) h
@@ -168,7 +165,7 @@ module _ (k : ℕ) where
       go false c e l = refl
 
   -- The pass over all, with nothing found before.
-  pub passed-all : (fs : List Poly) → All-bounded k fs → passed 0 131072 0 fs ≡ pivot-place k fs
+  pub passed-all : (fs : List Poly) → Each (Bounded k) fs → passed 0 131072 0 fs ≡ pivot-place k fs
   unfolding passed
   passed-all [] u = refl
   passed-all (f ∷ fs) u = go (decLt (rank k (pivot k f fs .poly)) 131072)
@@ -193,6 +190,6 @@ module _ (k : ℕ) where
   holds-bounded : (p : ℕ) (s : List ℕ) → Holds p s → Bounded k (terms s)
   holds-bounded p s h = (omega (arith, degree-at-most k 255 (terms s) (small-exponents s)), omega (arith, length-terms s, h .few))
 
-  pub all-hold-bounded : (p : ℕ) (ss : List (List ℕ)) → All-hold p ss → All-bounded k (map terms ss)
+  pub all-hold-bounded : (p : ℕ) (ss : List (List ℕ)) → All-hold p ss → Each (Bounded k) (map terms ss)
   all-hold-bounded p [] h = tt
   all-hold-bounded p (s ∷ ss) h = (holds-bounded p s (h .0), all-hold-bounded p ss (h .1))

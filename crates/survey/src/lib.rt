@@ -8,7 +8,7 @@ ghost use Rattle.records.specs.Records.{room, view};
 ghost use Rattle.polynomials.specs.Division.{leader};
 ghost use Rattle.polynomials.specs.Working.{Holds};
 ghost use Rattle.stored.specs.Stored.{size-at, words-at, skip-to, polys-at};
-ghost use Rattle.branches.specs.Area.{Stored, Held, Opened, capacity, with-open};
+ghost use Rattle.branches.specs.Area.{Opened, When-open};
 ghost use Rattle.survey.specs.Rank.{rank};
 ghost use Rattle.representation.specs.Represent.{branch-of};
 ghost use Rattle.survey.specs.Survey.{All-hold, choice, other-place, pivot-place};
@@ -165,9 +165,9 @@ fn other_from(w: &[u32], at: usize, k: usize, v: u32, place: usize) -> Other
 
 // Which of rules 1 and 2 fits the open branch, or its pivot.
 pub fn choose(w: &[u32]) -> Choice
-    requires { ⌜ Opened (view (now w)) (capacity (now w)) ⌝ }
-    requires { ⌜ ((b : Stored) (bs ss : List Stored) → Held (view (now w)) (capacity (now w)) (with-open b bs ss) → (p : ℕ) × All-hold p (b .P) × All-hold p (b .Q)) ⌝ }
-    ensures { λ r. ⌜ ((b : Stored) (bs ss : List Stored) → Held (view (now (w .entry))) (capacity (now (w .entry))) (with-open b bs ss) → r ≡ choice (branch-of b)) ⌝ }
+    requires { ⌜ Opened (now w) ⌝ }
+    requires { ⌜ When-open (now w) (λ b bs ss. (p : ℕ) × All-hold p (b .P) × All-hold p (b .Q)) ⌝ }
+    ensures { λ r. ⌜ When-open (now (w .entry)) (λ b bs ss. r ≡ choice (branch-of b)) ⌝ }
 {
     let at = records::get0(w, 0) as usize;
     let p = records::get0(w, at) as usize;
@@ -188,9 +188,9 @@ pub fn choose(w: &[u32]) -> Choice
 
 // The other polynomial of P that v(k+1) leads, the pivot standing at `place`.
 pub fn find_other(w: &[u32], k: u32, place: usize) -> Other
-    requires { ⌜ Opened (view (now w)) (capacity (now w)) × (k < 8) ⌝ }
-    requires { ⌜ ((b : Stored) (bs ss : List Stored) → Held (view (now w)) (capacity (now w)) (with-open b bs ss) → (p : ℕ) × All-hold p (b .P)) ⌝ }
-    ensures { λ r. ⌜ ((b : Stored) (bs ss : List Stored) → Held (view (now (w .entry))) (capacity (now (w .entry))) (with-open b bs ss) → r ≡ other-place (other k place (branch-of b .P))) ⌝ }
+    requires { ⌜ Opened (now w) × (k < 8) ⌝ }
+    requires { ⌜ When-open (now w) (λ b bs ss. (p : ℕ) × All-hold p (b .P)) ⌝ }
+    ensures { λ r. ⌜ When-open (now (w .entry)) (λ b bs ss. r ≡ other-place (other k place (branch-of b .P))) ⌝ }
 {
     let at = records::get0(w, 0) as usize;
     let p = records::get0(w, at) as usize;

@@ -55,7 +55,7 @@ module _ {v : List Rec} {most : ℕ} {b : Stored} {bs ss : List Stored} (H : Hel
         is = e ∙ (λ t. set (in-parts t) 0 (record-of (ex t) (ey t) (top t) (ek t))) ∙ simp append-assoc;
         fits = omega (arith, H .fits, length-open, end-is b bs);
         few = H .few;
-        storable = (H .storable .0 .3, H .storable .1);
+        storable = (H .storable .0 .1, H .storable .1);
       }
 
   moved-up : (v₁ v₂ v₃ : List Rec) (at n to p q t x k : ℕ) → at ≡ at-of bs → at + n ≡ end-of b bs → to + n ≡ end-of b bs + length (H .free)
@@ -96,7 +96,7 @@ module _ {v : List Rec} {most : ℕ} {b : Stored} {bs ss : List Stored} (H : Hel
             ∙ (λ i. ctl' ∷ (stack bs .0 ++ free' ++ (record-of (ep i) (eq i) (et i) 0 ∷ (rest ++ behind)))) ∙ simp append-assoc;
         fits = omega (arith, H .fits, end-is b bs, length-append (branch-records 0 b) (systems-records ss));
         few = H .few;
-        storable = (H .storable .0 .3, (H .storable .0 .0, H .storable .0 .1, H .storable .0 .2, H .storable .1));
+        storable = (H .storable .0 .1, (H .storable .0 .0, H .storable .1));
       }
 
   -- The branch's records moved up to the end of the free ones, and its own record made a system's.
@@ -124,5 +124,5 @@ begun (r ∷ (s ∷ v)) v₁ v₂ most h l f e₁ e₂ =
       is = e₂ ∙ ap (λ (u : List Rec). set u 1 (record-of 0 0 0 0)) e₁ ∙ (λ i. record-of 1 2 (top i) 0 ∷ (record-of 0 0 0 0 ∷ sym (take-append-drop (most - 2) v) i));
       fits = omega arith;
       few = f;
-      storable = ((tt, tt, tt, tt), tt);
+      storable = (((tt, tt, tt), tt), tt);
     }

@@ -1,9 +1,9 @@
 // The first branch, and what becomes of an open branch at its end: it is dropped, or listed as a system.
 ghost use mathlib.Core.Path.{_≡_};
-ghost use mathlib.Core.List.{List, [], _∷_};
+ghost use mathlib.Core.List.{[], _∷_};
 ghost use Prim.Native.Nat.{_≤_};
 ghost use Rattle.records.specs.Records.{view};
-ghost use Rattle.branches.specs.Area.{Stored, Area, Held, Opened, capacity, with-open, empty, has-branch};
+ghost use Rattle.branches.specs.Area.{Area, Held, Opened, capacity, with-open, empty, has-branch, Held-in, When-open};
 
 // An empty first branch, whatever the words were.
 pub fn begin(w: &mut [u32])
@@ -18,17 +18,17 @@ pub fn begin(w: &mut [u32])
 
 // Whether a branch is left.
 pub fn is_open(w: &[u32]) -> bool
-    requires { ⌜ ((a : Area) × Held (view (now w)) (capacity (now w)) a) ⌝ }
-    ensures { λ r. ⌜ ((a : Area) → Held (view (now (w .entry))) (capacity (now (w .entry))) a → r ≡ has-branch a) ⌝ }
+    requires { ⌜ ((a : Area) × Held-in (now w) a) ⌝ }
+    ensures { λ r. ⌜ ((a : Area) → Held-in (now (w .entry)) a → r ≡ has-branch a) ⌝ }
 {
     records::get0(w, 0) != 0
 }
 
 // Drops the open branch.
 pub fn drop(w: &mut [u32])
-    requires { ⌜ Opened (view (now w)) (capacity (now w)) ⌝ }
-    ensures { λ _. ⌜ ((b : Stored) (bs ss : List Stored) → Held (view (now (w .entry))) (capacity (now (w .entry))) (with-open b bs ss)
-        → Held (view (now (w .exit))) (capacity (now (w .entry))) (record { branches = bs; systems = ss })) ⌝ }
+    requires { ⌜ Opened (now w) ⌝ }
+    ensures { λ _. ⌜ When-open (now (w .entry)) (λ b bs ss.
+        Held (view (now (w .exit))) (capacity (now (w .entry))) (record { branches = bs; systems = ss })) ⌝ }
 {
     let at = records::get0(w, 0) as usize;
     let under = records::get3(w, at);
@@ -39,9 +39,9 @@ pub fn drop(w: &mut [u32])
 
 // Lists the open branch, whose P is empty, as a system.
 pub fn list(w: &mut [u32])
-    requires { ⌜ Opened (view (now w)) (capacity (now w)) ⌝ }
-    ensures { λ _. ⌜ ((b : Stored) (bs ss : List Stored) → Held (view (now (w .entry))) (capacity (now (w .entry))) (with-open b bs ss)
-        → Held (view (now (w .exit))) (capacity (now (w .entry))) (record { branches = bs; systems = b ∷ ss })) ⌝ }
+    requires { ⌜ Opened (now w) ⌝ }
+    ensures { λ _. ⌜ When-open (now (w .entry)) (λ b bs ss.
+        Held (view (now (w .exit))) (capacity (now (w .entry))) (record { branches = bs; systems = b ∷ ss })) ⌝ }
 {
     let at = records::get0(w, 0) as usize;
     let end = records::get1(w, 0) as usize;

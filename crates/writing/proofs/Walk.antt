@@ -5,6 +5,7 @@ use Prim.Native.Nat.{ℕ, suc, _+_, _*_, _-_, _≤_, _<_}
 use native.Mathlib.Omega.{arith}
 use lib.ListN.{length, getD, drop, length-append, length-reverse, length-map}
 use lib.Seq.{paste}
+use Rattle.residues.specs.Each.{Each}
 use Rattle.polynomials.specs.Poly.{Poly}
 use Rattle.polynomials.specs.Packed.{terms}
 use Rattle.tables.specs.Read.{System}
@@ -12,7 +13,7 @@ use Rattle.rules.specs.Room.{polynomials-size, systems-size}
 use Rattle.rules.specs.Written.{index-of, heads-words, systems-words, list-words, list-records}
 use Rattle.rules.specs.laws.Lengths.{length-list}
 use Rattle.records.specs.Records.{Rec, record-of, zero-record}
-use Rattle.branches.specs.Area.{Stored, Held, branch-records, systems-records, Branches-storable}
+use Rattle.branches.specs.Area.{Stored, Held, branch-records, systems-records, Storable-branch}
 use Rattle.representation.specs.Represent.{system-of, All-listed}
 use Rattle.representation.specs.laws.Sizes.{length-systems-records, systems-size-reverse}
 use Rattle.writing.specs.Listed.{listing-of, Stored-at, system-words}
@@ -33,7 +34,7 @@ pub record Walk (v : List Rec) (most : ℕ) (ss : List Stored) (d out : List ℕ
   pub ends : i + length (systems-records rest) ≡ most
   pub some : 0 < i
   pub few : most ≤ 65536
-  pub storable : Branches-storable rest
+  pub storable : Each Storable-branch rest
   pub listed : All-listed rest
   pub turned : reverse (map system-of ss) ≡ reverseAux (map system-of rest) done
   pub room : end ≡ 1 + systems-size (map system-of rest)
@@ -159,8 +160,8 @@ turn v most ss d out i end next (s ∷ rest) done w h =
             is = is;
             starts = w .starts;
             finished = P-none;
-            storable-U = w .storable .1;
-            storable-T = w .storable .2;
+            storable-U = w .storable .0 .1;
+            storable-T = w .storable .0 .2;
           };
       enough = omega arith;
       some = omega arith;
@@ -175,7 +176,7 @@ turn v most ss d out i end next (s ∷ rest) done w h =
         ends = omega arith;
         some = omega (arith, w .some);
         few = w .few;
-        storable = w .storable .3;
+        storable = w .storable .1;
         listed = w .listed .1;
         turned = w .turned;
         room = omega arith;

@@ -6,8 +6,10 @@ use lib.ListN.{length}
 use Rattle.tables.specs.Read.{System, Listing}
 use Rattle.rules.specs.Room.{polynomials-size}
 use Rattle.rules.specs.Written.{index-of, heads-words}
+use Rattle.residues.specs.Each.{Each}
 use Rattle.records.specs.Records.{Rec}
-use Rattle.branches.specs.Area.{Stored, branch-records, All-storable}
+use Rattle.stored.specs.Stored.{Storable}
+use Rattle.branches.specs.Area.{Stored, branch-records}
 use Rattle.representation.specs.Represent.{system-of}
 
 -- The newest system stands first in the work area and last in the list.
@@ -21,8 +23,8 @@ pub record Stored-at (v : List Rec) (i : ℕ) (s : Stored) : Type 0 where
   pub is : v ≡ before ++ (branch-records 0 s ++ behind)
   pub starts : length before ≡ i
   pub finished : s .P ≡ []
-  pub storable-U : All-storable (s .Q)
-  pub storable-T : All-storable (s .T)
+  pub storable-U : Each Storable (s .Q)
+  pub storable-T : Each Storable (s .T)
 
 -- The records of one system from record i on, with `next` as its link: those that `systems-words` writes for it.
 abbrev pub system-words : ℕ → ℕ → System → List ℕ

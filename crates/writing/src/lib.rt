@@ -7,7 +7,7 @@ ghost use lib.Seq.{paste};
 ghost use Rattle.rules.specs.Written.{list-words, list-records};
 ghost use Rattle.rules.specs.Room.{systems-size};
 ghost use Rattle.records.specs.Records.{view};
-ghost use Rattle.branches.specs.Area.{Stored, Held, capacity};
+ghost use Rattle.branches.specs.Area.{Stored, Held-in};
 ghost use Rattle.representation.specs.Represent.{All-listed, system-of};
 ghost use Rattle.writing.specs.Listed.{Stored-at, system-words, listing-of};
 
@@ -41,10 +41,10 @@ fn write_system(w: &[u32], i: usize, out: &mut [u32], at: usize, next: u32)
 
 // Writes the list of the systems in the work area.
 pub fn write_list(w: &[u32], p: u32, n: u32, out: &mut [u32])
-    requires { ⌜ ((ss : List Stored) × Held (view (now w)) (capacity (now w)) (record { branches = []; systems = ss })) ⌝ }
-    requires { ⌜ ((ss : List Stored) → Held (view (now w)) (capacity (now w)) (record { branches = []; systems = ss })
+    requires { ⌜ ((ss : List Stored) × Held-in (now w) (record { branches = []; systems = ss })) ⌝ }
+    requires { ⌜ ((ss : List Stored) → Held-in (now w) (record { branches = []; systems = ss })
         → (4 * list-records (reverse (map system-of ss)) ≤ length (now out)) × All-listed ss) ⌝ }
-    ensures { λ _. ⌜ ((ss : List Stored) → Held (view (now (w .entry))) (capacity (now (w .entry))) (record { branches = []; systems = ss })
+    ensures { λ _. ⌜ ((ss : List Stored) → Held-in (now (w .entry)) (record { branches = []; systems = ss })
         → now (out .exit) ≡ list-words (listing-of p n ss) ++ drop (4 * list-records (reverse (map system-of ss))) (now (out .entry))) ⌝ }
 {
     let top = records::get2(w, 0) as usize;

@@ -3,9 +3,8 @@ use mathlib.Core.Path.{_≡_, refl, sym, ap, _∙_}
 use mathlib.Core.List.{List, _++_, append-assoc}
 use native.Mathlib.Omega.{arith}
 use lib.ListN.{length}
-use Rattle.records.specs.Records.{view}
 use Rattle.stored.specs.Stored.{member}
-use Rattle.branches.specs.Area.{Stored, Held, with-open, capacity}
+use Rattle.branches.specs.Area.{Stored, with-open, Held-in}
 use Rattle.branches.proofs.AreaLaws.{at-of, place, place-inside, at-inside, end-P, end-Q, all-Q, q-is}
 use Rattle.branches.proofs.LengthLaws.{inside-room}
 use borrow.Author.Needs.{needs}
@@ -13,7 +12,7 @@ use Rattle.branches.proofs.find_q.Statement.{statement}
 use Rattle.branches.proofs.find_q.Tie as tie
 
 abbrev Entry : tie.Start → Stored → List Stored → List Stored → Type 0
-Entry s b bs ss = Held (view (s .args .w .now)) (capacity (s .args .w .now)) (with-open b bs ss)
+Entry s b bs ss = Held-in (s .args .w .now) (with-open b bs ss)
 
 -- P ends where the call of `skip` does, and the members of Q are all that are counted.
 module _ {b : Stored} {bs ss : List Stored} where

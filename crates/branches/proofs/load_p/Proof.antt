@@ -4,14 +4,14 @@ use mathlib.Core.List.{List, []}
 use native.Mathlib.Omega.{arith}
 use lib.ListN.{getD}
 use Rattle.records.specs.Records.{view}
-use Rattle.branches.specs.Area.{Stored, Held, with-open, capacity}
+use Rattle.branches.specs.Area.{Stored, with-open, capacity, Held-in}
 use Rattle.branches.proofs.AreaLaws.{skip-inside-P, found-P, Found}
 use borrow.Author.Needs.{needs}
 use Rattle.branches.proofs.load_p.Statement.{statement}
 use Rattle.branches.proofs.load_p.Tie as tie
 
 -- The member of P at place i is where the call of `skip` ends.
-there : (c : tie.After-skip) {b : Stored} {bs ss : List Stored} → Held (view (c .before .before .before .before .args .w .now)) (capacity (c .before .before .before .before .args .w .now)) (with-open b bs ss)
+there : (c : tie.After-skip) {b : Stored} {bs ss : List Stored} → Held-in (c .before .before .before .before .args .w .now) (with-open b bs ss)
     → Found (view (c .before .before .before .before .args .w .now)) (capacity (c .before .before .before .before .args .w .now)) (c .skip .result) (getD (b .P) (c .before .before .before .before .args .i) [])
 there c {b} {bs} {ss} H =
     let s = c .before .before .before .before in

@@ -4,16 +4,18 @@ use mathlib.Core.List.{List, [], _++_}
 use Prim.Native.Nat.{ℕ, suc, _<_}
 use native.Mathlib.Omega.{arith}
 use lib.ListN.{length, getD, take, drop}
+use Rattle.residues.specs.laws.Each.{each-member}
 use Rattle.records.specs.Records.{view}
-use Rattle.branches.specs.Area.{Stored, Held, with-open, capacity}
-use Rattle.branches.proofs.AreaLaws.{place, at-of, place-inside, at-inside, end-P, skip-Q, parted-Q, parted-at-Q, storable-member, found, Found}
+use Rattle.stored.specs.Stored.{Storable}
+use Rattle.branches.specs.Area.{Stored, with-open, capacity, Held-in}
+use Rattle.branches.proofs.AreaLaws.{place, at-of, place-inside, at-inside, end-P, skip-Q, parted-Q, parted-at-Q, found, Found}
 use Rattle.branches.proofs.LengthLaws.{inside-room}
 use borrow.Author.Needs.{needs}
 use Rattle.branches.proofs.load_q.Statement.{statement}
 use Rattle.branches.proofs.load_q.Tie as tie
 
 abbrev Entry : tie.Start → Stored → List Stored → List Stored → Type 0
-Entry s b bs ss = Held (view (s .args .w .now)) (capacity (s .args .w .now)) (with-open b bs ss)
+Entry s b bs ss = Held-in (s .args .w .now) (with-open b bs ss)
 
 -- P ends where the first call of `skip` does.
 from-is : (c : tie.After-skip) {b : Stored} {bs ss : List Stored} → Entry (c .before .before .before .before .before) b bs ss
@@ -27,7 +29,7 @@ there c {b} {bs} {ss} H =
     let i = c .before .before .before .before .before .before .args .i in
     let h : i < length (b .Q) = c .before .before .before .before .before .before .pre .1 .0 b bs ss H in
     let behind : List (List ℕ) = drop (suc i) (b .Q) ++ b .T in
-    found H (b .P ++ take i (b .Q)) (getD (b .Q) i []) behind (parted-at-Q b i h) (storable-member (b .Q) i h (H .storable .0 .1)) _
+    found H (b .P ++ take i (b .Q)) (getD (b .Q) i []) behind (parted-at-Q b i h) (each-member Storable i (b .Q) [] h (H .storable .0 .0 .1)) _
     (c .skip2 .ensures ∙ skip-Q H _ i (from-is (c .before) H) (omega arith))
 
 get0-requires : tie.Need-get0-requires

@@ -5,6 +5,7 @@ use Prim.Native.Nat.{ℕ, zero, suc, _+_, _-_, _<_}
 use native.Mathlib.Omega.{arith}
 use lib.ListN.{length, take, drop, length-append}
 use lib.Seq.{take-at, drop-at}
+use Rattle.residues.specs.Each.{Each}
 use Rattle.branches.specs.Words.{put-Q, put-Q-before, remove}
 
 -- The members before the last `left` are put to, the others stay.
@@ -32,3 +33,9 @@ unfolding remove
 length-remove i [] h = absurd (omega arith)
 length-remove zero (f ∷ fs) h = omega arith
 length-remove (suc i) (f ∷ fs) h = omega (arith, length-remove i fs (omega arith))
+
+pub each-remove : (G : List ℕ → Type 0) (i : ℕ) (fs : List (List ℕ)) → Each G fs → Each G (remove i fs)
+unfolding remove
+each-remove G i [] h = tt
+each-remove G zero (f ∷ fs) h = h .1
+each-remove G (suc i) (f ∷ fs) h = (h .0, each-remove G i fs (h .1))

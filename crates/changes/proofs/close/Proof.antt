@@ -9,8 +9,8 @@ use mir.Val.{Fits}
 use Rattle.records.specs.Records.{Rec, record-of, zero-record, view, room}
 use Rattle.stored.specs.Stored.{skip-to}
 use Rattle.branches.specs.Words.{remove}
-use Rattle.branches.specs.Area.{Stored, Held, with-open, capacity, without-P, closed}
-use Rattle.branches.proofs.AreaLaws.{place, at-of, own-of, own-read, storable-open, place-inside, at-inside, end-P, end-Q}
+use Rattle.branches.specs.Area.{Stored, Held, with-open, capacity, without-P, closed, Held-in}
+use Rattle.branches.proofs.AreaLaws.{place, at-of, own-of, own-read, place-inside, at-inside, end-P, end-Q}
 use Rattle.branches.proofs.ControlLaws.{Read, fits-wide, next-fits, at-fits, record-equal, w0-is, w1-is, w2-is, w3-is}
 use Rattle.changes.proofs.ChangeLaws.{More, more-P, freed-room, Gap, gap-inside, end-in-fits, held-in}
 use Rattle.branches.proofs.LengthLaws.{still-inside, first-inside}
@@ -115,7 +115,7 @@ read r = record { at-word = at-read r .get0 .ensures; end-word = end-read r .get
 
 -- ── what is known ──
 abbrev Entry : Removed → Stored → List Stored → List Stored → Type 0
-Entry m b bs ss = Held (view (start m .args .w .now)) (capacity (start m .args .w .now)) (with-open b bs ss)
+Entry m b bs ss = Held-in (start m .args .w .now) (with-open b bs ss)
 
 abbrev before-T : Removed → Stored → List (List ℕ)
 before-T m b = remove (i m) (b .P) ++ b .Q
@@ -284,7 +284,7 @@ returns c b bs ss H =
     let n = insert-of o in
     let r = from-insert n in
     let m = removed r in
-    held-in (after m H) (read r) (gap (n .before .before) H) (n .insert .ensures) (storable-T b (i m) (is-member m H .0) (storable-open H)) (own-is r H)
+    held-in (after m H) (read r) (gap (n .before .before) H) (n .insert .ensures) (storable-T b (i m) (is-member m H .0) (H .storable .0 .0)) (own-is r H)
     (record {
       v₂ = view (o .put-rec .last .0);
       own-put = o .put-rec .ensures;

@@ -9,8 +9,8 @@ use mir.Val.{Fits}
 use Rattle.records.specs.Records.{Rec, record-of, view, room}
 use Rattle.stored.specs.Stored.{member, skip-to}
 use Rattle.branches.specs.Words.{put-P}
-use Rattle.branches.specs.Area.{Stored, Held, with-open, capacity, put-into-P}
-use Rattle.branches.proofs.AreaLaws.{place, at-of, own-of, storable-open, place-inside, at-inside, end-P, p-is, all-P}
+use Rattle.branches.specs.Area.{Stored, with-open, put-into-P, Held-in}
+use Rattle.branches.proofs.AreaLaws.{place, at-of, own-of, place-inside, at-inside, end-P, p-is, all-P}
 use Rattle.branches.proofs.ControlLaws.{Read, end-le-top, fits-free, over-free, fits-wide, next-fits, at-fits, top-fits, record-equal, w1-is, w2-is, w3-is}
 use Rattle.changes.proofs.ChangeLaws.{Gap, gap-inside, end-in-fits, own-in, top-kept, held-in}
 use Rattle.branches.proofs.LengthLaws.{inside-room, still-inside, first-inside}
@@ -106,7 +106,7 @@ read r = record { at-word = at-read r .get0 .ensures; end-word = end-read r .get
 
 -- ── what is known ──
 abbrev Entry : Reading → Stored → List Stored → List Stored → Type 0
-Entry r b bs ss = Held (view (w r)) (capacity (w r)) (with-open b bs ss)
+Entry r b bs ss = Held-in (w r) (with-open b bs ss)
 
 module _ {b : Stored} {bs ss : List Stored} where
   count-is : (r : Reading) → Entry r b bs ss → r .get02 .result ≡ length (b .P)
@@ -275,7 +275,7 @@ returns-4 c b bs ss H =
     let g = gap (i .before .before) H in
     let new = new-is (i .before .before .before .before .before) H in
     leaves-held
-    (held-in H (read r) g (i .insert .ensures) (storable-P (f r) b new (storable-open H) (start r .pre .1)) (own-is o H)
+    (held-in H (read r) g (i .insert .ensures) (storable-P (f r) b new (H .storable .0 .0) (start r .pre .1)) (own-is o H)
     (record {
       v₂ = view (o .put-rec .last .0);
       own-put = o .put-rec .ensures;

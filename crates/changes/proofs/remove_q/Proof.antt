@@ -4,12 +4,13 @@ use mathlib.Core.List.{List, [], _++_}
 use Prim.Native.Nat.{ℕ, suc, _+_, _-_, _≤_, _<_}
 use native.Mathlib.Omega.{arith}
 use lib.ListN.{length, take, drop, getD}
+use Rattle.branches.specs.laws.Words.{each-remove}
 use Rattle.records.specs.Records.{Rec, record-of, zero-record, view, room}
-use Rattle.stored.specs.Stored.{skip-to}
-use Rattle.branches.specs.Area.{Stored, Held, with-open, capacity, without-Q}
-use Rattle.branches.proofs.AreaLaws.{place, at-of, own-of, storable-open, place-inside, at-inside, skip-Q, end-P, p-is, parted-Q}
+use Rattle.stored.specs.Stored.{skip-to, Storable}
+use Rattle.branches.specs.Area.{Stored, with-open, without-Q, Held-in}
+use Rattle.branches.proofs.AreaLaws.{place, at-of, own-of, place-inside, at-inside, skip-Q, end-P, p-is, parted-Q}
 use Rattle.branches.proofs.ControlLaws.{Read, at-fits, record-equal, w1-is, w2-is, w3-is}
-use Rattle.changes.proofs.ChangeLaws.{More, more-Q, Spot, spot, member-inside, spot-inside, end-out-fits, own-out, held-out, count-remove, storable-remove}
+use Rattle.changes.proofs.ChangeLaws.{More, more-Q, Spot, spot, member-inside, spot-inside, end-out-fits, own-out, held-out, count-remove}
 use Rattle.branches.proofs.LengthLaws.{inside-room, still-inside, first-inside}
 use borrow.Author.Needs.{needs}
 use Rattle.changes.proofs.remove_q.Statement.{statement}
@@ -101,7 +102,7 @@ read r = record { at-word = at-read r .get0 .ensures; end-word = end-read r .get
 
 -- ── what is known ──
 abbrev Entry : Reading → Stored → List Stored → List Stored → Type 0
-Entry r b bs ss = Held (view (w r)) (capacity (w r)) (with-open b bs ss)
+Entry r b bs ss = Held-in (w r) (with-open b bs ss)
 
 -- The polynomials before the member of Q at place i, it, and those behind it.
 abbrev before-it : Reading → Stored → List (List ℕ)
@@ -266,8 +267,8 @@ returns c b bs ss H =
     let o = own-before-control k in
     let m = remove-of o in
     let r = from-remove m in
-    let h = storable-open H in
-    held-out H (read r) (member (m .before .before) H) (m .remove .ensures) (h .0, storable-remove (i r) (b .Q) (h .1), h .2) (own-is (o .before) H)
+    let h = H .storable .0 .0 in
+    held-out H (read r) (member (m .before .before) H) (m .remove .ensures) (h .0, each-remove Storable (i r) (b .Q) (h .1), h .2) (own-is (o .before) H)
     (record {
       v₂ = view (o .put-rec .last .0);
       own-put = o .put-rec .ensures;

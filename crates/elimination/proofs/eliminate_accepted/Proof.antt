@@ -12,7 +12,7 @@ use Rattle.records.specs.Records.{view}
 use Rattle.tables.specs.Read.{Input, good, read-table}
 use Rattle.tables.specs.laws.Chains.{readable-words}
 use Rattle.rules.specs.Run.{Ended, start, run-of}
-use Rattle.branches.specs.Area.{Area, Held, capacity}
+use Rattle.branches.specs.Area.{Area, capacity, Held-in}
 use Rattle.branches.proofs.LengthLaws.{same-capacity}
 use Rattle.representation.specs.Ready.{Ready, Modulus, limits-in}
 use Rattle.elimination.specs.declared.Answer.{Answer}
@@ -80,7 +80,7 @@ module _ (m : tie.Else1) where
   residues : Modulus modulus
   residues = readable-modulus (told (entry to-begun) .readable)
 
-  first : (a : Area) × Held (view (area to-begun)) (capacity (area to-begun)) a × Ready modulus a
+  first : (a : Area) × Held-in (area to-begun) a × Ready modulus a
   first =
       let s = entry to-begun in
       begins (s .pre .0) (most s) (s .args .limit) (view (area to-begun)) (begun to-begun (s .pre .0) (s .pre .1)) (found-room m)

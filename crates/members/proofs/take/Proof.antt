@@ -1,14 +1,14 @@
 -- `take` meets its contract: a load and a removal, in P or in Q.
 use mathlib.Core.Path.{_≡_}
 use mathlib.Core.Bool.{true}
-use mathlib.Core.List.{List}
+use mathlib.Core.List.{List, []}
 use Prim.Native.Nat.{_<_}
 use native.Mathlib.Omega.{arith}
 use borrow.Author.Needs.{needs}
 use lib.ListN.{length}
-use Rattle.records.specs.Records.{view}
-use Rattle.branches.specs.Area.{Stored, Held, with-open, capacity}
-use Rattle.branches.proofs.AreaLaws.{storable-member}
+use Rattle.stored.specs.Stored.{Storable}
+use Rattle.residues.specs.laws.Each.{each-member}
+use Rattle.branches.specs.Area.{Stored, with-open, Held-in}
 use Rattle.members.specs.Members.{Has-left}
 use Rattle.members.proofs.TakeLaws.{has-Q, has-P, took-Q, took-P}
 use Rattle.members.proofs.take.Statement.{statement}
@@ -32,7 +32,7 @@ to-P c = c .before .before .before
 
 -- ── what is known ──
 abbrev Entry : tie.Start → Stored → List Stored → List Stored → Type 0
-Entry s b bs ss = Held (view (s .args .w .now)) (capacity (s .args .w .now)) (with-open b bs ss)
+Entry s b bs ss = Held-in (s .args .w .now) (with-open b bs ss)
 
 -- The members of Q, before the removal.
 left-in-Q : (c : tie.After-count-q) (b : Stored) (bs ss : List Stored) → let s = entry-Q (to-Q c) in Entry s b bs ss
@@ -86,7 +86,7 @@ load-p-requires c κs =
       s .pre .0,
       (
         is-in-P e,
-        (λ b bs ss H. omega (arith, storable-member (b .P) (s .args .place) (is-in-P e b bs ss H) (H .storable .0 .0) .few, s .pre .1 .1)),
+        (λ b bs ss H. omega (arith, each-member Storable (s .args .place) (b .P) [] (is-in-P e b bs ss H) (H .storable .0 .0 .0) .few, s .pre .1 .1)),
       ),
     )
 

@@ -8,12 +8,12 @@ use Prim.Native.Nat.{ℕ, zero, suc, _-_}
 use native.Mathlib.Omega.{arith}
 use lib.ListN.{length, getD, take, drop}
 use Rattle.residues.specs.Each.{Each}
-use Rattle.residues.specs.laws.Each.{each-append}
+use Rattle.residues.specs.laws.Each.{each-append, each-take, each-drop}
 use Rattle.polynomials.specs.Poly.{Poly, monic}
 use Rattle.polynomials.specs.Packed.{terms}
 use Rattle.stored.specs.Stored.{member}
 use Rattle.rules.specs.Branch as rules
-use Rattle.branches.specs.laws.Words.{put-Q-before-in-parts}
+use Rattle.branches.specs.laws.Words.{put-Q-before-in-parts, each-remove}
 use Rattle.branches.specs.Words.{is-zero, is-one, unless, put-P, put-Q, put-Q-before, remove}
 use Rattle.representation.specs.Represent.{Sound, All-sound}
 use Rattle.representation.specs.laws.Tests.{is-zero-terms, is-one-terms, member-terms}
@@ -51,12 +51,6 @@ map-put-Q-before p f g h e left new old q hs =
 
 -- ── what holds of each member ──
 module _ (G : List ℕ → Type 0) where
-  pub each-remove : (i : ℕ) (fs : List (List ℕ)) → Each G fs → Each G (remove i fs)
-  unfolding remove
-  each-remove i [] hs = tt
-  each-remove zero (f ∷ fs) hs = hs .1
-  each-remove (suc i) (f ∷ fs) hs = (hs .0, each-remove i fs (hs .1))
-
   each-unless : (b : Bool) (f : List ℕ) (fs : List (List ℕ)) → G f → Each G fs → Each G (unless b f fs)
   each-unless true f fs h hs = hs
   each-unless false f fs h hs = each-append G fs (f ∷ []) .1 (hs, (h, tt))
@@ -69,21 +63,11 @@ module _ (G : List ℕ → Type 0) where
   unfolding put-Q
   each-put-Q f fs = each-unless (is-one f || member f fs) f fs
 
-  each-take : (n : ℕ) (fs : List (List ℕ)) → Each G fs → Each G (take n fs)
-  each-take zero fs hs = tt
-  each-take (suc n) [] hs = tt
-  each-take (suc n) (f ∷ fs) hs = (hs .0, each-take n fs (hs .1))
-
-  each-drop : (n : ℕ) (fs : List (List ℕ)) → Each G fs → Each G (drop n fs)
-  each-drop zero fs hs = hs
-  each-drop (suc n) [] hs = tt
-  each-drop (suc n) (f ∷ fs) hs = each-drop n fs (hs .1)
-
   pub each-put-Q-before : (left : ℕ) (f : List ℕ) (fs : List (List ℕ)) → G f → Each G fs → Each G (put-Q-before left f fs)
   unfolding put-Q-before
   each-put-Q-before left f fs h hs =
       let n = length fs - left in
-      each-append G (put-Q f (take n fs)) (drop n fs) .1 (each-put-Q f (take n fs) h (each-take n fs hs), each-drop n fs hs)
+      each-append G (put-Q f (take n fs)) (drop n fs) .1 (each-put-Q f (take n fs) h (each-take G n fs hs), each-drop G n fs hs)
 
   -- Also past the end, where zero stands.
   pub each-at : (i : ℕ) (fs : List (List ℕ)) → G [] → Each G fs → G (getD fs i [])
@@ -99,28 +83,21 @@ put-P-nonzero (x ∷ f) fs h = each-put-P (λ g. g ≢ []) (x ∷ f) fs (λ e. l
 
 -- ── soundness is kept ──
 module _ (p : ℕ) where
-  pub each-sound : (fs : List (List ℕ)) → All-sound p fs ↔ Each (Sound p) fs
-  each-sound [] = ((λ h. h), (λ h. h))
-  each-sound (f ∷ fs) = ((λ h. (h .0, each-sound fs .0 (h .1))), (λ h. (h .0, each-sound fs .1 (h .1))))
-
   pub zero-sound : Sound p []
   unfolding terms
   zero-sound = record { holds = record { pairs = refl; few = omega arith; canonical = tt }; small = λ i. omega arith }
 
   pub append-sound : (fs gs : List (List ℕ)) → All-sound p (fs ++ gs) ↔ (All-sound p fs × All-sound p gs)
-  append-sound fs gs = (
-    (λ h. let u = each-append (Sound p) fs gs .0 (each-sound (fs ++ gs) .0 h) in (each-sound fs .1 (u .0), each-sound gs .1 (u .1))),
-    (λ h. each-sound (fs ++ gs) .1 (each-append (Sound p) fs gs .1 (each-sound fs .0 (h .0), each-sound gs .0 (h .1)))),
-  )
+  append-sound = each-append (Sound p)
 
   pub remove-sound : (i : ℕ) (fs : List (List ℕ)) → All-sound p fs → All-sound p (remove i fs)
-  remove-sound i fs hs = each-sound (remove i fs) .1 (each-remove (Sound p) i fs (each-sound fs .0 hs))
+  remove-sound = each-remove (Sound p)
 
   pub put-P-sound : (f : List ℕ) (fs : List (List ℕ)) → Sound p f → All-sound p fs → All-sound p (put-P f fs)
-  put-P-sound f fs h hs = each-sound (put-P f fs) .1 (each-put-P (Sound p) f fs h (each-sound fs .0 hs))
+  put-P-sound = each-put-P (Sound p)
 
   pub put-Q-before-sound : (left : ℕ) (f : List ℕ) (fs : List (List ℕ)) → Sound p f → All-sound p fs → All-sound p (put-Q-before left f fs)
-  put-Q-before-sound left f fs h hs = each-sound (put-Q-before left f fs) .1 (each-put-Q-before (Sound p) left f fs h (each-sound fs .0 hs))
+  put-Q-before-sound = each-put-Q-before (Sound p)
 
   pub sound-at : (i : ℕ) (fs : List (List ℕ)) → All-sound p fs → Sound p (getD fs i [])
-  sound-at i fs hs = each-at (Sound p) i fs zero-sound (each-sound fs .0 hs)
+  sound-at i fs hs = each-at (Sound p) i fs zero-sound hs

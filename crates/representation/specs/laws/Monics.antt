@@ -5,6 +5,7 @@ use Prim.Native.Nat.{ℕ, _+_, _*_, _%_, _≤_, _<_}
 use native.Mathlib.Nat.{mod-eq-of-lt, mul-comm}
 use native.Mathlib.Omega.{arith}
 use lib.ListN.{getD}
+use Rattle.branches.specs.laws.Words.{each-remove}
 use Rattle.residues.specs.Prime.{Prime}
 use Rattle.residues.specs.Residue.{inverse, inverse-from}
 use Rattle.residues.specs.laws.Inverse.{inverse-ok}
@@ -17,7 +18,7 @@ use Rattle.polynomials.specs.laws.Places.{Places, places-terms}
 use Rattle.polynomials.specs.laws.Parts.{above-leader, degree-first, canonical-initial, coefficient-of}
 use Rattle.branches.specs.Words.{put-P, remove}
 use Rattle.representation.specs.Represent.{Monic, All-monic, Sound}
-use Rattle.representation.specs.laws.Lists.{each-remove, each-put-P, each-at}
+use Rattle.representation.specs.laws.Lists.{each-put-P, each-at}
 
 inverse-one : (p : ℕ) → inverse p 1 ≡ 1
 unfolding inverse inverse-from

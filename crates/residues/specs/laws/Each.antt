@@ -1,6 +1,9 @@
--- What holds of each member of a list, when lists are joined, and when another statement follows.
+-- What holds of each member of a list: when lists are joined or parted, of one member, and when another statement follows.
 use mathlib.Core.Logic.{_↔_}
 use mathlib.Core.List.{List, [], _∷_, _++_}
+use Prim.Native.Nat.{ℕ, zero, suc, _<_}
+use native.Mathlib.Omega.{arith}
+use lib.ListN.{length, getD, take, drop}
 use Rattle.residues.specs.Each.{Each}
 
 module _ {ℓ} {A : Type 0} (P : A → Type ℓ) where
@@ -9,6 +12,21 @@ module _ {ℓ} {A : Type 0} (P : A → Type ℓ) where
   each-append (a ∷ xs) ys =
       let ih = each-append xs ys in
       ((λ e. ((e .0, ih .0 (e .1) .0), ih .0 (e .1) .1)), (λ e. (e .0 .0, ih .1 (e .0 .1, e .1))))
+
+  pub each-take : (n : ℕ) (xs : List A) → Each P xs → Each P (take n xs)
+  each-take zero xs e = tt
+  each-take (suc n) [] e = tt
+  each-take (suc n) (a ∷ xs) e = (e .0, each-take n xs (e .1))
+
+  pub each-drop : (n : ℕ) (xs : List A) → Each P xs → Each P (drop n xs)
+  each-drop zero xs e = e
+  each-drop (suc n) [] e = tt
+  each-drop (suc n) (a ∷ xs) e = each-drop n xs (e .1)
+
+  pub each-member : (i : ℕ) (xs : List A) (d : A) → i < length xs → Each P xs → P (getD xs i d)
+  each-member i [] d h e = absurd (omega arith)
+  each-member zero (a ∷ xs) d h e = e .0
+  each-member (suc i) (a ∷ xs) d h e = each-member i xs d (omega arith) (e .1)
 
 pub each-map {ℓ ℓ′} : {A : Type 0} (P : A → Type ℓ) (Q : A → Type ℓ′) → ((a : A) → P a → Q a) → (xs : List A) → Each P xs → Each Q xs
 each-map P Q h [] e = tt

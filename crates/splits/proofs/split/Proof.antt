@@ -6,7 +6,7 @@ use native.Mathlib.Omega.{arith}
 use borrow.Author.Tests.{not-true, not-false}
 use lib.ListN.{length}
 use Rattle.records.specs.Records.{view}
-use Rattle.branches.specs.Area.{Stored, Held, Leaves, capacity, with-open, put-into-P, put-into-Q, without-P, aside}
+use Rattle.branches.specs.Area.{Stored, Leaves, capacity, with-open, put-into-P, put-into-Q, without-P, aside, Held-in}
 use Rattle.branches.proofs.AreaLaws.{at-inside, p-is}
 use Rattle.branches.proofs.LengthLaws.{same-capacity, inside-room, held-by, left-by}
 use Rattle.splits.proofs.AsideLaws.{length-aside, kept-aside, size-initial, size-more, failed, same-members}
@@ -71,7 +71,7 @@ abbrev with-rest : Reading → Stored → Stored
 with-rest r b = aside (i r) (initial r) (rest r) b
 
 abbrev Holds : List ℕ → Stored → List Stored → List Stored → Type 0
-Holds u b bs ss = Held (view u) (capacity u) (with-open b bs ss)
+Holds u b bs ss = Held-in u (with-open b bs ss)
 
 module _ {b : Stored} {bs ss : List Stored} where
   count-is : (r : Reading) → Holds (w r) b bs ss → r .get02 .result ≡ length (b .P)

@@ -7,7 +7,7 @@ use Rattle.rules.specs.Rule.{rule-with, rule-of}
 use Rattle.rules.specs.Room.{Limits}
 use Rattle.rules.specs.Step.{Stepped}
 use Rattle.records.specs.Records.{view}
-use Rattle.branches.specs.Area.{Stored, Held, with-open, capacity}
+use Rattle.branches.specs.Area.{Stored, with-open, capacity, Held-in}
 use Rattle.survey.specs.Survey.{All-hold}
 use Rattle.representation.specs.Represent.{branch-of, chosen}
 use Rattle.representation.specs.laws.Steps.{drop-state, list-state}
@@ -28,7 +28,7 @@ pivot-chosen c = c .before .before .before .before .before .before
 
 -- ── what is known ──
 abbrev Entry : tie.Start → Stored → List Stored → List Stored → Type 0
-Entry s b bs ss = Held (view (s .args .w .now)) (capacity (s .args .w .now)) (with-open b bs ss)
+Entry s b bs ss = Held-in (s .args .w .now) (with-open b bs ss)
 
 abbrev limits : tie.Start → Limits
 limits s = limits-in (capacity (s .args .w .now))

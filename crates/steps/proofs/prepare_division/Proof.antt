@@ -5,7 +5,7 @@ use mathlib.Core.List.{List, map}
 use Rattle.polynomials.specs.Packed.{terms}
 use Rattle.rules.specs.Branch.{other}
 use Rattle.records.specs.Records.{view}
-use Rattle.branches.specs.Area.{Stored, Held, with-open, capacity, closed}
+use Rattle.branches.specs.Area.{Stored, Held, with-open, capacity, closed, Held-in}
 use Rattle.branches.proofs.LengthLaws.{held-by}
 use Rattle.steps.proofs.PrepareLaws.{aims-at, aims-all}
 use Rattle.steps.proofs.prepare_division.Statement.{statement}
@@ -23,14 +23,14 @@ abbrev start : tie.After-close → tie.Start
 start c = entry (searched c)
 
 abbrev Entry : tie.Start → Stored → List Stored → List Stored → Type 0
-Entry s b bs ss = Held (view (s .args .w .now)) (capacity (s .args .w .now)) (with-open b bs ss)
+Entry s b bs ss = Held-in (s .args .w .now) (with-open b bs ss)
 
 moved : (c : tie.After-close) (b : Stored) (bs ss : List Stored) → Entry (start c) b bs ss
     → Held (view (c .close .last .0)) (capacity (start c .args .w .now)) (with-open (closed (start c .args .place) b) bs ss)
 moved c b bs ss H = c .close .ensures b bs ss H
 
 moved-there : (c : tie.After-close) (b : Stored) (bs ss : List Stored) → Entry (start c) b bs ss
-    → Held (view (c .close .last .0)) (capacity (c .close .last .0)) (with-open (closed (start c .args .place) b) bs ss)
+    → Held-in (c .close .last .0) (with-open (closed (start c .args .place) b) bs ss)
 moved-there c b bs ss H = held-by _ _ (start c .args .w .now) (c .close .last .0) (sym (c .close .kept .0)) (moved c b bs ss H)
 
 -- ── the needs ──

@@ -7,16 +7,15 @@ use native.Mathlib.Omega.{arith}
 use borrow.Author.Needs.{needs}
 use lib.ListN.{length, getD, take}
 use lib.Seq.{length-take-le}
+use Rattle.residues.specs.laws.Each.{each-member}
 use Rattle.polynomials.specs.Division.{initial, rest}
 use Rattle.polynomials.specs.Poly.{monic}
 use Rattle.polynomials.specs.Packed.{terms}
 use Rattle.rules.specs.Branch.{other}
 use Rattle.rules.specs.Rule.{Rule, split, divide-or-close, rule-with}
-use Rattle.records.specs.Records.{view}
 use Rattle.stored.specs.Stored.{member, Storable}
 use Rattle.branches.specs.Words.{is-one}
-use Rattle.branches.specs.Area.{Stored, Held, with-open, capacity}
-use Rattle.branches.proofs.AreaLaws.{storable-member}
+use Rattle.branches.specs.Area.{Stored, with-open, capacity, Held-in}
 use Rattle.survey.specs.Survey.{All-hold}
 use Rattle.representation.specs.Represent.{branch-of, chosen}
 use Rattle.representation.specs.laws.Sounds.{sound-storable}
@@ -64,7 +63,7 @@ to-split c = c .before .before .before .before .before
 
 -- ── what is known ──
 abbrev Entry : tie.Start → Stored → List Stored → List Stored → Type 0
-Entry s b bs ss = Held (view (s .args .w .now)) (capacity (s .args .w .now)) (with-open b bs ss)
+Entry s b bs ss = Held-in (s .args .w .now) (with-open b bs ss)
 
 -- The pivot as it was loaded.
 module _ (c : Loaded) where
@@ -159,7 +158,7 @@ returns : tie.Need-returns
 returns c =
     let s = entry (c .before) in
     let o = s .pre .0 .1 in
-    let few = storable-member (o .0 .P) (s .args .place) (o .5 .1) (o .3 .storable .0 .0) .few in (
+    let few = each-member Storable (s .args .place) (o .0 .P) [] (o .5 .1) (o .3 .storable .0 .0 .0) .few in (
       (λ b bs ss H R L. (
         b,
         record {

@@ -9,7 +9,7 @@ use lib.ListN.{getD}
 use Rattle.records.specs.Records.{zero-record, room, view}
 use Rattle.records.proofs.Rows.{length-view}
 use Rattle.stored.specs.Stored.{skip-to, polys-at}
-use Rattle.branches.specs.Area.{Stored, Held, capacity, with-open}
+use Rattle.branches.specs.Area.{Stored, capacity, with-open, Held-in}
 use Rattle.polynomials.specs.Packed.{terms}
 use Rattle.rules.specs.Branch.{some-one, some-zero, highest-leader}
 use Rattle.representation.specs.Represent.{branch-of}
@@ -31,12 +31,12 @@ module _ (c : tie.After-get1) where
   many = c .before .get02 .result
 
   -- Where the open branch of a state that the records hold lies, with Q from s on.
-  lies-at : (s : ℕ) → s ≡ skip-to (view area) (start + 1) many → (b : Stored) (bs ss : List Stored) → Held (view area) (capacity area) (with-open b bs ss)
+  lies-at : (s : ℕ) → s ≡ skip-to (view area) (start + 1) many → (b : Stored) (bs ss : List Stored) → Held-in area (with-open b bs ss)
       → Lies (view area) b start many (c .get1 .result) s
   lies-at s e b bs ss H =
       lies (view area) (capacity area) b bs ss H start many (c .get1 .result) s (c .before .before .get0 .ensures) (c .before .get02 .ensures) (c .get1 .ensures) e
 
-  lies-P : (b : Stored) (bs ss : List Stored) → Held (view area) (capacity area) (with-open b bs ss)
+  lies-P : (b : Stored) (bs ss : List Stored) → Held-in area (with-open b bs ss)
       → Lies (view area) b start many (c .get1 .result) (skip-to (view area) (start + 1) many)
   lies-P = lies-at (skip-to (view area) (start + 1) many) refl
 
@@ -109,7 +109,7 @@ returns-2 c = λ b bs ss H.
 
 -- Neither a 1 in P nor a zero in Q.
 neither : (c : tie.Else2) (b : Stored) (bs ss : List Stored)
-    → Held (view (area (c .before .before .before .before .before))) (capacity (area (c .before .before .before .before .before))) (with-open b bs ss)
+    → Held-in (area (c .before .before .before .before .before)) (with-open b bs ss)
     → choice (branch-of b) ≡ choice-of-P (map terms (b .P))
 neither c b bs ss H =
     let skipped = c .before .before in

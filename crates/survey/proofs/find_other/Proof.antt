@@ -8,7 +8,7 @@ use lib.ListN.{getD}
 use Rattle.records.specs.Records.{zero-record, view}
 use Rattle.records.proofs.Rows.{length-view}
 use Rattle.stored.specs.Stored.{skip-to}
-use Rattle.branches.specs.Area.{Stored, Held, capacity, with-open}
+use Rattle.branches.specs.Area.{Stored, capacity, with-open, Held-in}
 use Rattle.polynomials.specs.Packed.{terms}
 use Rattle.rules.specs.Branch.{other}
 use Rattle.survey.specs.Survey.{All-hold, other-place}
@@ -24,7 +24,7 @@ module _ (c : tie.After-get0) where
   abbrev start : ℕ
   start = c .get0 .result
 
-  lies-at : (p : ℕ) → p ≡ getD (view area) start zero-record .w0 → (b : Stored) (bs ss : List Stored) → Held (view area) (capacity area) (with-open b bs ss)
+  lies-at : (p : ℕ) → p ≡ getD (view area) start zero-record .w0 → (b : Stored) (bs ss : List Stored) → Held-in area (with-open b bs ss)
       → Lies (view area) b start p (getD (view area) start zero-record .w1) (skip-to (view area) (start + 1) p)
   lies-at p e b bs ss H =
       lies (view area) (capacity area) b bs ss H start p (getD (view area) start zero-record .w1) (skip-to (view area) (start + 1) p) (c .get0 .ensures) e refl refl

@@ -5,7 +5,7 @@ use Prim.Native.Nat.{ℕ, _≤_, _<_}
 use native.Mathlib.Omega.{arith}
 use lib.ListN.{length}
 use Rattle.records.specs.Records.{record-of, room, view}
-use Rattle.branches.specs.Area.{Stored, Held, with-open, capacity}
+use Rattle.branches.specs.Area.{Stored, with-open, Held-in}
 use Rattle.branches.proofs.LengthLaws.{inside-room}
 use Rattle.branches.proofs.AreaLaws.{own-of, lies, first-is, own-read}
 use Rattle.branches.proofs.ControlLaws.{record-equal, w0-is, w1-is, w2-is, w3-is, Read, bounds-inside}
@@ -84,7 +84,7 @@ bounds r = record { at-word = at-read r .get0 .ensures; end-word = end-read r .g
 
 -- ── what is known ──
 abbrev Entry : Reading → Stored → List Stored → List Stored → Type 0
-Entry r b bs ss = Held (view (w r)) (capacity (w r)) (with-open b bs ss)
+Entry r b bs ss = Held-in (w r) (with-open b bs ss)
 
 module _ {b : Stored} {bs ss : List Stored} where
   own-is : (c : tie.After-get32) → Entry (from-own c) b bs ss

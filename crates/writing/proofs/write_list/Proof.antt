@@ -7,7 +7,7 @@ use native.Mathlib.Omega.{arith}
 use lib.ListN.{length}
 use Rattle.records.specs.Records.{view}
 use Rattle.records.proofs.Rows.{length-view}
-use Rattle.branches.specs.Area.{Stored, Held, capacity}
+use Rattle.branches.specs.Area.{Stored, capacity, Held-in}
 use Rattle.representation.specs.Represent.{system-of}
 use Rattle.writing.proofs.Walk.{Walked, control, list-some, begins, Turn, turn, finished, list-written}
 use Rattle.writing.proofs.write_list.Statement.{statement}
@@ -16,7 +16,7 @@ use Rattle.writing.proofs.write_list.Tie as tie
 abbrev Inv-loop : tie.InvT-loop
 Inv-loop w p n out₀ top count all most first i₀ end₀ next₀ out i end next =
     (length out ≡ length out₀)
-    × ((ss : List Stored) → Held (view w) (capacity w) (record { branches = []; systems = ss }) → Walked (view w) most ss out₀ out i end next)
+    × ((ss : List Stored) → Held-in w (record { branches = []; systems = ss }) → Walked (view w) most ss out₀ out i end next)
 
 abbrev μ-loop : tie.MeasureT-loop
 μ-loop w p n out₀ top count all most first i₀ end₀ next₀ out i end next = most - i
@@ -34,7 +34,7 @@ At c ss =
     let a = c .before .before .before .before .before .before .before .before .before .before .before .before .before .args in Turn (view (a .w .now)) most ss (put .last .0) (turn .out) (turn .i) (turn .end) (turn .next)
 
 turn-of : (c : tie.In-loop Inv-loop μ-loop) (ss : List Stored)
-    → let w = c .before .before .before .before .before .before .before .before .before .before .before .before .before .args .w .now in Held (view w) (capacity w) (record { branches = []; systems = ss }) → At c ss
+    → let w = c .before .before .before .before .before .before .before .before .before .before .before .before .before .args .w .now in Held-in w (record { branches = []; systems = ss }) → At c ss
 turn-of c ss h =
     let loop = c .before .loop in
     let put = c .before .before .before .before .before .put-record in

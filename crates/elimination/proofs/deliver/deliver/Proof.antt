@@ -4,10 +4,9 @@ use Prim.Native.Nat.{_≤_}
 use native.Mathlib.Omega.{arith}
 use borrow.Author.Needs.{needs}
 use lib.ListN.{length}
-use Rattle.records.specs.Records.{view}
 use Rattle.tables.specs.laws.Accepted.{TableRead, table-read}
 use Rattle.tables.specs.laws.Chains.{readable-words}
-use Rattle.branches.specs.Area.{Stored, Held, capacity}
+use Rattle.branches.specs.Area.{Stored, Held-in}
 use Rattle.representation.specs.Represent.{All-listed}
 use Rattle.elimination.proofs.DeliverLaws.{listed-known}
 use Rattle.elimination.proofs.AnswerLaws.{refused-run, left-systems, too-long, list-written}
@@ -24,7 +23,7 @@ module _ (s : tie.Start) where
 
   -- The area has these systems and no branch.
   abbrev Left : List Stored → Type 0
-  Left ss = Held (view (s .args .work .now)) (capacity (s .args .work .now)) (record { branches = []; systems = ss })
+  Left ss = Held-in (s .args .work .now) (record { branches = []; systems = ss })
 
 -- ── the outcome is seen ──
 abbrev refused-in : tie.After-enum-told2 → tie.Start

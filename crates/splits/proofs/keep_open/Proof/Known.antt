@@ -7,7 +7,7 @@ use lib.ListN.{length}
 use Rattle.records.specs.Records.{room, view}
 use Rattle.records.proofs.Rows.{length-view}
 use Rattle.stored.specs.Stored.{skip-to}
-use Rattle.branches.specs.Area.{Stored, Held, capacity, with-open}
+use Rattle.branches.specs.Area.{Stored, with-open, Held-in}
 use Rattle.branches.proofs.LengthLaws.{inside-room}
 use Rattle.branches.proofs.AreaLaws as area
 use Rattle.branches.proofs.ControlLaws.{w2-is, Read, start-is, ends, free-is}
@@ -127,7 +127,7 @@ bounds r = record { at-word = at-read r .get0 .ensures; end-word = end-read r .g
 
 -- ── what is known of the state held ──
 abbrev pub Entry : Words → Stored → List Stored → List Stored → Type 0
-Entry r b bs ss = Held (view (w r)) (capacity (w r)) (with-open b bs ss)
+Entry r b bs ss = Held-in (w r) (with-open b bs ss)
 
 module _ {b : Stored} {bs ss : List Stored} where
   pub members : (r : Words) → Entry r b bs ss → (i r ≤ n r) × (n r ≤ length (b .P))

@@ -5,15 +5,15 @@ use Prim.Native.Nat.{ℕ, zero, suc, _+_, _*_, _-_, _≤_, _<_}
 use native.Mathlib.Omega.{arith}
 use native.Mathlib.Numerals.{add-one}
 use lib.ListN.{length, getD, take, drop, set}
-use lib.Seq.{take-suc-set, take-length, length-take-le, getD-drop, getD-set-same}
+use lib.Seq.{take-suc-set, take-length, length-take-le, getD-drop, getD-set-same, take-at, drop-at}
 use Rattle.input.specs.declared.Input.{Input}
 use Rattle.input.specs.declared.Word.{Word}
 use Rattle.input.specs.declared.Word.the-variants.{Read, End}
 use Rattle.input.specs.declared.Filled.{Filled}
-use Rattle.input.specs.declared.Filled.the-variants.{Full}
+use Rattle.input.specs.declared.Filled.the-variants.{Full, CutShort as FilledShort}
 use Rattle.input.specs.declared.Words.{Words}
-use Rattle.input.specs.declared.Words.the-variants.{First}
-use Rattle.input.specs.Input.{word-at, words-from, Enough, Left, further, Before, Reached, Ended, Taken, Within}
+use Rattle.input.specs.declared.Words.the-variants.{First, CutShort}
+use Rattle.input.specs.Input.{word-at, words-from, Enough, Left, further, Before, Reached, Ended, Taken, Within, TakenFirst, Counted}
 
 -- The first i of n words of the bytes are put; with those that are left they are all.
 abbrev pub Decoded : List ℕ → ℕ → ℕ → List ℕ → Type 0
@@ -134,3 +134,61 @@ within xs h e = rw e at h
 
 pub within-take : {r : Words} {n : ℕ} {i : Input} (xs : List ℕ) → Within r xs → r ≡ First n i → n ≡ length (take n xs)
 within-take {n = n} xs h e = sym (length-take-le n xs (within xs h e))
+
+-- ── a count, and as many words ──
+-- A word was left in the buffer, so `next` reads it.
+module _ (i : Input) (b xs : List ℕ) (l : Left i b) {w : Word} {b₁ : List ℕ} (next : Left i b → (w ≡ Read (word-at b (i .at)) (further 1 i)) × (b₁ ≡ b)) where
+  pub count-lasts : w ≡ End → ⊥
+  count-lasts e = let q = sym e ∙ next l .0 in let z : _≡_ {A = ℕ} 0 1 = cc in omega arith
+
+  module _ (n : ℕ) (j : Input) (e : w ≡ Read n j) where
+    read : Read n j ≡ Read (word-at b (i .at)) (further 1 i)
+    read = sym e ∙ next l .0
+
+    count-is : n ≡ word-at b (i .at)
+    count-is = let q = read in cc
+
+    behind-is : j ≡ further 1 i
+    behind-is = let q = read in cc
+
+    pub counted-over : {b′ xs′ : List ℕ} → length xs < n → Counted i b xs CutShort b′ xs′
+    counted-over h = record { over = λ o. refl; within = λ o g. absurd (omega (arith, count-is)) }
+
+    -- Then `fill` is lent the first n words of the slice.
+    module _ (h : n ≤ length xs) (long : ℕ) (is-long : long ≡ n) {r : Filled} {b₂ ys : List ℕ} (same : length ys ≡ long)
+        (fill : Enough long j b₁ → Taken j b₁ r b₂ ys) where
+      taken : Enough (word-at b (i .at)) (further 1 i) b → Taken j b₁ r b₂ ys
+      taken g =
+          let at : j .at ≡ i .at + 4 * 1 = ap (λ (u : Input). u .at) behind-is in
+          let end : j .end ≡ i .end = ap (λ (u : Input). u .end) behind-is in
+          let kept : length b₁ ≡ length b = ap length (next l .1) in
+          let count = count-is in
+          fill (record { within = omega (arith, g .within); some = omega (arith, g .some) })
+
+      pub counted-short : {xs′ : List ℕ} → r ≡ FilledShort → Counted i b xs CutShort b₂ xs′
+      counted-short q =
+          record {
+            over = λ o. refl;
+            within = λ o g. let u = sym q ∙ taken g .full in let z : _≡_ {A = ℕ} 0 1 = cc in absurd (omega arith);
+          }
+
+      first-taken : {k : Input} → r ≡ Full k → Taken j b₁ r b₂ ys → TakenFirst n j b₁ xs (First n k) b₂ (ys ++ drop n xs)
+      first-taken {k} q t =
+          let m : length ys ≡ n = same ∙ is-long in
+          let u : Full k ≡ Full (further (length ys) j) = sym q ∙ t .full in
+          let end : k ≡ further (length ys) j = cc in
+          record {
+            first = ap (First n) (end ∙ ap (λ (z : ℕ). further z j) m);
+            same = t .same;
+            words = take-at ys (drop n xs) n m ∙ t .words ∙ ap (words-from (drop (j .at) b₁) 0) m;
+            others = drop-at ys (drop n xs) n m;
+          }
+
+      pub counted-full : {k : Input} → r ≡ Full k → Counted i b xs (First n k) b₂ (ys ++ drop n xs)
+      counted-full {k} q =
+          record {
+            over = λ o. absurd (omega (arith, count-is));
+            within = λ o g. subst (λ (m : ℕ). TakenFirst m (further 1 i) b xs (First n k) b₂ (ys ++ drop n xs)) count-is
+                (subst (λ (u : Input). TakenFirst n u b xs (First n k) b₂ (ys ++ drop n xs)) behind-is
+                (subst (λ (c : List ℕ). TakenFirst n j c xs (First n k) b₂ (ys ++ drop n xs)) (next l .1) (first-taken q (taken g))));
+          }

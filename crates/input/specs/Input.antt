@@ -2,7 +2,7 @@
 use mathlib.Core.Path.{_≡_, refl}
 use mathlib.Core.List.{List, [], _∷_}
 use Prim.Native.Nat.{ℕ, zero, suc, _+_, _*_, _-_, _/_, _≤_, _<_}
-use lib.ListN.{length, getD, drop}
+use lib.ListN.{length, getD, take, drop}
 use Rattle.input.specs.declared.Input.{Input}
 use Rattle.input.specs.declared.Word.{Word}
 use Rattle.input.specs.declared.Word.the-variants.{Read, End}
@@ -67,3 +67,15 @@ pub record Taken (i : Input) (b : List ℕ) (r : Filled) (b′ xs : List ℕ) : 
 abbrev pub Within : Words → List ℕ → Type 0
 Within (First n i) xs = n ≤ length xs
 Within CutShort xs = Unit {0}
+
+-- So many words stood in the buffer. They are the first of the slice, whose others stay; and so does the buffer.
+pub record TakenFirst (n : ℕ) (i : Input) (b xs : List ℕ) (r : Words) (b′ xs′ : List ℕ) : Type 0 where
+  pub first : r ≡ First n (further n i)
+  pub same : b′ ≡ b
+  pub words : take n xs′ ≡ words-from (drop (i .at) b) 0 n
+  pub others : drop n xs′ ≡ drop n xs
+
+-- The count stood in the buffer: one over the slice's length is answered so, and the words of one within it are taken where they stood behind it.
+pub record Counted (i : Input) (b xs : List ℕ) (r : Words) (b′ xs′ : List ℕ) : Type 0 where
+  pub over : length xs < word-at b (i .at) → r ≡ CutShort
+  pub within : word-at b (i .at) ≤ length xs → Enough (word-at b (i .at)) (further 1 i) b → TakenFirst (word-at b (i .at)) (further 1 i) b xs r b′ xs′

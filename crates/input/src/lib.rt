@@ -1,9 +1,9 @@
 // Words from bytes, and from standard input by way of a buffer. What standard input holds is free: of a word that is read the contracts say where it
-// stands in the buffer, and of a count that it lies within the slice.
+// stands in the buffer, and of words that stood in the buffer already that they are taken in order, none skipped.
 ghost use mathlib.Core.Path.{_≡_};
 ghost use Prim.Native.Nat.{_+_, _*_, _-_, _/_, _≤_};
 ghost use lib.ListN.{length, take, drop};
-ghost use Rattle.input.specs.Input.{word-at, words-of, Reached, Enough, Left, Ended, Taken, Within};
+ghost use Rattle.input.specs.Input.{word-at, words-of, Reached, Enough, Left, Ended, Taken, Within, Counted};
 use libc::STDIN_FILENO;
 
 // The bytes of a buffer that are read and not yet used: from `at` up to `end`.
@@ -108,6 +108,7 @@ pub fn fill(buffer: &mut [u8], input: Input, words: &mut [u32]) -> Filled
 // Reads a count, and as many words to the start of the slice.
 pub fn counted(buffer: &mut [u8], input: Input, words: &mut [u32]) -> Words
     ensures { λ r. ⌜ Within r (now (words .exit)) ⌝ }
+    ensures { λ r. ⌜ (Left input (now (buffer .entry)) → Counted input (now (buffer .entry)) (now (words .entry)) r (now (buffer .exit)) (now (words .exit))) ⌝ }
 {
     let Word::Read(count, after) = next(buffer, input) else {
         return Words::CutShort;

@@ -1,9 +1,45 @@
 -- The words that were counted are lent to `fill`.
-use mathlib.Core.Path.{sym}
+use mathlib.Core.Path.{_≡_, sym}
+use mathlib.Core.List.{List}
+use Prim.Native.Nat.{ℕ}
+use lib.ListN.{length, take}
+use native.Mathlib.Omega.{arith}
 use borrow.Author.Needs.{needs}
 use lib.Seq.{length-take-le}
+use Rattle.input.specs.declared.Input.{Input}
+use Rattle.input.specs.declared.Word.the-variants.{Read}
+use Rattle.input.specs.Input.{word-at, Left, further}
+use Rattle.input.proofs.InputLaws.{count-lasts, counted-over, counted-short, counted-full}
 use Rattle.input.proofs.counted.Statement.{statement}
 use Rattle.input.proofs.counted.Tie as tie
+
+-- ── the count that was read, and the call of `fill` ──
+abbrev input : tie.After-count → Input
+input k = k .before .before .before .before .before .before .before .before .args .input
+
+abbrev buffer : tie.After-count → List ℕ
+buffer k = k .before .before .before .before .before .before .before .before .args .buffer .now
+
+abbrev words : tie.After-count → List ℕ
+words k = k .before .before .before .before .before .before .before .before .args .words .now
+
+abbrev number : tie.After-count → ℕ
+number k = k .count .given .0 .0
+
+abbrev read : (k : tie.After-count) → Left (input k) (buffer k) → (k .before .before .before .before .next .result ≡ Read (word-at (buffer k) (input k .at)) (further 1 (input k))) × (k .before .before .before .before .next .last .0 ≡ buffer k)
+read k = k .before .before .before .before .next .ensures .1
+
+abbrev counted-in : tie.After-fill → tie.After-count
+counted-in f = f .before .before .before .before .before
+
+abbrev long : tie.After-fill → ℕ
+long f = length (take (number (counted-in f)) (words (counted-in f)))
+
+lent : (f : tie.After-fill) → long f ≡ number (counted-in f)
+lent f = length-take-le (number (counted-in f)) (words (counted-in f)) (f .before .before .before .if1 .left)
+
+kept : (f : tie.After-fill) → length (f .fill .last .1 .1 .0) ≡ long f
+kept f = search needs
 
 next-requires : tie.Need-next-requires
 next-requires c κs = search needs
@@ -18,7 +54,9 @@ same-length : tie.Need-same-length
 same-length c = search needs
 
 returns : tie.Need-returns
-returns c = search needs
+returns c =
+    let a = c .before .before .before .before .before .before .before .before .args in
+    (tt, λ l. absurd (count-lasts (a .input) (a .buffer .now) (a .words .now) l (c .before .before .before .before .next .ensures .1) (c .enum-told .given .1)))
 
 cast-n : tie.Need-cast-n
 cast-n c = search needs
@@ -27,7 +65,10 @@ same-length-2 : tie.Need-same-length-2
 same-length-2 c = search needs
 
 returns-2 : tie.Need-returns-2
-returns-2 c = search needs
+returns-2 c = (tt, λ l. counted-over (input k) (buffer k) (words k) l (read k) (number k) (k .count .given .0 .1 .0) (k .count .given .1) (omega arith))
+  where
+    k : tie.After-count
+    k = c .before .before
 
 slice-relend-prefix-fill : tie.Need-slice-relend-prefix-fill
 slice-relend-prefix-fill c = search needs
@@ -54,7 +95,14 @@ same-length-4 : tie.Need-same-length-4
 same-length-4 c = search needs
 
 returns-3 : tie.Need-returns-3
-returns-3 c = search needs
+returns-3 c =
+    (tt, λ l. counted-short (input k) (buffer k) (words k) l (read k) (number k) (k .count .given .0 .1 .0) (k .count .given .1) (f .before .before .before .if1 .left) (long f) (lent f) (kept f) (f .fill .ensures .1) (c .enum-told2 .given .1))
+  where
+    f : tie.After-fill
+    f = c .before .before .before .before .before .before
+
+    k : tie.After-count
+    k = counted-in f
 
 same-length-5 : tie.Need-same-length-5
 same-length-5 c = search needs
@@ -63,7 +111,14 @@ same-length-6 : tie.Need-same-length-6
 same-length-6 c = search needs
 
 returns-4 : tie.Need-returns-4
-returns-4 c = search needs
+returns-4 c =
+    (omega arith, λ l. counted-full (input k) (buffer k) (words k) l (read k) (number k) (k .count .given .0 .1 .0) (k .count .given .1) (f .before .before .before .if1 .left) (long f) (lent f) (kept f) (f .fill .ensures .1) (c .before .rest .given .1))
+  where
+    f : tie.After-fill
+    f = c .before .before .before .before .before .before .before
+
+    k : tie.After-count
+    k = counted-in f
 
 pub counted-spec : {M : Type 1} → statement M
 counted-spec =

@@ -23,12 +23,16 @@ unfoldable pub heads-words : ℕ → List Poly → List ℕ
 heads-words i [] = []
 heads-words i (f ∷ fs) = index-of f (suc i) ∷ 0 ∷ 0 ∷ index-of fs (suc (i + length f)) ∷ (terms-words (suc i) f ++ heads-words (suc (i + length f)) fs)
 
+-- One system from record i on, with `next` as its link.
+abbrev pub system-words : ℕ → ℕ → System → List ℕ
+system-words i next s =
+    index-of (s .T) (suc i) ∷ index-of (s .U) (suc i + polynomials-size (s .T)) ∷ 0 ∷ next
+    ∷ (heads-words (suc i) (s .T) ++ heads-words (suc i + polynomials-size (s .T)) (s .U))
+
 -- The systems from record i on.
 unfoldable pub systems-words : ℕ → List System → List ℕ
 systems-words i [] = []
-systems-words i (s ∷ ss) =
-    index-of (s .T) (suc i) ∷ index-of (s .U) (suc i + polynomials-size (s .T)) ∷ 0 ∷ index-of ss (i + systems-size (s ∷ []))
-    ∷ (heads-words (suc i) (s .T) ++ (heads-words (suc i + polynomials-size (s .T)) (s .U) ++ systems-words (i + systems-size (s ∷ [])) ss))
+systems-words i (s ∷ ss) = system-words i (index-of ss (i + systems-size (s ∷ []))) s ++ systems-words (i + systems-size (s ∷ [])) ss
 
 unfoldable pub list-words : Listing → List ℕ
 list-words l = l .modulus ∷ l .variables ∷ index-of (l .systems) 1 ∷ length (l .systems) ∷ systems-words 1 (l .systems)

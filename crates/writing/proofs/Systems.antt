@@ -8,8 +8,8 @@ use lib.Seq.{paste, getD-at}
 use Rattle.polynomials.specs.Poly.{Poly}
 use Rattle.polynomials.specs.Packed.{terms}
 use Rattle.rules.specs.Room.{polynomials-size, systems-size}
-use Rattle.rules.specs.Written.{index-of, heads-words}
-use Rattle.rules.specs.laws.Lengths.{length-heads}
+use Rattle.rules.specs.Written.{index-of, heads-words, system-words}
+use Rattle.rules.specs.laws.Lengths.{length-heads, length-system}
 use Rattle.records.specs.Records.{Rec, record-of, zero-record}
 use Rattle.stored.specs.Stored.{polys-records, skip-to, polys-at}
 use Rattle.stored.specs.laws.Stored.{polys-records-append, skip-to-polys-records, polys-at-polys-records}
@@ -17,7 +17,7 @@ use Rattle.branches.specs.Area.{Stored, branch-records}
 use Rattle.branches.proofs.AreaLaws.{all-pairs}
 use Rattle.representation.specs.Represent.{system-of}
 use Rattle.representation.specs.laws.Sizes.{length-polys-records-terms}
-use Rattle.writing.specs.Listed.{Stored-at, system-words}
+use Rattle.writing.specs.Listed.{Stored-at}
 use Rattle.chains.proofs.Over.{over, paste-over, over-behind, record-behind}
 use Rattle.chains.proofs.Laws.{index-is}
 
@@ -123,18 +123,6 @@ ends v i u t in-t end s f eu et ei ee =
       polys-T = (λ k. polys-at v (in-t-is k) (t-is k)) ∙ f .polys-T;
     }
 
-pub length-system-words : (s : Stored) (at next : ℕ) → length (system-words at next (system-of s)) ≡ 4 * size-of s
-length-system-words s at next =
-    let T : List Poly = map terms (s .T) in
-    let U : List Poly = map terms (s .Q) in
-    omega (
-      arith,
-      size-is s,
-      length-append (heads-words (suc at) T) (heads-words (suc at + polynomials-size T) U),
-      length-heads (suc at) T,
-      length-heads (suc at + polynomials-size T) U,
-    )
-
 -- A system's record written, then its T heads, then its U heads.
 pub system-written : (s : Stored) (out o₁ o₂ o₃ : List ℕ) (at to next ft fu : ℕ)
     → o₁ ≡ paste out (4 * at) (ft ∷ fu ∷ 0 ∷ next ∷ []) 4
@@ -162,4 +150,4 @@ system-written s out o₁ o₂ o₃ at to next ft fu e₁ e₂ e₃ same et fits
     ∙ over-behind o₁ (4 * (at + 1)) HT (4 * to) HU (omega arith) (omega arith)
     ∙ record-behind out o₁ at (at + 1) ft fu 0 next (HT ++ HU) e₁ refl (omega arith)
     ∙ (λ t. over out (4 * at) (it t ∷ iu t ∷ 0 ∷ next ∷ (heads-words (sa t) T ++ heads-words (st t) U)))
-    ∙ sym (paste-over out (4 * at) S (4 * size-of s) (length-system-words s at next))
+    ∙ sym (paste-over out (4 * at) S (4 * size-of s) (length-system at next (system-of s)))

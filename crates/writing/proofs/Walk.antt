@@ -1,25 +1,23 @@
 -- The walk over the systems in the work area, which writes the list from its last record to its first.
 use mathlib.Core.Path.{_≡_, refl, sym, ap, _∙_}
 use mathlib.Core.List.{List, [], _∷_, _++_, map, reverse, reverseAux, append-assoc}
-use Prim.Native.Nat.{ℕ, suc, _+_, _*_, _-_, _≤_, _<_}
+use Prim.Native.Nat.{ℕ, _+_, _*_, _-_, _≤_, _<_}
 use native.Mathlib.Omega.{arith}
 use lib.ListN.{length, getD, drop, length-append, length-reverse, length-map}
 use lib.Seq.{paste}
 use Rattle.residues.specs.Each.{Each}
-use Rattle.polynomials.specs.Poly.{Poly}
-use Rattle.polynomials.specs.Packed.{terms}
 use Rattle.tables.specs.Read.{System}
-use Rattle.rules.specs.Room.{polynomials-size, systems-size}
-use Rattle.rules.specs.Written.{index-of, heads-words, systems-words, list-words, list-records}
-use Rattle.rules.specs.laws.Lengths.{length-list}
+use Rattle.rules.specs.Room.{systems-size}
+use Rattle.rules.specs.Written.{index-of, system-words, systems-words, list-words, list-records}
+use Rattle.rules.specs.laws.Lengths.{length-list, length-system}
 use Rattle.records.specs.Records.{Rec, record-of, zero-record}
 use Rattle.branches.specs.Area.{Stored, Held, branch-records, systems-records, Storable-branch}
 use Rattle.representation.specs.Represent.{system-of, All-listed}
 use Rattle.representation.specs.laws.Sizes.{length-systems-records, systems-size-reverse}
-use Rattle.writing.specs.Listed.{listing-of, Stored-at, system-words}
+use Rattle.writing.specs.Listed.{listing-of, Stored-at}
 use Rattle.chains.proofs.Over.{over, over-nil, over-front, over-before, paste-over, record-behind}
 use Rattle.chains.proofs.Laws.{index-is}
-use Rattle.writing.proofs.Systems.{size-of, length-branch-records, length-system-words}
+use Rattle.writing.proofs.Systems.{size-of, length-branch-records}
 
 size-cons : (s : System) (ss : List System) → systems-size (s ∷ ss) ≡ systems-size (s ∷ []) + systems-size ss
 unfolding systems-size
@@ -120,17 +118,13 @@ one-more : (s : Stored) (done : List System) (d out out' : List ℕ) (at end nex
     → out' ≡ over d (4 * at) (systems-words at (system-of s ∷ done))
 unfolding systems-words
 one-more s done d out out' at end next e fits link written put =
-    let T : List Poly = map terms (s .T) in
-    let U : List Poly = map terms (s .Q) in
-    let HT : List ℕ = heads-words (suc at) T in
-    let HU : List ℕ = heads-words (suc at + polynomials-size T) U in
     let S : List ℕ = system-words at next (system-of s) in
     let X : List ℕ = systems-words end done in
-    let l = length-system-words s at next in
+    let l = length-system at next (system-of s) in
     put ∙ paste-over out (4 * at) S (4 * size-of s) l ∙ ap (λ (o : List ℕ). over o (4 * at) S) written
     ∙ over-before d (4 * at) S (4 * end) X (omega arith) fits
-    ∙ (λ t. over d (4 * at) (index-of T (suc at) ∷ index-of U (suc at + polynomials-size T) ∷ 0 ∷ link t ∷ append-assoc HT HU X t))
-    ∙ (λ t. over d (4 * at) (index-of T (suc at) ∷ index-of U (suc at + polynomials-size T) ∷ 0 ∷ index-of done (sym e t) ∷ (HT ++ (HU ++ systems-words (sym e t) done))))
+    ∙ (λ t. over d (4 * at) (system-words at (link t) (system-of s) ++ X))
+    ∙ (λ t. over d (4 * at) (system-words at (index-of done (sym e t)) (system-of s) ++ systems-words (sym e t) done))
 
 pub turn : (v : List Rec) (most : ℕ) (ss : List Stored) (d out : List ℕ) (i end next : ℕ) (rest : List Stored) (done : List System)
     → Walk v most ss d out i end next rest done → i < most → Turn v most ss d out i end next

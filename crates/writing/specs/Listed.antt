@@ -1,11 +1,9 @@
 -- The list that the systems in the work area make.
 use mathlib.Core.Path.{_≡_}
-use mathlib.Core.List.{List, [], _∷_, _++_, map, reverse}
-use Prim.Native.Nat.{ℕ, suc, _+_}
+use mathlib.Core.List.{List, [], _++_, map, reverse}
+use Prim.Native.Nat.{ℕ, _+_}
 use lib.ListN.{length}
-use Rattle.tables.specs.Read.{System, Listing}
-use Rattle.rules.specs.Room.{polynomials-size}
-use Rattle.rules.specs.Written.{index-of, heads-words}
+use Rattle.tables.specs.Read.{Listing}
 use Rattle.residues.specs.Each.{Each}
 use Rattle.records.specs.Records.{Rec}
 use Rattle.stored.specs.Stored.{Storable}
@@ -25,9 +23,3 @@ pub record Stored-at (v : List Rec) (i : ℕ) (s : Stored) : Type 0 where
   pub finished : s .P ≡ []
   pub storable-U : Each Storable (s .Q)
   pub storable-T : Each Storable (s .T)
-
--- The records of one system from record i on, with `next` as its link: those that `systems-words` writes for it.
-abbrev pub system-words : ℕ → ℕ → System → List ℕ
-system-words i next s =
-    index-of (s .T) (suc i) ∷ index-of (s .U) (suc i + polynomials-size (s .T)) ∷ 0 ∷ next
-    ∷ (heads-words (suc i) (s .T) ++ heads-words (suc i + polynomials-size (s .T)) (s .U))

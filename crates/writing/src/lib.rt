@@ -4,12 +4,12 @@ ghost use mathlib.Core.List.{List, [], _∷_, _++_, map, reverse};
 ghost use Prim.Native.Nat.{_+_, _*_, _≤_};
 ghost use lib.ListN.{length, drop};
 ghost use lib.Seq.{paste};
-ghost use Rattle.rules.specs.Written.{list-words, list-records};
+ghost use Rattle.rules.specs.Written.{system-words, list-words, list-records};
 ghost use Rattle.rules.specs.Room.{systems-size};
 ghost use Rattle.records.specs.Records.{view};
 ghost use Rattle.branches.specs.Area.{Stored, Held-in};
 ghost use Rattle.representation.specs.Represent.{All-listed, system-of};
-ghost use Rattle.writing.specs.Listed.{Stored-at, system-words, listing-of};
+ghost use Rattle.writing.specs.Listed.{Stored-at, listing-of};
 
 // How many records the system at record i takes.
 fn system_size(w: &[u32], i: usize) -> usize

@@ -10,7 +10,7 @@ use Rattle.polynomials.specs.Poly.{Poly}
 use Rattle.tables.specs.Words.{word, records, follow, Followed, end, to, astray}
 use Rattle.tables.specs.Read.{System, Listing}
 use Rattle.rules.specs.Room.{polynomials-size, systems-size}
-use Rattle.rules.specs.Written.{index-of, terms-words, heads-words, systems-words, list-words, list-records}
+use Rattle.rules.specs.Written.{index-of, terms-words, heads-words, system-words, systems-words, list-words, list-records}
 use Rattle.rules.specs.laws.Lengths.{length-terms, length-heads, length-systems, length-size, length-systems-size}
 use Rattle.tables.specs.laws.Chains.{follow-to}
 use Rattle.rules.specs.laws.Stands.{Stands, Holds, stands-whole, first-record, stands-left, stands-right}
@@ -148,9 +148,9 @@ module _ (w : List ℕ) where
   unfolding systems-words systems-size
   system-end i x s =
       let j = suc i + polynomials-size (x .T) in
-      let r = first-record w i _ _ _ _ (heads-words (suc i) (x .T) ++ (heads-words j (x .U) ++ [])) s in
+      let r = first-record w i _ _ _ _ (heads-words (suc i) (x .T) ++ heads-words j (x .U)) (stands-left w i (system-words i 0 x) [] s) in
       let ts = stands-left w (suc i) (heads-words (suc i) (x .T)) _ (r .behind) in
-      let us = stands-left w j (heads-words j (x .U)) [] (stands-right w (suc i) (heads-words (suc i) (x .T)) _ j (omega (arith, length-heads (suc i) (x .T))) (r .behind)) in
+      let us = stands-right w (suc i) (heads-words (suc i) (x .T)) _ j (omega (arith, length-heads (suc i) (x .T))) (r .behind) in
       let t = behind-end i (suc i) (x .T) i (omega arith) ts refl in
       ap (λ (k : ℕ). suc (behind w i (chain w (records w) i k) (behind w i (chain-last w i 0) i))) (r .word-1)
       ∙ behind-end i j (x .U) (behind w i (chain-last w i 0) i) (omega arith) us (ap (λ (k : ℕ). suc (behind w i (chain w (records w) i k) i)) (r .word-0) ∙ t)

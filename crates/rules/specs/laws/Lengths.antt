@@ -1,13 +1,13 @@
 -- How many words a written list has: four for each record.
 use mathlib.Core.Path.{_≡_, refl}
-use mathlib.Core.List.{List, [], _∷_, _++_}
+use mathlib.Core.List.{List, [], _∷_}
 use Prim.Native.Nat.{ℕ, suc, _+_, _*_, _≤_}
 use native.Mathlib.Omega.{arith}
 use lib.ListN.{length, length-append}
 use Rattle.polynomials.specs.Poly.{Poly}
 use Rattle.tables.specs.Read.{System, Listing}
 use Rattle.rules.specs.Room.{polynomials-size, systems-size}
-use Rattle.rules.specs.Written.{terms-words, heads-words, systems-words, list-words, list-records}
+use Rattle.rules.specs.Written.{index-of, terms-words, heads-words, system-words, systems-words, list-words, list-records}
 
 pub length-terms : (i : ℕ) (f : Poly) → length (terms-words i f) ≡ 4 * length f
 unfolding terms-words
@@ -20,20 +20,18 @@ length-heads i [] = refl
 length-heads i (f ∷ fs) =
     omega (arith, length-append (terms-words (suc i) f) (heads-words (suc (i + length f)) fs), length-terms (suc i) f, length-heads (suc (i + length f)) fs)
 
+pub length-system : (i next : ℕ) (s : System) → length (system-words i next s) ≡ 4 * systems-size (s ∷ [])
+unfolding systems-size
+length-system i next s =
+    let j = suc i + polynomials-size (s .T) in
+    omega (arith, length-append (heads-words (suc i) (s .T)) (heads-words j (s .U)), length-heads (suc i) (s .T), length-heads j (s .U))
+
 pub length-systems : (i : ℕ) (ss : List System) → length (systems-words i ss) ≡ 4 * systems-size ss
 unfolding systems-words systems-size
 length-systems i [] = refl
 length-systems i (s ∷ ss) =
-    let j = suc i + polynomials-size (s .T) in
     let k = i + systems-size (s ∷ []) in
-    omega (
-      arith,
-      length-append (heads-words (suc i) (s .T)) (heads-words j (s .U) ++ systems-words k ss),
-      length-append (heads-words j (s .U)) (systems-words k ss),
-      length-heads (suc i) (s .T),
-      length-heads j (s .U),
-      length-systems k ss,
-    )
+    omega (arith, length-append (system-words i (index-of ss k) s) (systems-words k ss), length-system i (index-of ss k) s, length-systems k ss)
 
 pub length-list : (l : Listing) → length (list-words l) ≡ 4 * list-records (l .systems)
 unfolding list-words list-records

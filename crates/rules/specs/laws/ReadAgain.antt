@@ -19,11 +19,11 @@ use Rattle.tables.specs.Read.{Read, good, then, unless, Before, first, after, n
 use Rattle.tables.specs.declared.Reason.{Reason}
 use Rattle.tables.specs.declared.Reason.the-variants.{Shape, Prime, Variables, Coefficient, Exponent, Head, Order, Terms, Broken}
 use Rattle.rules.specs.Room.{polynomials-size, systems-size}
-use Rattle.rules.specs.Written.{index-of, terms-words, heads-words, systems-words, list-words, list-records}
+use Rattle.rules.specs.Written.{index-of, terms-words, heads-words, system-words, systems-words, list-words, list-records}
 use Rattle.tables.specs.Admissible.{Rising, Admissible, AdmissibleListing}
 use Rattle.rules.specs.Writable.{Writable}
 use Rattle.rules.specs.laws.Stands.{Stands, Holds, stands-whole, first-record, stands-left, stands-right, link-reads}
-use Rattle.rules.specs.laws.Lengths.{length-terms, length-heads, length-systems, length-list, length-size, length-systems-size}
+use Rattle.rules.specs.laws.Lengths.{length-terms, length-heads, length-systems, length-list, length-size, length-systems-size, length-system}
 use Rattle.rules.specs.laws.Held.{Held, held}
 
 -- A test that does not refuse.
@@ -123,13 +123,10 @@ module _ (w : List ℕ) (p n : ℕ) where
   fewer-heads : (fs : List Poly) (i : ℕ) → 0 < i → Stands w i (heads-words i fs) → length fs < records w
   fewer-heads fs i h s = omega (arith, s .within, length-heads i fs, length-size fs)
 
-  read-system-again : (i x : ℕ) (s : System) (y : List ℕ) → Each (Admissible p n) (s .T) → Each (Admissible p n) (s .U) → Rising 0 (s .T) →
-      Stands w i
-      (index-of (s .T) (suc i) ∷ index-of (s .U) (suc i + polynomials-size (s .T)) ∷ 0 ∷ x
-      ∷ (heads-words (suc i) (s .T) ++ (heads-words (suc i + polynomials-size (s .T)) (s .U) ++ y))) →
-      read-system w p n i ≡ good s
+  read-system-again : (i next : ℕ) (s : System) → Each (Admissible p n) (s .T) → Each (Admissible p n) (s .U) → Rising 0 (s .T) →
+      Stands w i (system-words i next s) → read-system w p n i ≡ good s
   unfolding read-system
-  read-system-again i x s y a b u z =
+  read-system-again i next s a b u z =
       passes-not (eqb (word w i 2) 0) Broken i _ (eq-eqb (word w i 2) 0 (r .word-2))
       ∙ ap₂ (λ x y. then x (λ t. then y (λ u. good (record { T = t; U = u }))))
       (ap (read-triangle w p n (records w) 0 i) (r .word-0) ∙ read-triangle-again (s .T) (records w) 0 i (suc i) (fewer-heads (s .T) (suc i) (omega arith) ts) a u (omega arith) ts)
@@ -138,30 +135,25 @@ module _ (w : List ℕ) (p n : ℕ) where
       j : ℕ
       j = suc i + polynomials-size (s .T)
 
-      r : Holds w i (index-of (s .T) (suc i)) (index-of (s .U) j) 0 x (heads-words (suc i) (s .T) ++ (heads-words j (s .U) ++ y))
+      r : Holds w i (index-of (s .T) (suc i)) (index-of (s .U) j) 0 next (heads-words (suc i) (s .T) ++ heads-words j (s .U))
       r = first-record w i _ _ _ _ _ z
 
       ts : Stands w (suc i) (heads-words (suc i) (s .T))
       ts = stands-left w (suc i) (heads-words (suc i) (s .T)) _ (r .behind)
 
       us : Stands w j (heads-words j (s .U))
-      us = stands-left w j (heads-words j (s .U)) y (stands-right w (suc i) (heads-words (suc i) (s .T)) _ j (omega (arith, length-heads (suc i) (s .T))) (r .behind))
+      us = stands-right w (suc i) (heads-words (suc i) (s .T)) _ j (omega (arith, length-heads (suc i) (s .T))) (r .behind)
 
   -- The next system stands behind a system's two chains.
   pub next-system : (i : ℕ) (s : System) (ss : List System) → Stands w i (systems-words i (s ∷ ss)) →
-      (i < records w) × (word w i 3 ≡ index-of ss (i + systems-size (s ∷ []))) × (i < i + systems-size (s ∷ [])) × Stands w (i + systems-size (s ∷ [])) (systems-words (i + systems-size (s ∷ [])) ss)
+      (i < records w) × (word w i 3 ≡ index-of ss (i + systems-size (s ∷ []))) × (i < i + systems-size (s ∷ []))
+      × Stands w (i + systems-size (s ∷ [])) (systems-words (i + systems-size (s ∷ [])) ss)
   unfolding systems-words systems-size
   next-system i s ss z =
-      let j = suc i + polynomials-size (s .T) in
       let k = i + systems-size (s ∷ []) in
-      let r : Holds w i (index-of (s .T) (suc i)) (index-of (s .U) j) 0 (index-of ss k) (heads-words (suc i) (s .T) ++ (heads-words j (s .U) ++ systems-words k ss)) =
-      first-record w i _ _ _ _ _ z in (
-        r .inside,
-        r .word-3,
-        omega arith,
-        stands-right w j (heads-words j (s .U)) (systems-words k ss) k (omega (arith, length-heads j (s .U)))
-            (stands-right w (suc i) (heads-words (suc i) (s .T)) _ j (omega (arith, length-heads (suc i) (s .T))) (r .behind)),
-      )
+      let S = system-words i (index-of ss k) s in
+      let r = first-record w i _ _ _ _ _ (stands-left w i S (systems-words k ss) z) in
+      (r .inside, r .word-3, omega arith, stands-right w i S (systems-words k ss) k (omega (arith, length-system i (index-of ss k) s)) z)
 
   read-systems-again : (ss : List System) (fuel at i : ℕ) → length ss < fuel → Each (λ s. Each (Admissible p n) (s .T)) ss → Each (λ s. Each (Admissible p n) (s .U)) ss →
       Each (λ s. Rising 0 (s .T)) ss → at < i → Stands w i (systems-words i ss) → read-systems w p n fuel at (index-of ss i) ≡ good ss
@@ -170,7 +162,7 @@ module _ (w : List ℕ) (p n : ℕ) where
   read-systems-again [] (suc fuel) at i long a b u h z = refl
   read-systems-again (s ∷ ss) (suc fuel) at i long a b u h z =
       let r = next-system i s ss z in
-      link-reads w (read-system w p n) (λ t k x. x) (λ t. read-systems w p n fuel) at i s ss h (r .0) (read-system-again i _ s _ (a .0) (b .0) (u .0) z)
+      link-reads w (read-system w p n) (λ t k x. x) (λ t. read-systems w p n fuel) at i s ss h (r .0) (read-system-again i _ s (a .0) (b .0) (u .0) (stands-left w i (system-words i _ s) _ z))
       (ap (read-systems w p n fuel i) (r .1) ∙ read-systems-again ss fuel i (i + systems-size (s ∷ [])) (omega arith) (a .1) (b .1) (u .1) (r .2) (r .3))
       refl
 

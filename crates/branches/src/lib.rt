@@ -17,7 +17,7 @@ pub fn find_q(w: &[u32], f: &[u64]) -> bool
     let p = records::get0(w, at) as usize;
     let q = records::get1(w, at) as usize;
     let from = stored::skip(w, at + 1, p);
-    stored::find(w, from, q, f)
+    finding::find(w, from, q, f)
 }
 
 // How many words the member of P at place i takes.

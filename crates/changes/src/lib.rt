@@ -21,7 +21,7 @@ pub fn put_p(w: &mut [u32], f: &[u64]) -> bool
     if f.len() == 0 {
         return true;
     }
-    if stored::find(w, at + 1, p as usize, f) {
+    if finding::find(w, at + 1, p as usize, f) {
         return true;
     }
     let n = f.len() / 2 + 1;
@@ -29,7 +29,7 @@ pub fn put_p(w: &mut [u32], f: &[u64]) -> bool
         return false;
     }
     let q = stored::skip(w, at + 1, p as usize);
-    stored::insert(w, q, end, f);
+    storing::insert(w, q, end, f);
     let in_q = records::get1(w, at);
     let in_t = records::get2(w, at);
     let under = records::get3(w, at);
@@ -57,7 +57,7 @@ pub fn put_q(w: &mut [u32], left: usize, f: &[u64]) -> bool
     }
     let from = stored::skip(w, at + 1, p as usize);
     let new = q as usize - left;
-    if stored::find(w, from, new, f) {
+    if finding::find(w, from, new, f) {
         return true;
     }
     let n = f.len() / 2 + 1;
@@ -65,7 +65,7 @@ pub fn put_q(w: &mut [u32], left: usize, f: &[u64]) -> bool
         return false;
     }
     let to = stored::skip(w, from, new);
-    stored::insert(w, to, end, f);
+    storing::insert(w, to, end, f);
     let in_t = records::get2(w, at);
     let under = records::get3(w, at);
     records::put_rec(w, at, p, q + 1, in_t, under);
@@ -84,7 +84,7 @@ pub fn remove_p(w: &mut [u32], i: usize)
     let end = records::get1(w, 0) as usize;
     let from = stored::skip(w, at + 1, i);
     let n = records::get0(w, from) as usize + 1;
-    stored::remove(w, from, n, end);
+    storing::remove(w, from, n, end);
     let p = records::get0(w, at);
     let in_q = records::get1(w, at);
     let in_t = records::get2(w, at);
@@ -106,7 +106,7 @@ pub fn remove_q(w: &mut [u32], i: usize)
     let p = records::get0(w, at);
     let from = stored::skip(w, stored::skip(w, at + 1, p as usize), i);
     let n = records::get0(w, from) as usize + 1;
-    stored::remove(w, from, n, end);
+    storing::remove(w, from, n, end);
     let in_q = records::get1(w, at);
     let in_t = records::get2(w, at);
     let under = records::get3(w, at);
@@ -131,7 +131,7 @@ pub fn close(w: &mut [u32], i: usize, f: &[u64])
     let t = records::get2(w, at);
     let under = records::get3(w, at);
     let to = stored::skip(w, stored::skip(w, at + 1, p as usize), q as usize);
-    stored::insert(w, to, end, f);
+    storing::insert(w, to, end, f);
     records::put_rec(w, at, p, q, t + 1, under);
     let top = records::get2(w, 0);
     let systems = records::get3(w, 0);

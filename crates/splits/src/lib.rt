@@ -90,6 +90,6 @@ fn append(w: &mut [u32], f: &[u64], to: usize) -> usize
     requires { ⌜ to + (length (now f) / 2 + 1) ≤ room (now w) ⌝ }
     ensures { λ r. ⌜ (r ≡ to + (length (now (f .entry)) / 2 + 1)) × (view (now (w .exit)) ≡ paste (view (now (w .entry))) to (poly-records (now (f .entry))) (length (now (f .entry)) / 2 + 1)) ⌝ }
 {
-    stored::store(w, to, f);
+    storing::store(w, to, f);
     to + (f.len() / 2 + 1)
 }

@@ -7,11 +7,11 @@ use lib.Dec.{eqb}
 use lib.ListN.{length, drop, getD}
 use Rattle.records.specs.Records.{zero-record, view}
 use Rattle.records.proofs.Rows.{length-view}
 use Rattle.stored.specs.Stored.{size-at, words-at, same}
 use Rattle.stored.specs.laws.Stored.{length-words-at}
-use Rattle.stored.proofs.Laws.{same-lengths, eqb-and-unequal, eqb-and-equal, same-turn, same-end}
-use Rattle.stored.proofs.equal_at.Statement.{statement}
-use Rattle.stored.proofs.equal_at.Tie as tie
+use Rattle.finding.proofs.Laws.{same-lengths, eqb-and-unequal, eqb-and-equal, same-turn, same-end}
+use Rattle.finding.proofs.equal_at.Statement.{statement}
+use Rattle.finding.proofs.equal_at.Tie as tie
 
 abbrev Inv-loop : tie.InvT-loop
 Inv-loop w at f n i₀ i = (i ≤ n) × (same (drop (2 * i) (words-at (view w) at)) (drop (2 * i) f) ≡ same (words-at (view w) at) f)

@@ -8,11 +8,11 @@ use lib.Seq.{paste}
 use borrow.Author.Needs.{needs}
 use Rattle.records.specs.Records.{Rec, view}
 use Rattle.records.proofs.Rows.{length-view}
 use Rattle.stored.specs.Stored.{poly-records}
 use Rattle.stored.specs.laws.Stored.{length-poly-records}
-use Rattle.stored.proofs.Laws.{moved-then-stored}
-use Rattle.stored.proofs.insert.Statement.{statement}
-use Rattle.stored.proofs.insert.Tie as tie
+use Rattle.storing.proofs.Laws.{moved-then-stored}
+use Rattle.storing.proofs.insert.Statement.{statement}
+use Rattle.storing.proofs.insert.Tie as tie
 
 sub-move-up : tie.Need-sub-move-up
 sub-move-up c = search needs

@@ -5,8 +5,8 @@ use Prim.Native.Nat.{_+_, _-_}
 use native.Mathlib.Omega.{arith}
 use lib.ListN.{take, drop}
 use Rattle.records.specs.Records.{view}
-use Rattle.stored.proofs.remove.Statement.{statement}
-use Rattle.stored.proofs.remove.Tie as tie
+use Rattle.storing.proofs.remove.Statement.{statement}
+use Rattle.storing.proofs.remove.Tie as tie
 
 add-move-down : tie.Need-add-move-down
 add-move-down c = omega arith

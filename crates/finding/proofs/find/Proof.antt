@@ -4,10 +4,11 @@ use mathlib.Core.Bool.{Bool, _||_}
 use Prim.Native.Nat.{ℕ, _+_, _-_, _≤_, _<_}
 use native.Mathlib.Omega.{arith}
 use Rattle.records.specs.Records.{room, view}
 use Rattle.stored.specs.Stored.{size-at, skip-to, polys-at, member}
-use Rattle.stored.proofs.Laws.{skip-turn, skip-in, member-turn}
-use Rattle.stored.proofs.find.Statement.{statement}
-use Rattle.stored.proofs.find.Tie as tie
+use Rattle.stored.proofs.Laws.{skip-turn, skip-in}
+use Rattle.finding.proofs.Laws.{member-turn}
+use Rattle.finding.proofs.find.Statement.{statement}
+use Rattle.finding.proofs.find.Tie as tie
 
 abbrev Inv-loop : tie.InvT-loop
 Inv-loop w at k f i₀ left₀ i left =

@@ -7,11 +7,11 @@ use lib.Seq.{paste, paste-zero}
 use Rattle.records.specs.Records.{zero-record, view}
 use Rattle.records.proofs.Rows.{length-view}
 use Rattle.records.proofs.Moves.{paste-turn}
 use Rattle.stored.specs.Stored.{head, term-record, term-records}
 use Rattle.stored.specs.laws.Stored.{length-term-records}
-use Rattle.stored.proofs.Laws.{getD-term-records, head-then-terms}
-use Rattle.stored.proofs.store.Statement.{statement}
-use Rattle.stored.proofs.store.Tie as tie
+use Rattle.storing.proofs.Laws.{getD-term-records, head-then-terms}
+use Rattle.storing.proofs.store.Statement.{statement}
+use Rattle.storing.proofs.store.Tie as tie
 
 abbrev Inv-loop : tie.InvT-loop
 Inv-loop w₀ at f n i₀ w i = (i ≤ n) × (length w ≡ length w₀) × (view w ≡ paste (view w₀) (at + 1) (term-records f) i)

@@ -129,13 +129,13 @@ pub fn eliminate(table: &[u32], work: &mut [u32], output: &mut [u32], limit: u32
     let reading = tables::read::read_table(table);
     let outcome = reading.outcome;
     if let ReadOutcome::Refused(why, record) = outcome {
-        records::clear(work);
+        moves::clear(work);
         return Answer {
             steps: 0,
             outcome: Outcome::Refused(why, record),
         };
     }
     let answer = eliminate_accepted(table, work, output, limit);
-    records::clear(work);
+    moves::clear(work);
     answer
 }

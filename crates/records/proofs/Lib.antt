@@ -1,3 +1,2 @@
--- `Rows` has the laws of `view`, `Moves` what a turn of a loop that moves or writes records does to a list.
+-- `Rows` has the laws of `view`.
 pub mod Rows
-pub mod Moves

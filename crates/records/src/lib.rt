@@ -1,8 +1,8 @@
 // The work area: a lent run of 32-bit words as records of four. This crate alone knows where a record's words lie.
 ghost use mathlib.Core.Path.{_≡_};
-ghost use Prim.Native.Nat.{_+_, _<_, _≤_};
-ghost use lib.ListN.{length, getD, set, replicate};
-ghost use Rattle.records.specs.Records.{record-of, zero-record, room, view, moved};
+ghost use Prim.Native.Nat.{_<_};
+ghost use lib.ListN.{getD, set};
+ghost use Rattle.records.specs.Records.{record-of, zero-record, room, view};
 
 // Word 0 of record i.
 pub fn get0(w: &[u32], i: usize) -> u32
@@ -60,41 +60,4 @@ pub fn copy_rec(w: &mut [u32], from: usize, to: usize)
     let c = w[k + 2];
     let d = w[k + 3];
     put_rec(w, to, a, b, c, d)
-}
-
-// Moves the n records from `from` on up to `to`.
-pub fn move_up(w: &mut [u32], from: usize, n: usize, to: usize)
-    requires { ⌜ from ≤ to ⌝ }
-    requires { ⌜ to + n ≤ room (now w) ⌝ }
-    ensures { λ _. ⌜ view (now (w .exit)) ≡ moved (view (now (w .entry))) from n to ⌝ }
-{
-    let mut i = n;
-    while 0 < i {
-        i -= 1;
-        copy_rec(w, from + i, to + i);
-    }
-}
-
-// Moves the n records from `from` on down to `to`.
-pub fn move_down(w: &mut [u32], from: usize, n: usize, to: usize)
-    requires { ⌜ to ≤ from ⌝ }
-    requires { ⌜ from + n ≤ room (now w) ⌝ }
-    ensures { λ _. ⌜ view (now (w .exit)) ≡ moved (view (now (w .entry))) from n to ⌝ }
-{
-    let mut i = 0;
-    while i < n {
-        copy_rec(w, from + i, to + i);
-        i += 1;
-    }
-}
-
-// Clears every word.
-pub fn clear(w: &mut [u32])
-    ensures { λ _. ⌜ now (w .exit) ≡ replicate (length (now (w .entry))) 0 ⌝ }
-{
-    let mut i = 0;
-    while i < w.len() {
-        w[i] = 0;
-        i += 1;
-    }
 }

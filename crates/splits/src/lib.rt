@@ -80,7 +80,7 @@ fn append_block(w: &mut [u32], from: usize, n: usize, to: usize) -> usize
     requires { ⌜ (from ≤ to) × (to + n ≤ room (now w)) ⌝ }
     ensures { λ r. ⌜ (r ≡ to + n) × (view (now (w .exit)) ≡ moved (view (now (w .entry))) from n to) ⌝ }
 {
-    records::move_up(w, from, n, to);
+    moves::move_up(w, from, n, to);
     to + n
 }
 

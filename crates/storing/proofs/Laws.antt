@@ -2,11 +2,18 @@
 use mathlib.Core.Path.{_≡_, refl, sym, ap, _∙_}
 use mathlib.Core.List.{List, [], _∷_, _++_, append-assoc}
 use Prim.Native.Nat.{ℕ, zero, suc, _+_, _*_, _/_, _≤_, _<_}
+use native.Mathlib.Numerals.{add-one}
 use native.Mathlib.Omega.{arith}
 use lib.ListN.{length, take, drop, getD, set}
-use lib.Seq.{paste, take-suc-set, drop-set-lt, length-take-le, drop-at, take-append-le, take-take, take-all}
+use lib.Seq.{paste, paste-suc, take-suc-set, drop-set-lt, length-take-le, drop-at, take-append-le, take-take, take-all}
 use Rattle.records.specs.Records.{Rec, zero-record, moved}
 use Rattle.stored.specs.Stored.{term-record, term-records, inserted}
+
+-- A loop that writes S from `at` on, one element a turn.
+pub paste-turn : {A : Type 0} (z : A) (v₀ v v' S : List A) (at j : ℕ) (x : A) → at + j < length v₀ → j < length S
+    → v ≡ paste v₀ at S j → v' ≡ set v (at + j) x → getD S j z ≡ x → v' ≡ paste v₀ at S (j + 1)
+paste-turn z v₀ v v' S at j x h k e e' f =
+    e' ∙ (λ t. set (e t) (at + j) (sym f t)) ∙ paste-suc v₀ at S j z h k ∙ ap (λ (i : ℕ). paste v₀ at S i) (sym (add-one j))
 
 pub getD-term-records : (s : List ℕ) (j : ℕ) → j < length s / 2 → getD (term-records s) j zero-record ≡ term-record (getD s (2 * j) 0) (getD s (2 * j + 1) 0)
 unfolding term-records

@@ -30,7 +30,7 @@ pub fn insert(w: &mut [u32], at: usize, end: usize, f: &[u64])
     requires { ⌜ (at ≤ end) × (end + (length (now f) / 2 + 1) ≤ room (now w)) ⌝ }
     ensures { λ _. ⌜ view (now (w .exit)) ≡ inserted (view (now (w .entry))) at (end - at) (poly-records (now (f .entry))) ⌝ }
 {
-    records::move_up(w, at, end - at, at + (f.len() / 2 + 1));
+    moves::move_up(w, at, end - at, at + (f.len() / 2 + 1));
     store(w, at, f)
 }
 
@@ -39,5 +39,5 @@ pub fn remove(w: &mut [u32], at: usize, n: usize, end: usize)
     requires { ⌜ (at + n ≤ end) × (end ≤ room (now w)) ⌝ }
     ensures { λ _. ⌜ view (now (w .exit)) ≡ removed (view (now (w .entry))) at n (end - at - n) ⌝ }
 {
-    records::move_down(w, at + n, end - at - n, at)
+    moves::move_down(w, at + n, end - at - n, at)
 }

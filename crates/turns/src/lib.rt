@@ -52,7 +52,7 @@ pub fn list(w: &mut [u32])
     let t = records::get2(w, at);
     let under = records::get3(w, at);
     let to = top - (end - at);
-    records::move_up(w, at, end - at, to);
+    moves::move_up(w, at, end - at, to);
     records::put_rec(w, to, p, q, t, 0);
     records::put_rec(w, 0, under, at as u32, to as u32, systems + 1);
 }

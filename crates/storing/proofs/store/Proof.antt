@@ -6,10 +6,9 @@ use lib.ListN.{length, getD}
 use lib.Seq.{paste, paste-zero}
 use Rattle.records.specs.Records.{zero-record, view}
 use Rattle.records.proofs.Rows.{length-view}
-use Rattle.records.proofs.Moves.{paste-turn}
 use Rattle.stored.specs.Stored.{head, term-record, term-records}
 use Rattle.stored.specs.laws.Stored.{length-term-records}
-use Rattle.storing.proofs.Laws.{getD-term-records, head-then-terms}
+use Rattle.storing.proofs.Laws.{paste-turn, getD-term-records, head-then-terms}
 use Rattle.storing.proofs.store.Statement.{statement}
 use Rattle.storing.proofs.store.Tie as tie
 

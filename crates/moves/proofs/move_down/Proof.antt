@@ -4,11 +4,11 @@ use Prim.Native.Nat.{ℕ, _-_, _≤_}
 use native.Mathlib.Omega.{arith}
 use lib.ListN.{length, drop}
 use lib.Seq.{paste, paste-zero}
 use Rattle.records.specs.Records.{zero-record, view}
 use Rattle.records.proofs.Rows.{length-view}
-use Rattle.records.proofs.Moves.{down-turn}
-use Rattle.records.proofs.move_down.Statement.{statement}
-use Rattle.records.proofs.move_down.Tie as tie
+use Rattle.moves.proofs.Laws.{down-turn}
+use Rattle.moves.proofs.move_down.Statement.{statement}
+use Rattle.moves.proofs.move_down.Tie as tie
 
 abbrev Inv-loop : tie.InvT-loop
 Inv-loop w₀ from n to i₀ w i = (i ≤ n) × (length w ≡ length w₀) × (view w ≡ paste (view w₀) to (drop from (view w₀)) i)

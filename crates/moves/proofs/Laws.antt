@@ -1,4 +1,4 @@
--- What a turn of a loop that moves or writes records does to a list.
+-- What a turn of each loop that moves records does to a list.
 use mathlib.Core.Path.{_≡_, sym, ap, _∙_}
 use mathlib.Core.List.{List, _∷_, _++_, append-assoc}
 use Prim.Native.Nat.{ℕ, suc, _+_, _-_, _≤_, _<_}
@@ -60,9 +60,3 @@ module _ {A : Type 0} (z : A) where
       ∙ ap (set (paste v₀ to (drop from v₀) i) (to + i)) read
       ∙ paste-suc v₀ to (drop from v₀) i z (omega arith) hs
       ∙ ap (λ (j : ℕ). paste v₀ to (drop from v₀) j) (sym (add-one i))
-
-  -- a loop that writes S from `at` on, one element a turn
-  pub paste-turn : (v₀ v v' S : List A) (at j : ℕ) (x : A) → at + j < length v₀ → j < length S
-      → v ≡ paste v₀ at S j → v' ≡ set v (at + j) x → getD S j z ≡ x → v' ≡ paste v₀ at S (j + 1)
-  paste-turn v₀ v v' S at j x h k e e' f =
-      e' ∙ (λ t. set (e t) (at + j) (sym f t)) ∙ paste-suc v₀ at S j z h k ∙ ap (λ (i : ℕ). paste v₀ at S i) (sym (add-one j))

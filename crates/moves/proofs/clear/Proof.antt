@@ -6,8 +6,8 @@ use native.Mathlib.Omega.{arith}
 use borrow.Author.Needs.{needs}
 use borrow.Author.Fill.{fill-none, fill-more}
 use lib.ListN.{length, replicate, drop, length-set, drop-of-length-le}
-use Rattle.records.proofs.clear.Statement.{statement}
-use Rattle.records.proofs.clear.Tie as tie
+use Rattle.moves.proofs.clear.Statement.{statement}
+use Rattle.moves.proofs.clear.Tie as tie
 
 abbrev Inv-loop : tie.InvT-loop
 Inv-loop w₀ i₀ w i = (i ≤ length w₀) × (length w ≡ length w₀) × (w ≡ replicate i 0 ++ drop i w₀)

@@ -11,12 +11,8 @@ use Rattle.residues.specs.laws.Each.{each-take, each-member}
 use Rattle.records.specs.Records.{Rec, record-of, zero-record}
 use Rattle.stored.specs.Stored.{poly-records, polys-records, size-at, words-at, skip-to, polys-at, inserted, removed, Storable}
 use Rattle.stored.specs.laws.Stored.{length-poly-records, polys-records-append, size-at-poly-records, words-at-poly-records, skip-to-polys-records}
-use Rattle.stored.specs.laws.Stored.{polys-at-polys-records, inserted-in-parts, removed-in-parts, All-pairs}
+use Rattle.stored.specs.laws.Stored.{polys-at-polys-records, inserted-in-parts, removed-in-parts}
 use Rattle.branches.specs.Area.{Stored, Held, with-open, stack, systems-records, branch-records, Storable-branch}
-
-pub all-pairs : (fs : List (List ℕ)) → Each Storable fs → All-pairs fs
-all-pairs [] h = h
-all-pairs (f ∷ fs) h = (h .0 .pairs, all-pairs fs (h .1))
 
 -- ── a branch's record, then polynomials fs ──
 abbrev pub place : ℕ → List (List ℕ) → ℕ
@@ -65,7 +61,7 @@ module _ {v pre : List Rec} {own : Rec} {fs : List (List ℕ)} {free fin : List 
 
   pub finds : (xs gs ys : List (List ℕ)) → fs ≡ xs ++ (gs ++ ys) → Each Storable gs → polys-at v (place at xs) (length gs) ≡ gs
   finds xs gs ys s h =
-      polys-at-polys-records v (front xs) (place at xs) gs (polys-records ys ++ (free ++ fin)) (length-front xs) (split₂ xs gs ys s) (all-pairs gs h)
+      polys-at-polys-records v (front xs) (place at xs) gs (polys-records ys ++ (free ++ fin)) (length-front xs) (split₂ xs gs ys s) h
 
   split-one : (xs : List (List ℕ)) (f : List ℕ) (ys : List (List ℕ)) → fs ≡ xs ++ (f ∷ ys)
       → v ≡ front xs ++ (poly-records f ++ (polys-records ys ++ (free ++ fin)))

@@ -14,7 +14,6 @@ use Rattle.records.specs.Records.{Rec, record-of, zero-record}
 use Rattle.stored.specs.Stored.{polys-records, skip-to, polys-at}
 use Rattle.stored.specs.laws.Stored.{polys-records-append, skip-to-polys-records, polys-at-polys-records}
 use Rattle.branches.specs.Area.{Stored, branch-records}
-use Rattle.branches.proofs.AreaLaws.{all-pairs}
 use Rattle.representation.specs.Represent.{system-of}
 use Rattle.representation.specs.laws.Sizes.{length-polys-records-terms}
 use Rattle.writing.specs.Listed.{Stored-at}
@@ -89,10 +88,10 @@ found v i s h =
           ap (skip-to v (i + 1)) (sym (length-append (s .Q) (s .T)))
           ∙ skip-to-polys-records v front (i + 1) (s .Q ++ s .T) (h .behind) lf joined
           ∙ omega (arith, ap length (polys-records-append (s .Q) (s .T)));
-      polys-U = polys-at-polys-records v front (i + 1) (s .Q) (T ++ h .behind) lf first (all-pairs (s .Q) (h .storable-U));
+      polys-U = polys-at-polys-records v front (i + 1) (s .Q) (T ++ h .behind) lf first (h .storable-U);
       polys-T =
           polys-at-polys-records v (front ++ U) (i + 1 + polynomials-size (map terms (s .Q))) (s .T) (h .behind) lfU second
-          (all-pairs (s .T) (h .storable-T));
+          (h .storable-T);
     }
 
 -- What the counts read, and the ends found from them, are.

@@ -10,8 +10,9 @@ use borrow.Author.Tests.{eqb-true, eq-eqb}
 use lib.Dec.{eqb}
 use lib.ListN.{length, take, drop, length-append, length-drop}
 use lib.Seq.{length-take-le, take-at, drop-at, getD-at, drop-append-add}
+use Rattle.residues.specs.Each.{Each}
 use Rattle.records.specs.Records.{Rec, zero-record}
-use Rattle.stored.specs.Stored.{head, term-records, poly-records, polys-records, size-at, pairs-of, words-at, skip-to, polys-at, same, inserted, removed}
+use Rattle.stored.specs.Stored.{head, term-records, poly-records, polys-records, size-at, pairs-of, words-at, skip-to, polys-at, same, inserted, removed, Storable}
 
 -- ── encoding ──
 pub length-term-records : (s : List ℕ) → length (term-records s) ≡ length s / 2
@@ -80,11 +81,6 @@ module _ (v pre : List Rec) (i : ℕ) (at : length pre ≡ i) (s : List ℕ) (po
   pub length-to-next : length (pre ++ poly-records s) ≡ i + 1 + size-at v i
   length-to-next = omega (arith, length-append pre (poly-records s), length-poly-records s, size-at-poly-records)
 
--- All of them are pairs.
-abbrev pub All-pairs : List (List ℕ) → Type 0
-All-pairs [] = Unit {0}
-All-pairs (s ∷ ss) = (length s % 2 ≡ 0) × All-pairs ss
-
 -- The records of the first of several polynomials, and of the others behind it.
 first-in-parts : (v pre : List Rec) (s : List ℕ) (ss : List (List ℕ)) (post : List Rec) → v ≡ pre ++ (polys-records (s ∷ ss) ++ post)
     → v ≡ pre ++ (poly-records s ++ (polys-records ss ++ post))
@@ -102,12 +98,12 @@ skip-to-polys-records v pre i (s ∷ ss) post at e =
     ∙ omega (arith, size-at-poly-records v pre i at s (polys-records ss ++ post) e₁, length-append (poly-records s) (polys-records ss), length-poly-records s)
 
 pub polys-at-polys-records : (v pre : List Rec) (i : ℕ) (ss : List (List ℕ)) (post : List Rec) → length pre ≡ i → v ≡ pre ++ (polys-records ss ++ post)
-    → All-pairs ss → polys-at v i (length ss) ≡ ss
+    → Each Storable ss → polys-at v i (length ss) ≡ ss
 polys-at-polys-records v pre i [] post at e h = refl
 polys-at-polys-records v pre i (s ∷ ss) post at e h =
     let e₁ : v ≡ pre ++ (poly-records s ++ (polys-records ss ++ post)) = first-in-parts v pre s ss post e in
     let e₂ : v ≡ pre ++ poly-records s ++ (polys-records ss ++ post) = e₁ ∙ sym (append-assoc pre (poly-records s) (polys-records ss ++ post)) in
-    ap₂ _∷_ (words-at-poly-records v pre i at s (polys-records ss ++ post) e₁ (h .0))
+    ap₂ _∷_ (words-at-poly-records v pre i at s (polys-records ss ++ post) e₁ (h .0 .pairs))
     (polys-at-polys-records v (pre ++ poly-records s) (i + 1 + size-at v i) ss post (length-to-next v pre i at s (polys-records ss ++ post) e₁) e₂ (h .1))
 
 -- ── writing ──

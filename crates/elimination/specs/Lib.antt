@@ -1,4 +1,5 @@
 pub mod Answer
+pub mod Calls
 pub mod Delivered
 pub mod Eliminates
 pub mod Numbers

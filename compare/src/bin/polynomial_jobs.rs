@@ -118,7 +118,7 @@ fn print_formed(tag: &str, f: &Result<Poly, Over>) {
     }
 }
 
-/// The rounds of f by t in the leading variable of t that were finished, and what they left.
+/// What the division of f by t in the leading variable of t leaves.
 fn divide(p: u32, f: &Poly, t: &Poly) {
     let lead = t.leader();
     if lead == 0 {
@@ -128,15 +128,12 @@ fn divide(p: u32, f: &Poly, t: &Poly) {
     let k = lead - 1;
     let (d, i) = (t.degree(k), t.initial(k));
     let mut r = Ok(f.clone());
-    let mut rounds = 0;
     while let Ok(f) = &r {
         if f.degree(k) < d {
             break;
         }
         r = poly::round(p, k, d, f.degree(k), &i, t, f);
-        rounds += r.is_ok() as u32;
     }
-    println!("rounds {rounds}");
     print_formed("remainder", &r);
 }
 

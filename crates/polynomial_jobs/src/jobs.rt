@@ -130,25 +130,17 @@ fn divide(p: u64, f: &[u64], t: &[u64])
     let m = terms::initial(t, lead - 1, &mut i);
     let mut r = [0u64; 1024];
     let n = copy(f, &mut r);
-    let divided = remainder(p, lead - 1, &i[..m], t, &mut r, n);
-    let answer = divided.answer;
-    print::number(b"rounds", divided.rounds);
+    let answer = remainder(p, lead - 1, &i[..m], t, &mut r, n);
     print::formed(b"remainder", answer, &r);
 }
 
-// The rounds that were finished, and what they left.
-struct Divided {
-    rounds: u64,
-    answer: Formed,
-}
-
 // Rounds on the first m words of r, until the degree is below that of t: each lowers it, so that there are at most 255.
-fn remainder(p: u64, k: u32, i: &[u64], t: &[u64], r: &mut [u64], m: usize) -> Divided
+fn remainder(p: u64, k: u32, i: &[u64], t: &[u64], r: &mut [u64], m: usize) -> Formed
     requires { ⌜ (1 ≤ p) × (p < 2147483648) ⌝ }
     requires { ⌜ Holds p (now t) × (leader (terms (now t)) ≡ k + 1) ⌝ }
     requires { ⌜ Holds p (now i) × (terms (now i) ≡ initial k (terms (now t))) ⌝ }
     requires { ⌜ (m ≤ length (now r)) × (1024 ≤ length (now r)) × Holds p (take m (now r)) ⌝ }
-    ensures { λ x. ⌜ Forms (bounded-remainder standard p k (degree k (terms (now (t .entry)))) (terms (now (t .entry))) 256 (terms (take m (now (r .entry))))) (x .answer) (now (r .exit)) ⌝ }
+    ensures { λ x. ⌜ Forms (bounded-remainder standard p k (degree k (terms (now (t .entry)))) (terms (now (t .entry))) 256 (terms (take m (now (r .entry))))) x (now (r .exit)) ⌝ }
 {
     let d = degrees::degree(t, k);
     let mut n = m;
@@ -156,25 +148,12 @@ fn remainder(p: u64, k: u32, i: &[u64], t: &[u64], r: &mut [u64], m: usize) -> D
     while rounds < 256 && d <= degrees::degree(&r[..n], k) {
         match round(p, k, d, i, t, r, n) {
             Formed::Words(left) => n = left,
-            Formed::OverDegree => {
-                return Divided {
-                    rounds,
-                    answer: Formed::OverDegree,
-                };
-            }
-            Formed::OverTerms => {
-                return Divided {
-                    rounds,
-                    answer: Formed::OverTerms,
-                };
-            }
+            Formed::OverDegree => return Formed::OverDegree,
+            Formed::OverTerms => return Formed::OverTerms,
         }
         rounds += 1;
     }
-    Divided {
-        rounds,
-        answer: Formed::Words(n),
-    }
+    Formed::Words(n)
 }
 
 // One round on the first n words of r, with buffers of its own.

@@ -34,7 +34,9 @@ slice-aggregate-initial : tie.Need-slice-aggregate-initial
 slice-aggregate-initial c = search needs
 
 initial-requires : tie.Need-initial-requires
-initial-requires c κs = let s = c .before .before .before .before .before in (s .pre .1 .1 .pairs, (((s .args .p, s .pre .1 .1 .canonical), omega (arith, c .before .before .leader .ensures)), s .pre .1 .1 .few))
+initial-requires c κs =
+    let s = c .before .before .before .before .before in
+    (s .pre .1 .1 .pairs, (((s .args .p, s .pre .1 .1 .canonical), omega (arith, c .before .before .leader .ensures)), s .pre .1 .1 .few))
 
 slice-aggregate-copy : tie.Need-slice-aggregate-copy
 slice-aggregate-copy c = search needs
@@ -63,17 +65,15 @@ remainder-requires c κs =
       (
         (s .pre .1 .1, omega (arith, c .before .before .before .before .before .before .before .before .before .leader .ensures)),
         (
-          (written-holds (s .args .p) _ _ _ w (omega (arith, w .within, c .before .before .before .before .before .before .initial .kept)) (canonical-initial (s .args .p) _ (terms (s .args .t .now)) (s .pre .1 .1 .canonical)), w .holds),
+          (
+            written-holds (s .args .p) _ _ _ w (omega (arith, w .within, c .before .before .before .before .before .before .initial .kept))
+                (canonical-initial (s .args .p) _ (terms (s .args .t .now)) (s .pre .1 .1 .canonical)),
+            w .holds,
+          ),
           (omega (arith, k .kept, k .ensures .0, s .pre .1 .0 .few), omega (arith, k .kept), subst (Holds (s .args .p)) (sym (k .ensures .1)) (s .pre .1 .0)),
         ),
       ),
     )
-
-slice-aggregate-number : tie.Need-slice-aggregate-number
-slice-aggregate-number c = search needs
-
-number-requires : tie.Need-number-requires
-number-requires c κs = search needs
 
 slice-aggregate-formed : tie.Need-slice-aggregate-formed
 slice-aggregate-formed c = search needs
@@ -83,7 +83,7 @@ slice-aggregate-formed-2 c = search needs
 
 formed-requires : tie.Need-formed-requires
 formed-requires c κs =
-    let m = c .before .before .before .before .before in
+    let m = c .before .before .before in
     let a = m .before .before .before .before .before .before .before .before .before .before .before .before .before .args in
     let k = m .before .before .before .before .before .before .before .before .before .before .leader .result - 1 in
     let f = m .before .before .before .before .copy in
@@ -110,8 +110,6 @@ divide-spec =
     slice-aggregate-remainder
     slice-aggregate-remainder-2
     remainder-requires
-    slice-aggregate-number
-    number-requires
     slice-aggregate-formed
     slice-aggregate-formed-2
     formed-requires

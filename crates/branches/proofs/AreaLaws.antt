@@ -333,4 +333,5 @@ module _ {v : List Rec} {most : ℕ} {b : Stored} {bs ss : List Stored} (H : Hel
 
       pub found-P : (r : ℕ) → r ≡ skip-to v (a + 1) i → Found v most r (getD (b .P) i [])
       found-P r e =
-          found (take i (b .P)) (getD (b .P) i []) (drop (suc i) (b .P) ++ (b .Q ++ b .T)) (parted-at-P b i h) (each-member Storable i (b .P) [] h (H .storable .0 .0 .0)) r (e ∙ skip-P i (omega arith))
+          found (take i (b .P)) (getD (b .P) i []) (drop (suc i) (b .P) ++ (b .Q ++ b .T)) (parted-at-P b i h)
+          (each-member Storable i (b .P) [] h (H .storable .0 .0 .0)) r (e ∙ skip-P i (omega arith))

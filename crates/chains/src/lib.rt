@@ -43,7 +43,8 @@ pub fn write_terms(w: &[u32], from: usize, out: &mut [u32], to: usize)
 pub fn write_heads(w: &[u32], from: usize, k: usize, out: &mut [u32], to: usize)
     requires { ⌜ skip-to (view (now w)) from k ≤ room (now w) ⌝ }
     requires { ⌜ (4 * (to + (skip-to (view (now w)) from k - from)) ≤ length (now out)) × (to + (skip-to (view (now w)) from k - from) ≤ 65536) ⌝ }
-    ensures { λ _. ⌜ now (out .exit) ≡ paste (now (out .entry)) (4 * to) (heads-words to (map terms (polys-at (view (now (w .entry))) from k))) (4 * (skip-to (view (now (w .entry))) from k - from)) ⌝ }
+    ensures { λ _. ⌜ now (out .exit) ≡ paste (now (out .entry)) (4 * to) (heads-words to (map terms (polys-at (view (now (w .entry))) from k)))
+        (4 * (skip-to (view (now (w .entry))) from k - from)) ⌝ }
 {
     let mut i = from;
     let mut at = to;

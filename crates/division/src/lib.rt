@@ -74,7 +74,8 @@ fn subtract_product(
     requires { ⌜ (l ≤ length (now r)) × (lent-for-difference (length (now a)) l (length (now t)) ≤ length (now r)) × Holds p (take l (now r)) ⌝ }
     requires { ⌜ Holds p (now a) ⌝ }
     requires { ⌜ (lent-for-product l (length (now t)) ≤ length (now y)) × (lent-for-product l (length (now t)) ≤ length (now z)) ⌝ }
-    ensures { λ f. ⌜ Forms (and-then (bounded-product standard p (terms (take l (now (r .entry)))) (terms (now (t .entry)))) (bounded-difference standard p (terms (now (a .entry))))) f (now (r .exit)) ⌝ }
+    ensures { λ f. ⌜ Forms (and-then (bounded-product standard p (terms (take l (now (r .entry)))) (terms (now (t .entry))))
+        (bounded-difference standard p (terms (now (a .entry))))) f (now (r .exit)) ⌝ }
 {
     if l == 2 {
         return subtract_row(p, t, r, a);
@@ -92,7 +93,8 @@ fn subtract_row(p: u64, t: &[u64], r: &mut [u64], a: &[u64]) -> Formed
     requires { ⌜ Holds p (now t) ⌝ }
     requires { ⌜ (2 ≤ length (now r)) × Holds p (take 2 (now r)) ⌝ }
     requires { ⌜ Holds p (now a) × (length (now a) + length (now t) ≤ length (now r)) ⌝ }
-    ensures { λ f. ⌜ Forms (and-then (bounded-product standard p (terms (take 2 (now (r .entry)))) (terms (now (t .entry)))) (bounded-difference standard p (terms (now (a .entry))))) f (now (r .exit)) ⌝ }
+    ensures { λ f. ⌜ Forms (and-then (bounded-product standard p (terms (take 2 (now (r .entry)))) (terms (now (t .entry))))
+        (bounded-difference standard p (terms (now (a .entry))))) f (now (r .exit)) ⌝ }
 {
     let c = r[0];
     let m = r[1];

@@ -125,7 +125,8 @@ fn head_of(answer: Answer, count: u32) -> Heading
 pub fn run(table: &[u32], work: &mut [u32], output: &mut [u32], limit: u32, filling: u32) -> Heading
     requires { ⌜ length (now work) ≤ 262400 ⌝ }
     ensures { λ r. ⌜ r ≡ heading-of (answer-of (eliminated (now (table .entry)) (length (now (work .entry))) (length (now (output .entry))) limit)) 0 ⌝ }
-    ensures { λ _. ⌜ now (output .exit) ≡ output-after (eliminated (now (table .entry)) (length (now (work .entry))) (length (now (output .entry))) limit) (replicate (length (now (output .entry))) filling) ⌝ }
+    ensures { λ _. ⌜ now (output .exit) ≡ output-after (eliminated (now (table .entry)) (length (now (work .entry))) (length (now (output .entry))) limit)
+        (replicate (length (now (output .entry))) filling) ⌝ }
     ensures { λ _. ⌜ now (work .exit) ≡ replicate (length (now (work .entry))) 0 ⌝ }
 {
     fill(work, filling);

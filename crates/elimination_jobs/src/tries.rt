@@ -35,7 +35,8 @@ fn try_both(table: &[u32], systems: &[u32], numbers: &[u32]) -> Tried
 fn print(text: &mut [u8], end: usize, tried: Tried) -> usize
     requires { ⌜ (end ≤ length (now text)) × (128 ≤ length (now text)) ⌝ }
     ensures { λ r. ⌜ r ≤ length (now (text .exit)) ⌝ }
-    ensures { λ r. ⌜ (end + 212 ≤ length (now (text .entry)) → LineAdded (tried .trial .outcome ∷ tried .trial .value ∷ tried .place .outcome ∷ tried .place .value ∷ []) end (now (text .entry)) r (now (text .exit))) ⌝ }
+    ensures { λ r. ⌜ (end + 212 ≤ length (now (text .entry))
+        → LineAdded (tried .trial .outcome ∷ tried .trial .value ∷ tried .place .outcome ∷ tried .place .value ∷ []) end (now (text .entry)) r (now (text .exit))) ⌝ }
 {
     let a = tried.trial;
     let b = tried.place;

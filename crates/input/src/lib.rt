@@ -67,7 +67,8 @@ pub fn begin() -> Input
 // The next word. The buffer is filled anew when it holds no whole word more, so its length is to be a multiple of 4.
 pub fn next(buffer: &mut [u8], input: Input) -> Word
     ensures { λ r. ⌜ Reached r (now (buffer .exit)) ⌝ }
-    ensures { λ r. ⌜ (Left input (now (buffer .entry)) → (r ≡ Word.Read (word-at (now (buffer .entry)) (input .at)) (record { at = input .at + 4; end = input .end })) × (now (buffer .exit) ≡ now (buffer .entry))) ⌝ }
+    ensures { λ r. ⌜ (Left input (now (buffer .entry)) → (r ≡ Word.Read (word-at (now (buffer .entry)) (input .at)) (record { at = input .at + 4; end = input .end }))
+        × (now (buffer .exit) ≡ now (buffer .entry))) ⌝ }
 {
     let at = input.at;
     let end = input.end;

@@ -144,7 +144,8 @@ fn is_solved(table: &[u32], p: u32, n: u32, i: usize, point: &[u32]) -> bool
 fn first_solved(table: &[u32], p: u32, n: u32, point: &[u32]) -> u32
     requires { ⌜ Readable (now table) p n × ((ss : List System) × (read-systems (now table) p n (records (now table)) 0 (word (now table) 0 2) ≡ good ss)) ⌝ }
     requires { ⌜ Point p (now point) ⌝ }
-    ensures { λ r. ⌜ ((ss : List System) → read-systems (now (table .entry)) p n (records (now (table .entry))) 0 (word (now (table .entry)) 0 2) ≡ good ss → r ≡ first-solved p (now (point .entry)) 1 ss) ⌝ }
+    ensures { λ r. ⌜ ((ss : List System) → read-systems (now (table .entry)) p n (records (now (table .entry))) 0 (word (now (table .entry)) 0 2) ≡ good ss
+        → r ≡ first-solved p (now (point .entry)) 1 ss) ⌝ }
 {
     let mut r = readers::step(readers::new(table, 0), 2);
     let mut place: u32 = 1;

@@ -146,7 +146,8 @@ then-the-other-product = refl
 
 -- The remainder of v1^55 v2 + 1 by v1^200 v2 + 1 in v2: v1^200 - v1^55.
 remainder-within-bounds : bounded-remainder standard 7 1 1 (t 1 200 1 ∷ t 1 0 0 ∷ []) 2 (t 1 55 1 ∷ t 1 0 0 ∷ []) ≡ within (t 1 200 0 ∷ t 6 55 0 ∷ [])
-unfolding bounded-remainder bounded-round bounded-difference bounded-product degrees-over degrees largest some-over over tested difference product add-multiple insert keep order join degree coefficient factor shift pure-power
+unfolding bounded-remainder bounded-round bounded-difference bounded-product degrees-over degrees largest some-over over tested
+    difference product add-multiple insert keep order join degree coefficient factor shift pure-power
 remainder-within-bounds = refl
 
 -- A table's words 0 and 257 are v1 v2.

@@ -56,8 +56,10 @@ module _ (w : List ℕ) (i a b c d : ℕ) (h : i < room w) where
 
   same : record-at (store w i a b c d) i ≡ record-of a b c d
   same = λ k. record-of
-      ((getD-set-other (s3 w i a b c) (4 * i + 3) (4 * i) d 0 (λ e. omega arith) ∙ getD-set-other (s2 w i a b) (4 * i + 2) (4 * i) c 0 (λ e. omega arith) ∙ getD-set-other (s1 w i a) (4 * i + 1) (4 * i) b 0 (λ e. omega arith) ∙ getD-set-same w (4 * i) a 0 (omega arith)) k)
-      ((getD-set-other (s3 w i a b c) (4 * i + 3) (4 * i + 1) d 0 (λ e. omega arith) ∙ getD-set-other (s2 w i a b) (4 * i + 2) (4 * i + 1) c 0 (λ e. omega arith) ∙ getD-set-same (s1 w i a) (4 * i + 1) b 0 (simp length-set (omega arith))) k)
+      ((getD-set-other (s3 w i a b c) (4 * i + 3) (4 * i) d 0 (λ e. omega arith) ∙ getD-set-other (s2 w i a b) (4 * i + 2) (4 * i) c 0 (λ e. omega arith)
+      ∙ getD-set-other (s1 w i a) (4 * i + 1) (4 * i) b 0 (λ e. omega arith) ∙ getD-set-same w (4 * i) a 0 (omega arith)) k)
+      ((getD-set-other (s3 w i a b c) (4 * i + 3) (4 * i + 1) d 0 (λ e. omega arith) ∙ getD-set-other (s2 w i a b) (4 * i + 2) (4 * i + 1) c 0 (λ e. omega arith)
+      ∙ getD-set-same (s1 w i a) (4 * i + 1) b 0 (simp length-set (omega arith))) k)
       ((getD-set-other (s3 w i a b c) (4 * i + 3) (4 * i + 2) d 0 (λ e. omega arith) ∙ getD-set-same (s2 w i a b) (4 * i + 2) c 0 (simp length-set (omega arith))) k)
       (getD-set-same (s3 w i a b c) (4 * i + 3) d 0 (simp length-set (omega arith)) k)
 

@@ -30,7 +30,8 @@ use Rattle.polynomials.specs.laws.Terms.{terms-at, terms-push, terms-append, wo
 -- Monomials of which no exponent passes 255 have a sum that fits.
 pub fits-below : (n w v : ℕ) → Fits n w v → w < 256 ^ n → v < 256 ^ n → w + v < 256 ^ n
 fits-below zero w v f h k = omega arith
-fits-below (suc n) w v f h k = subst (λ z. w + v < z) (sym (pow-suc 256 n)) (div-lt-iff-lt-mul {k = 256} (omega arith) .0 (subst (λ z. z < 256 ^ n) high (fits-below n (w / 256) (v / 256) (f .1) (fewer-bytes n w h) (fewer-bytes n v k))))
+fits-below (suc n) w v f h k = subst (λ z. w + v < z) (sym (pow-suc 256 n))
+    (div-lt-iff-lt-mul {k = 256} (omega arith) .0 (subst (λ z. z < 256 ^ n) high (fits-below n (w / 256) (v / 256) (f .1) (fewer-bytes n w h) (fewer-bytes n v k))))
   where
     high : w / 256 + v / 256 ≡ (w + v) / 256
     high = omega (arith, f .0)
@@ -184,7 +185,8 @@ module _ {p c m : ℕ} {g f out : List ℕ} {i j k : ℕ} (H : Head p c m g f ou
     taken-alone in-f word less =
         alone
         (subst (Under (bytes 8 (m + getD g (j + 1) 0))) (sym (terms-at f i (i-pair in-f)))
-        (under-first p (bytes 8 (m + getD g (j + 1) 0)) (term (getD f i 0) (getD f (i + 1) 0)) (terms (drop (i + 2) f)) (front-canonical in-f) (words-below (getD f (i + 1) 0) (m + getD g (j + 1) 0) word small less)))
+        (under-first p (bytes 8 (m + getD g (j + 1) 0)) (term (getD f i 0) (getD f (i + 1) 0)) (terms (drop (i + 2) f))
+        (front-canonical in-f) (words-below (getD f (i + 1) 0) (m + getD g (j + 1) 0) word small less)))
 
     -- The two are alike.
     pub taken-both : i < length f → getD f (i + 1) 0 ≡ m + getD g (j + 1) 0 → Taken p c m g f i j (i + 2) ((c * getD g j 0 % p + getD f i 0) % p)

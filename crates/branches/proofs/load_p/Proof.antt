@@ -12,7 +12,8 @@ use Rattle.branches.proofs.load_p.Tie as tie
 
 -- The member of P at place i is where the call of `skip` ends.
 there : (c : tie.After-skip) {b : Stored} {bs ss : List Stored} → Held-in (c .before .before .before .before .args .w .now) (with-open b bs ss)
-    → Found (view (c .before .before .before .before .args .w .now)) (capacity (c .before .before .before .before .args .w .now)) (c .skip .result) (getD (b .P) (c .before .before .before .before .args .i) [])
+    → Found (view (c .before .before .before .before .args .w .now)) (capacity (c .before .before .before .before .args .w .now))
+    (c .skip .result) (getD (b .P) (c .before .before .before .before .args .i) [])
 there c {b} {bs} {ss} H =
     let s = c .before .before .before .before in
     found-P H (c .before .get0 .result) (c .before .get0 .ensures) (s .args .i) (s .pre .1 .0 b bs ss H) (c .skip .result) (c .skip .ensures)

@@ -32,7 +32,8 @@ returns c =
     let start = c .before .before .before .before .before .before in
     let u = c .before .before .before .union in
     let v = c .before .before .union2 in
-    sym (unions-within 255 (u .result) (v .result) (terms (start .args .f .now)) (terms (start .args .g .now)) (u .ensures) (v .ensures) (sym (c .before .passes .ensures) ∙ not-true _ (c .if1 .taken)))
+    sym (unions-within 255 (u .result) (v .result) (terms (start .args .f .now)) (terms (start .args .g .now))
+    (u .ensures) (v .ensures) (sym (c .before .passes .ensures) ∙ not-true _ (c .if1 .taken)))
 
 loop-holds : tie.Need-loop-holds Inv-loop μ-loop
 loop-holds c = search needs

@@ -80,8 +80,10 @@ subtract-product-requires c κs =
         (
           (
             l .factor .ensures .0 .within,
-            difference-lent (s .args .n) (length (s .args .i .now)) _ _ fewer _ _ (omega (arith, few a, length-take-le (a .a .given .0 .0) (X (called a)) (answer a .inside))) (omega (arith, lent .0, l .factor .kept)),
-            written-holds (s .args .p) _ _ _ (l .factor .ensures .0) (omega (arith, fewer, s .pre .1 .1 .1 .0 .1 .few, words s)) (canonical-factor (s .args .p) (s .args .k) (s .args .d) (R s) (s .pre .1 .1 .1 .0 .1 .canonical)),
+            difference-lent (s .args .n) (length (s .args .i .now)) _ _ fewer _ _
+                (omega (arith, few a, length-take-le (a .a .given .0 .0) (X (called a)) (answer a .inside))) (omega (arith, lent .0, l .factor .kept)),
+            written-holds (s .args .p) _ _ _ (l .factor .ensures .0) (omega (arith, fewer, s .pre .1 .1 .1 .0 .1 .few, words s))
+                (canonical-factor (s .args .p) (s .args .k) (s .args .d) (R s) (s .pre .1 .1 .1 .0 .1 .canonical)),
           ),
           (
             answer a .holds,

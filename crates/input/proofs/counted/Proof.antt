@@ -26,7 +26,8 @@ words k = k .before .before .before .before .before .before .before .before .arg
 abbrev number : tie.After-count → ℕ
 number k = k .count .given .0 .0
 
-abbrev read : (k : tie.After-count) → Left (input k) (buffer k) → (k .before .before .before .before .next .result ≡ Read (word-at (buffer k) (input k .at)) (further 1 (input k))) × (k .before .before .before .before .next .last .0 ≡ buffer k)
+abbrev read : (k : tie.After-count) → Left (input k) (buffer k)
+    → (k .before .before .before .before .next .result ≡ Read (word-at (buffer k) (input k .at)) (further 1 (input k))) × (k .before .before .before .before .next .last .0 ≡ buffer k)
 read k = k .before .before .before .before .next .ensures .1
 
 abbrev counted-in : tie.After-fill → tie.After-count
@@ -95,8 +96,11 @@ same-length-4 : tie.Need-same-length-4
 same-length-4 c = search needs
 
 returns-3 : tie.Need-returns-3
-returns-3 c =
-    (tt, λ l. counted-short (input k) (buffer k) (words k) l (read k) (number k) (k .count .given .0 .1 .0) (k .count .given .1) (f .before .before .before .if1 .left) (long f) (lent f) (kept f) (f .fill .ensures .1) (c .enum-told2 .given .1))
+returns-3 c = (
+  tt,
+  λ l. counted-short (input k) (buffer k) (words k) l (read k) (number k) (k .count .given .0 .1 .0) (k .count .given .1)
+      (f .before .before .before .if1 .left) (long f) (lent f) (kept f) (f .fill .ensures .1) (c .enum-told2 .given .1),
+)
   where
     f : tie.After-fill
     f = c .before .before .before .before .before .before
@@ -111,8 +115,11 @@ same-length-6 : tie.Need-same-length-6
 same-length-6 c = search needs
 
 returns-4 : tie.Need-returns-4
-returns-4 c =
-    (omega arith, λ l. counted-full (input k) (buffer k) (words k) l (read k) (number k) (k .count .given .0 .1 .0) (k .count .given .1) (f .before .before .before .if1 .left) (long f) (lent f) (kept f) (f .fill .ensures .1) (c .before .rest .given .1))
+returns-4 c = (
+  omega arith,
+  λ l. counted-full (input k) (buffer k) (words k) l (read k) (number k) (k .count .given .0 .1 .0) (k .count .given .1)
+      (f .before .before .before .if1 .left) (long f) (lent f) (kept f) (f .fill .ensures .1) (c .before .rest .given .1),
+)
   where
     f : tie.After-fill
     f = c .before .before .before .before .before .before .before

@@ -145,7 +145,10 @@ module _ (p : ℕ) (h : 1 ≤ p) (k : ℕ) where
   low : (e : ℕ) (f : Poly) → Canonical p f → ((w : Exponents → Fin p) → High e w → weigh 𝓕 w f ≡ 𝟘) → All (λ a. getD a k 0 < e) f
   unfolding weigh only
   low e [] c z = tt
-  low e (t ∷ f) c z = elim (decLt (getD (t .exps) k 0) e) [ yes l ↦ (l, low e f (c .3) (rest l)) | no n ↦ absurd (not-zero p h (t .coef) (c .0) (c .1) (sym (leading p h t f (c .2)) ∙ z (only p h (t .exps)) (single n))) ]
+  low e (t ∷ f) c z = elim (decLt (getD (t .exps) k 0) e) [
+    | yes l ↦ (l, low e f (c .3) (rest l))
+    | no n ↦ absurd (not-zero p h (t .coef) (c .0) (c .1) (sym (leading p h t f (c .2)) ∙ z (only p h (t .exps)) (single n)))
+  ]
     where
       rest : getD (t .exps) k 0 < e → (w : Exponents → Fin p) → High e w → weigh 𝓕 w f ≡ 𝟘
       rest l w u = sym (nil-add 𝓕 (weigh 𝓕 w f)) ∙ ap (λ y. y ⊕ weigh 𝓕 w f) (sym (mul-nil 𝓕 (cast 𝓕 (t .coef))) ∙ ap (λ y. cast 𝓕 (t .coef) ⊗ y) (sym (u (t .exps) l))) ∙ z w u

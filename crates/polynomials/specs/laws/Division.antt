@@ -10,7 +10,8 @@ use Rattle.residues.specs.Prime.{Prime}
 use Rattle.residues.specs.Residue.{inverse}
 use Rattle.residues.specs.Field.{CommRing, Field, cast, pow}
 use Rattle.residues.specs.laws.Inverse.{inverse-ok}
-use Rattle.residues.specs.laws.Ring.{cast-one, cast-product, ring-laws, nil-mul, nil-add, add-nil, add-left-comm, one-mul, mul-one, mul-nil, mul-comm, mul-left-comm, mul-zero, pow-nonzero, unit-nonzero}
+use Rattle.residues.specs.laws.Ring.{cast-one, cast-product, ring-laws, nil-mul, nil-add, add-nil, add-left-comm}
+use Rattle.residues.specs.laws.Ring.{one-mul, mul-one, mul-nil, mul-comm, mul-left-comm, mul-zero, pow-nonzero, unit-nonzero}
 use Rattle.polynomials.specs.Poly.{Exponents, Term, Poly, join, sum, difference, product, monic}
 use Rattle.polynomials.specs.Division.{degree, coefficient, without, constant-one, power, factor, round, remainder, rounds, multiple}
 use Rattle.polynomials.specs.Value.{weigh, monomial-value, value}

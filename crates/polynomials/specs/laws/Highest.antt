@@ -63,7 +63,8 @@ highest-bytes (suc n) m h = highest-cons (m % 256) (bytes n (m / 256)) ∙ ap (a
       where
         some : (n m : ℕ) → 1 ≤ m → m / 256 < 256 ^ n → above (m % 256) (bytes-taken n (m / 256)) ≡ suc (bytes-taken n (m / 256))
         some n m h l = elim (ℕ-discrete (m / 256) 0) [
-          | yes e ↦ ap (λ (z : ℕ). above (m % 256) (bytes-taken n z)) e ∙ ap (above (m % 256)) (taken-zero n) ∙ above-some (m % 256) (omega arith) ∙ sym (ap (λ (z : ℕ). suc (bytes-taken n z)) e ∙ ap suc (taken-zero n))
+          | yes e ↦ ap (λ (z : ℕ). above (m % 256) (bytes-taken n z)) e ∙ ap (above (m % 256)) (taken-zero n)
+              ∙ above-some (m % 256) (omega arith) ∙ sym (ap (λ (z : ℕ). suc (bytes-taken n z)) e ∙ ap suc (taken-zero n))
           | no u ↦ more n m (omega arith) l
         ]
           where

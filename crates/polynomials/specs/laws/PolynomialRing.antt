@@ -116,7 +116,8 @@ module _ (p : ℕ) (h : 1 ≤ p) where
         ∙ sym (weigh-product 𝓕 p (char p h) w f (product p g k))
 
     pub w-product-one : (f : Poly) → W (product p f (canon constant-one .0)) ≡ W f
-    w-product-one f = weigh-product 𝓕 p (char p h) w f (canon constant-one .0) ∙ ap (λ u. weigh 𝓕 u f) (fun-ext (λ a. weigh-canon (λ b. w (join a b)) constant-one ∙ weigh-one (λ b. w (join a b)) ∙ ap w (join-nil a)))
+    w-product-one f = weigh-product 𝓕 p (char p h) w f (canon constant-one .0)
+        ∙ ap (λ u. weigh 𝓕 u f) (fun-ext (λ a. weigh-canon (λ b. w (join a b)) constant-one ∙ weigh-one (λ b. w (join a b)) ∙ ap w (join-nil a)))
 
     pub w-product-sum : (f g k : Poly) → W (product p f (sum p g k)) ≡ W (sum p (product p f g) (product p f k))
     w-product-sum f g k =

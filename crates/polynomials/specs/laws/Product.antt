@@ -35,7 +35,8 @@ keep-length : (c : ℕ) (e : Exponents) (f : Poly) → (length f ≤ length (kee
 unfolding keep
 keep-length c e f = go (eqb c 0)
   where
-    go : (b : Bool) → (length f ≤ length {A = Term} (elim b [ true ↦ f | false ↦ record { coef = c; exps = e } ∷ f ])) × (length {A = Term} (elim b [ true ↦ f | false ↦ record { coef = c; exps = e } ∷ f ]) ≤ length f + 1)
+    go : (b : Bool) → (length f ≤ length {A = Term} (elim b [ true ↦ f | false ↦ record { coef = c; exps = e } ∷ f ]))
+        × (length {A = Term} (elim b [ true ↦ f | false ↦ record { coef = c; exps = e } ∷ f ]) ≤ length f + 1)
     go true = omega arith
     go false = omega arith
 
@@ -103,7 +104,12 @@ module _ (f : List ℕ) (i : ℕ) (even : i % 2 ≡ 0) (inside : i + 1 < length 
   pub exponent-within : (k : ℕ) → getD (bytes 8 (getD f (i + 1) 0)) k 0 ≤ degree k (terms f)
   unfolding degree
   exponent-within k =
-      omega (arith, le-max-left (getD (bytes 8 (getD f (i + 1) 0)) k 0) (degree k (terms (drop (i + 2) f))), ap (degree k) (sym (terms-drop i f even) ∙ terms-at f i inside), degree-drop k (i / 2) (terms f))
+      omega (
+        arith,
+        le-max-left (getD (bytes 8 (getD f (i + 1) 0)) k 0) (degree k (terms (drop (i + 2) f))),
+        ap (degree k) (sym (terms-drop i f even) ∙ terms-at f i inside),
+        degree-drop k (i / 2) (terms f),
+      )
 
   -- Where no degrees pass 255, no exponent of a term product does.
   pub row-fits : (g : List ℕ) → degrees-over (at-most 255) (terms f) (terms g) ≡ false → AllFit (getD f (i + 1) 0) g

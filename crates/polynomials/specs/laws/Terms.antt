@@ -51,7 +51,8 @@ terms-at s i h = ap terms (drop-cons s i 0 (omega arith) ∙ ap (λ z. getD s i 
 pub terms-push : (s : List ℕ) (k c m : ℕ) → k % 2 ≡ 0 → k + 1 < length s → terms (take (k + 2) (set (set s k c) (k + 1) m)) ≡ terms (take k s) ++ (term c m ∷ [])
 unfolding terms
 terms-push s k c m e h =
-    ap terms (ap (λ (j : ℕ). take j (set (set s k c) (k + 1) m)) up ∙ take-suc-set (set s k c) (k + 1) m (simp length-set (omega arith)) ∙ ap (λ z. z ++ (m ∷ [])) front ∙ append-assoc (take k s) (c ∷ []) (m ∷ []))
+    ap terms (ap (λ (j : ℕ). take j (set (set s k c) (k + 1) m)) up ∙ take-suc-set (set s k c) (k + 1) m (simp length-set (omega arith))
+    ∙ ap (λ z. z ++ (m ∷ [])) front ∙ append-assoc (take k s) (c ∷ []) (m ∷ []))
     ∙ terms-append (take k s) (c ∷ (m ∷ [])) (simp length-take (omega arith))
   where
     up : k + 2 ≡ suc (k + 1)

@@ -107,7 +107,8 @@ module _ {ℓ} {K : Type ℓ} (𝓡 : CommRing K) where
     pub value-product : (f g : Poly) (x : List K) → value 𝓡 (product p f g) x ≡ value 𝓡 f x ⊗ value 𝓡 g x
     value-product f g x =
         weigh-product (monomial-value 𝓡 x) f g
-        ∙ ap (λ w. weigh 𝓡 w f) (fun-ext (λ a. ap (λ w. weigh 𝓡 w g) (fun-ext (λ b. monomial-join x a b)) ∙ weigh-scale (monomial-value 𝓡 x a) (monomial-value 𝓡 x) g ∙ mul-comm 𝓡 (monomial-value 𝓡 x a) (value 𝓡 g x)))
+        ∙ ap (λ w. weigh 𝓡 w f) (fun-ext (λ a. ap (λ w. weigh 𝓡 w g) (fun-ext (λ b. monomial-join x a b))
+        ∙ weigh-scale (monomial-value 𝓡 x a) (monomial-value 𝓡 x) g ∙ mul-comm 𝓡 (monomial-value 𝓡 x a) (value 𝓡 g x)))
         ∙ weigh-scale (value 𝓡 g x) (monomial-value 𝓡 x) f ∙ mul-comm 𝓡 (value 𝓡 g x) (value 𝓡 f x)
 
   -- Sums change places.

@@ -2,7 +2,8 @@
 use mathlib.Core.Path.{_≡_, refl, sym, _∙_, ap}
 use mathlib.Core.Logic.{_≢_, _⊎_, inl, inr}
 use Prim.Native.Nat.{ℕ, zero, suc, _+_, _-_, _*_, _%_, _^_, _≤_, _<_, Fin}
-use native.Mathlib.Nat.{pow-zero, pow-succ', mod-lt, mod-eq-of-lt, mod-add-mod, add-mod-mod, mod-mod, mod-self, add-assoc, add-comm, add-zero, mul-assoc, mul-comm, mul-one, mul-add, zero-mod, add-sub-of-le, le-of-lt}
+use native.Mathlib.Nat.{pow-zero, pow-succ', mod-lt, mod-eq-of-lt, mod-add-mod, add-mod-mod, mod-mod, mod-self, add-assoc}
+use native.Mathlib.Nat.{add-comm, add-zero, mul-assoc, mul-comm, mul-one, mul-add, zero-mod, add-sub-of-le, le-of-lt}
 use native.Mathlib.Decide.{Fin·val-path, ℕ-discrete}
 use native.Mathlib.Omega.{arith}
 use Rattle.residues.specs.Prime.{Prime, is-prime, no-divisor-from}

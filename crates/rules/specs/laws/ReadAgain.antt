@@ -15,7 +15,8 @@ use Rattle.polynomials.specs.Canonical.{Under, Canonical, All}
 use Rattle.polynomials.specs.Division.{leader}
 use Rattle.polynomials.specs.Packed.{word as pack, exponents}
 use Rattle.tables.specs.Words.{word, records, is-whole, follow, term-at}
-use Rattle.tables.specs.Read.{Read, good, then, unless, Before, first, after, not-zero, has-above, not-below, System, Listing, read-term, read-terms, read-head, read-heads, read-triangle, read-system, read-systems, read-header, read-list}
+use Rattle.tables.specs.Read.{Read, good, then, unless, Before, first, after, not-zero, has-above, not-below}
+use Rattle.tables.specs.Read.{System, Listing, read-term, read-terms, read-head, read-heads, read-triangle, read-system, read-systems, read-header, read-list}
 use Rattle.tables.specs.declared.Reason.{Reason}
 use Rattle.tables.specs.declared.Reason.the-variants.{Shape, Prime, Variables, Coefficient, Exponent, Head, Order, Terms, Broken}
 use Rattle.rules.specs.Room.{polynomials-size, systems-size}

@@ -8,7 +8,8 @@ use lib.ListN.{length, getD, length-set}
 use borrow.Author.Tests.{ltb-true, ltb-false, eqb-true, eqb-false}
 use Rattle.residues.specs.Residue.{product, sum}
 use Rattle.polynomials.specs.Packed.{Fits}
-use Rattle.sums.proofs.MergeLaws.{Word, Head, Taken, fits-below, start, next-canonical, next-fits, front-canonical, turn-f, subst-taken, subst-head, taken-last, taken-alone, taken-both, turn-none, turn-sum, finish}
+use Rattle.sums.proofs.MergeLaws.{Word, Head, Taken, fits-below, start, next-canonical, next-fits, front-canonical}
+use Rattle.sums.proofs.MergeLaws.{turn-f, subst-taken, subst-head, taken-last, taken-alone, taken-both, turn-none, turn-sum, finish}
 use Rattle.sums.proofs.add_multiple.Statement.{statement}
 use Rattle.sums.proofs.add_multiple.Tie as tie
 
@@ -106,7 +107,8 @@ loop-again c =
     let P = entry (t .before) .pre in
     let L = t .before .before .loop in (
       simp length-set (L .inv .0),
-      turn-f (L .inv .1) (P .1 .1 .0 .0) (P .1 .0 .0) (t .before .loop-test .taken) (small t) (c .before .before .before .before .if1 .taken) (omega arith) (c .shared-slice-known6 .given (L .i + 1) .fits) (ltb-true _ _ (c .before .before .if2 .taken)),
+      turn-f (L .inv .1) (P .1 .1 .0 .0) (P .1 .0 .0) (t .before .loop-test .taken) (small t) (c .before .before .before .before .if1 .taken)
+          (omega arith) (c .shared-slice-known6 .given (L .i + 1) .fits) (ltb-true _ _ (c .before .before .if2 .taken)),
     )
 
 mul-multiply : tie.Need-mul-multiply Inv-loop μ-loop
@@ -238,7 +240,8 @@ returns c =
     let P = c .before .before .before .before .before .before .before .before .before .pre in
     let a = c .before .before .before .before .before .before .before .before .before .args in
     let L = c .before .before .before .before .before .loop in
-    finish (a .p) (a .c) (a .m) (a .g .now) (a .f .now) (L .out) (c .before .before .copy .last .1 .1 .0) (L .i) (L .j) (L .k) (L .inv .1) (P .1 .1 .0 .0) (c .before .before .before .before .loop-test .left) (omega arith) (c .before .before .copy .ensures)
+    finish (a .p) (a .c) (a .m) (a .g .now) (a .f .now) (L .out) (c .before .before .copy .last .1 .1 .0) (L .i) (L .j) (L .k) (L .inv .1)
+    (P .1 .1 .0 .0) (c .before .before .before .before .loop-test .left) (omega arith) (c .before .before .copy .ensures)
 
 pub add-multiple-spec : {M : Type 1} → statement M
 add-multiple-spec =

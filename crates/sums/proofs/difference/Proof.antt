@@ -20,7 +20,8 @@ add-multiple-requires c κs =
     (omega arith, ((g .pairs, g .canonical, all-fit-zero (c .before .before .before .before .args .g .now)), ((f .pairs, f .canonical), P .1 .1 .1)))
 
 written : (c : tie.After-add-multiple) →
-    Written (difference (c .before .before .before .before .before .args .p) (terms (c .before .before .before .before .before .args .f .now)) (terms (c .before .before .before .before .before .args .g .now))) (c .add-multiple .result) (c .add-multiple .last .1 .1 .1 .1 .1 .0)
+    Written (difference (c .before .before .before .before .before .args .p) (terms (c .before .before .before .before .before .args .f .now))
+    (terms (c .before .before .before .before .before .args .g .now))) (c .add-multiple .result) (c .add-multiple .last .1 .1 .1 .1 .1 .0)
 written c =
     let a = c .before .before .before .before .before .args in
     difference-written (a .p) (c .add-multiple .result) (a .f .now) (a .g .now) (c .add-multiple .last .1 .1 .1 .1 .1 .0) (c .add-multiple .ensures)

@@ -41,10 +41,10 @@ slice-read-multiply c = omega arith
 
 multiply-requires : tie.Need-multiply-requires Inv-loop μ-loop
 multiply-requires c κs =
-    let P = c .before .before .before .before .before .before .before .pre in (
-      subst (λ z. z < c .before .before .before .before .before .before .before .args .p) (sym (c .before .before .before .invert .ensures)) (inverse-lt (c .before .before .before .before .before .before .before .args .p) (getD (c .before .before .before .before .before .before .before .args .f .now) 0 0) (P .0 .0)),
-      scaled-next (c .before .before .loop .inv) (P .1 .0) (c .before .loop-test .taken) .1,
-      P .0 .1,
+    let s = c .before .before .before .before .before .before .before in (
+      subst (λ z. z < s .args .p) (sym (c .before .before .before .invert .ensures)) (inverse-lt (s .args .p) (getD (s .args .f .now) 0 0) (s .pre .0 .0)),
+      scaled-next (c .before .before .loop .inv) (s .pre .1 .0) (c .before .loop-test .taken) .1,
+      s .pre .0 .1,
     )
 
 mul-f : tie.Need-mul-f Inv-loop μ-loop
@@ -62,8 +62,10 @@ loop-less c = omega arith
 loop-again : tie.Need-loop-again Inv-loop μ-loop
 unfolding product
 loop-again c =
+    let s = c .before .before .before .before .before .before .before .before in
     let L = c .before .before .before .loop in
-    subst (λ x. Scaled (c .before .before .before .before .before .before .before .before .args .p) (c .before .before .before .before .invert .result) (c .before .before .before .before .before .before .before .before .args .f .now) (set (L .f) (L .i) x) (L .i + 2)) (sym (c .multiply .ensures)) (scaled-turn (L .inv) (c .before .before .before .before .before .before .before .before .pre .1 .0) (c .before .before .loop-test .taken))
+    subst (λ x. Scaled (s .args .p) (c .before .before .before .before .invert .result) (s .args .f .now) (set (L .f) (L .i) x) (L .i + 2)) (sym (c .multiply .ensures))
+    (scaled-turn (L .inv) (s .pre .1 .0) (c .before .before .loop-test .taken))
 
 same-length : tie.Need-same-length Inv-loop μ-loop
 same-length c = omega arith

@@ -31,7 +31,8 @@ At c ss =
     let turn = c .before .loop in
     let put = c .before .before .before .before .before .put-record in
     let most = c .before .before .before .before .before .before .before .before .if1 .most in
-    let a = c .before .before .before .before .before .before .before .before .before .before .before .before .before .args in Turn (view (a .w .now)) most ss (put .last .0) (turn .out) (turn .i) (turn .end) (turn .next)
+    let a = c .before .before .before .before .before .before .before .before .before .before .before .before .before .args in
+    Turn (view (a .w .now)) most ss (put .last .0) (turn .out) (turn .i) (turn .end) (turn .next)
 
 turn-of : (c : tie.In-loop Inv-loop μ-loop) (ss : List Stored)
     → let w = c .before .before .before .before .before .before .before .before .before .before .before .before .before .args .w .now in Held-in w (record { branches = []; systems = ss }) → At c ss
@@ -45,7 +46,8 @@ turn-of c ss h =
 
 -- For the systems that the contract names.
 turn-asked : (c : tie.In-loop Inv-loop μ-loop) → At c (c .before .before .before .before .before .before .before .before .before .before .before .before .before .pre .0 .0)
-turn-asked c = turn-of c (c .before .before .before .before .before .before .before .before .before .before .before .before .before .pre .0 .0) (c .before .before .before .before .before .before .before .before .before .before .before .before .before .pre .0 .1)
+turn-asked c = turn-of c (c .before .before .before .before .before .before .before .before .before .before .before .before .before .pre .0 .0)
+    (c .before .before .before .before .before .before .before .before .before .before .before .before .before .pre .0 .1)
 
 get2-requires : tie.Need-get2-requires Inv-loop μ-loop
 get2-requires c κs =

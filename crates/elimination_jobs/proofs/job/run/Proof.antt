@@ -38,7 +38,8 @@ returns c =
     let w = a .table .now in
     let k = a .work .now in
     let o = a .output .now in (
-      headed w k o (f .last .0) (g .last .0) (a .limit) (a .filling) (f .ensures) (g .ensures) (n .result) (e .last .1 .0) (c .head-of .ensures) (e .ensures .answer) (n .ensures .0) (e .ensures .cleared),
+      headed w k o (f .last .0) (g .last .0) (a .limit) (a .filling) (f .ensures) (g .ensures) (n .result)
+          (e .last .1 .0) (c .head-of .ensures) (e .ensures .answer) (n .ensures .0) (e .ensures .cleared),
       (
         listed-after w k o (f .last .0) (g .last .0) (a .limit) (a .filling) (f .ensures) (g .ensures) (e .ensures .output-is),
         cleared-after w k o (f .last .0) (g .last .0) (a .limit) (a .filling) (f .ensures) (g .ensures) (e .ensures .cleared),

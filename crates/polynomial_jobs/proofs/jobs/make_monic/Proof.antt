@@ -19,7 +19,10 @@ slice-aggregate-truth : tie.Need-slice-aggregate-truth
 slice-aggregate-truth c = search needs
 
 equal-requires : tie.Need-equal-requires
-equal-requires c κs = let s = c .before .before .before .before .before .before .before .before .before .before .before in let h = subst (Holds (s .args .p)) (sym (s .pre .1 .1)) (s .pre .1 .0) in (omega (arith, h .pairs, c .before .before .before .before .before .before .before .monic .kept), s .pre .1 .0 .pairs)
+equal-requires c κs =
+    let s = c .before .before .before .before .before .before .before .before .before .before .before in
+    let h = subst (Holds (s .args .p)) (sym (s .pre .1 .1)) (s .pre .1 .0) in
+    (omega (arith, h .pairs, c .before .before .before .before .before .before .before .monic .kept), s .pre .1 .0 .pairs)
 
 truth-requires : tie.Need-truth-requires
 truth-requires c κs = search needs

@@ -23,7 +23,9 @@ slice-aggregate-formed-2 : tie.Need-slice-aggregate-formed-2
 slice-aggregate-formed-2 c = search needs
 
 formed-requires : tie.Need-formed-requires
-formed-requires c κs = let s = c .before .before .before .before .before .before .before .before .before in inside (bounded-product standard (s .args .p) (terms (s .args .f .now)) (terms (s .args .g .now))) _ _ (c .before .before .before .before .product .ensures)
+formed-requires c κs =
+    let s = c .before .before .before .before .before .before .before .before .before in
+    inside (bounded-product standard (s .args .p) (terms (s .args .f .now)) (terms (s .args .g .now))) _ _ (c .before .before .before .before .product .ensures)
 
 returns : tie.Need-returns
 returns c = search needs

@@ -28,7 +28,9 @@ slice-aggregate-initial : tie.Need-slice-aggregate-initial
 slice-aggregate-initial c = search needs
 
 initial-requires : tie.Need-initial-requires
-initial-requires c κs = let s = c .before .before .before .before .before .before in (s .pre .pairs, (((s .args .p, s .pre .canonical), omega (arith, c .before .before .before .before .leader .ensures)), s .pre .few))
+initial-requires c κs =
+    let s = c .before .before .before .before .before .before in
+    (s .pre .pairs, (((s .args .p, s .pre .canonical), omega (arith, c .before .before .before .before .leader .ensures)), s .pre .few))
 
 slice-aggregate-polynomial : tie.Need-slice-aggregate-polynomial
 slice-aggregate-polynomial c = search needs

@@ -45,7 +45,9 @@ same-length : tie.Need-same-length Inv-loop μ-loop
 same-length c = let l = c .before .before .before .before .before .loop in (length-pair-set (l .out) (l .n) (c .before .before .if1 .out) (l .n + 1) (c .before .monomial .result)) ∙ l .inv .1
 
 returns : tie.Need-returns Inv-loop μ-loop
-returns c = let l = c .before .before .before .before .before .loop in counts _ _ (omega (arith, l .inv .1, length-pair-set (l .out) (l .n) (c .before .before .if1 .out) (l .n + 1) (c .before .monomial .result)))
+returns c =
+    let l = c .before .before .before .before .before .loop in
+    counts _ _ (omega (arith, l .inv .1, length-pair-set (l .out) (l .n) (c .before .before .if1 .out) (l .n + 1) (c .before .monomial .result)))
 
 sub-j : tie.Need-sub-j Inv-loop μ-loop
 sub-j c = search needs
@@ -54,7 +56,9 @@ loop-less : tie.Need-loop-less Inv-loop μ-loop
 loop-less c = search needs
 
 loop-again : tie.Need-loop-again Inv-loop μ-loop
-loop-again c = let l = c .before .before .before .before .before .loop in (search needs, (length-pair-set (l .out) (l .n) (c .before .before .if1 .out) (l .n + 1) (c .before .monomial .result)) ∙ l .inv .1)
+loop-again c =
+    let l = c .before .before .before .before .before .loop in
+    (search needs, (length-pair-set (l .out) (l .n) (c .before .before .if1 .out) (l .n + 1) (c .before .monomial .result)) ∙ l .inv .1)
 
 same-length-2 : tie.Need-same-length-2 Inv-loop μ-loop
 same-length-2 c = search needs

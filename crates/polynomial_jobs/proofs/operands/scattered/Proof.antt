@@ -73,10 +73,16 @@ add-gap : tie.Need-add-gap Inv-loop μ-loop
 add-gap c = let l = c .before .before .before .before .before .before .loop in omega (arith, div-le-self (2 * l .j) (l .left))
 
 same-length : tie.Need-same-length Inv-loop μ-loop
-same-length c = let l = c .before .before .before .before .before .before .before .loop in (length-pair-set (l .out) (l .n) (1 + c .before .before .before .before .draw2 .result) (l .n + 1) (c .before .before .before .monomial .result)) ∙ l .inv .3
+same-length c =
+    let l = c .before .before .before .before .before .before .before .loop in
+    (length-pair-set (l .out) (l .n) (1 + c .before .before .before .before .draw2 .result) (l .n + 1) (c .before .before .before .monomial .result)) ∙ l .inv .3
 
 returns : tie.Need-returns Inv-loop μ-loop
-returns c = let l = c .before .before .before .before .before .before .before .loop in (counts _ _ (omega (arith, l .inv .3, length-pair-set (l .out) (l .n) (1 + c .before .before .before .before .draw2 .result) (l .n + 1) (c .before .before .before .monomial .result))), search needs)
+returns c =
+    let l = c .before .before .before .before .before .before .before .loop in (
+      counts _ _ (omega (arith, l .inv .3, length-pair-set (l .out) (l .n) (1 + c .before .before .before .before .draw2 .result) (l .n + 1) (c .before .before .before .monomial .result))),
+      search needs,
+    )
 
 sub-left : tie.Need-sub-left Inv-loop μ-loop
 sub-left c = search needs
@@ -86,8 +92,12 @@ loop-less c = search needs
 
 loop-again : tie.Need-loop-again Inv-loop μ-loop
 loop-again c =
-    let l = c .before .before .before .before .before .before .before .loop in
-    (search needs, search needs, search needs, (length-pair-set (l .out) (l .n) (1 + c .before .before .before .before .draw2 .result) (l .n + 1) (c .before .before .before .monomial .result)) ∙ l .inv .3)
+    let l = c .before .before .before .before .before .before .before .loop in (
+      search needs,
+      search needs,
+      search needs,
+      (length-pair-set (l .out) (l .n) (1 + c .before .before .before .before .draw2 .result) (l .n + 1) (c .before .before .before .monomial .result)) ∙ l .inv .3,
+    )
 
 same-length-2 : tie.Need-same-length-2 Inv-loop μ-loop
 same-length-2 c = search needs

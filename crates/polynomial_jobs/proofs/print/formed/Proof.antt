@@ -10,7 +10,9 @@ enum-known-answer : tie.Need-enum-known-answer
 enum-known-answer c = search needs
 
 slice-aggregate-polynomial : tie.Need-slice-aggregate-polynomial
-slice-aggregate-polynomial c = let s = c .before .before .before .before .before .before in sym (length-take-le _ (s .args .s .now) (subst (λ r. Inside r (s .args .s .now)) (c .before .before .answer .given .1) (s .pre)))
+slice-aggregate-polynomial c =
+    let s = c .before .before .before .before .before .before in
+    sym (length-take-le _ (s .args .s .now) (subst (λ r. Inside r (s .args .s .now)) (c .before .before .answer .given .1) (s .pre)))
 
 polynomial-requires : tie.Need-polynomial-requires
 polynomial-requires c κs = search needs

@@ -126,7 +126,7 @@ fn run_long(work: &mut [u32], p: u64, limit: u32, from: u32) -> Answer
 pub fn eliminate(table: &[u32], work: &mut [u32], output: &mut [u32], limit: u32) -> Answer
     ensures { λ r. ⌜ Eliminates (now (table .entry)) (now (work .entry)) (now (output .entry)) limit r (now (work .exit)) (now (output .exit)) ⌝ }
 {
-    let reading = tables::read::read_table(table);
+    let reading = reading::read_table(table);
     let outcome = reading.outcome;
     if let ReadOutcome::Refused(why, record) = outcome {
         moves::clear(work);

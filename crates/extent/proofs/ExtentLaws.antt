@@ -9,7 +9,7 @@ use borrow.Author.Tests.{lt-ltb}
 use lib.ListN.{length}
 use Rattle.tables.specs.Words.{word, records, follow, end, to, astray}
 use Rattle.tables.specs.Walk.{next}
-use Rattle.tables.specs.declared.words.Next.the-variants.{End, To, Astray}
+use Rattle.tables.specs.declared.Next.the-variants.{End, To, Astray}
 use Rattle.tables.specs.laws.Chains.{next-end, next-to, next-astray, next-inside}
 use Rattle.extent.specs.Extent.{chain, chain-last, behind, system-last, list-last, extent}
 use Rattle.extent.specs.laws.Extent.{chain-follows, behind-some, behind-none, list-last-some, extent-some}

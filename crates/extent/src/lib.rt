@@ -4,8 +4,7 @@ ghost use mathlib.Core.Path.{_≡_};
 ghost use Prim.Native.Nat.{_≤_, _<_};
 ghost use Rattle.tables.specs.Words.{records};
 ghost use Rattle.extent.specs.Extent.{chain-last, extent};
-use tables::words;
-use tables::words::Next;
+use tables::Next;
 
 // The last record of the chain that word j of record i starts; i itself where it starts none.
 fn chain_last(list: &[u32], i: usize, j: usize) -> usize

@@ -15,7 +15,7 @@ use Rattle.polynomials.specs.laws.Parts.{leader-first}
 use Rattle.tables.specs.declared.Reason.{Reason}
 use Rattle.tables.specs.declared.Reason.the-variants.{Index, Broken, Point}
 use Rattle.tables.specs.declared.Checked.the-variants.{Good, Refused as CheckedRefused}
-use Rattle.tables.specs.declared.words.Next.the-variants.{End, To, Astray}
+use Rattle.tables.specs.declared.Next.the-variants.{End, To, Astray}
 use Rattle.lists.specs.declared.Counted.{Counted}
 use Rattle.lists.specs.declared.Counted.the-variants.{Systems, Refused}
 use Rattle.tables.specs.Words.{word, records, follow, Followed, end, to, astray, term-at}

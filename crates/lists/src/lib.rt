@@ -11,12 +11,10 @@ ghost use Rattle.tables.specs.Solve.{checked, solves, first-solved, Places};
 ghost use Rattle.tables.specs.Walk.{Readable};
 ghost use Rattle.lists.specs.Count.{counted};
 use tables::Checked;
+use tables::Next;
 use tables::PlaceOutcome;
 use tables::Placing;
 use tables::Reason;
-use tables::read;
-use tables::words;
-use tables::words::Next;
 
 // How many systems a list holds.
 pub enum Counted {
@@ -53,7 +51,7 @@ fn check_triangle(table: &[u32], p: u32, n: u32, system: usize) -> Checked
                 return Checked::Refused(Reason::Index, at as u32);
             }
             Next::To(j) => {
-                if let Checked::Refused(why, record) = read::check_head(table, p, n, j) {
+                if let Checked::Refused(why, record) = reading::check_head(table, p, n, j) {
                     return Checked::Refused(why, record);
                 }
                 let k = leader_at(table, p, n, j);
@@ -79,7 +77,7 @@ fn check_system(table: &[u32], p: u32, n: u32, i: usize) -> Checked
     if let Checked::Refused(why, record) = check_triangle(table, p, n, i) {
         return Checked::Refused(why, record);
     }
-    read::check_heads(table, p, n, i, words::word(table, i, 1))
+    reading::check_heads(table, p, n, i, words::word(table, i, 1))
 }
 
 // The systems of a list, counted.
@@ -114,7 +112,7 @@ fn check_systems(table: &[u32], p: u32, n: u32) -> Counted
 pub fn check_list(table: &[u32]) -> Checked
     ensures { λ r. ⌜ r ≡ checked (read-list (now (table .entry))) ⌝ }
 {
-    if let Checked::Refused(why, record) = read::check_header(table) {
+    if let Checked::Refused(why, record) = reading::check_header(table) {
         return Checked::Refused(why, record);
     }
     match check_systems(table, table[0], table[1]) {

@@ -15,7 +15,6 @@ ghost use Rattle.rules.specs.Run.{start};
 ghost use Rattle.branches.specs.Area.{Opened, Leaves, capacity, with-open, When-open};
 ghost use Rattle.representation.specs.Ready.{limits-in};
 ghost use Rattle.loading.specs.Started.{Loaded, put-into, put-heads, Alone, Filled, Started};
-use tables::words;
 
 // Loads the polynomial with its head in record `head` into the first words of `out`; how many.
 fn load_head(table: &[u32], p: u32, n: u32, head: usize, out: &mut [u64]) -> usize

@@ -13,8 +13,6 @@ use tables::ReadOutcome;
 use tables::Reason;
 use tables::Trial;
 use tables::TrialOutcome;
-use tables::read;
-use tables::words;
 
 // Whether the numbers are n residues modulo p.
 pub fn is_point(p: u32, n: u32, point: &[u32]) -> bool
@@ -88,7 +86,7 @@ pub fn all_match(
 pub fn try_table(table: &[u32], point: &[u32]) -> Trial
     ensures { λ r. ⌜ Tries (now (table .entry)) (now (point .entry)) r ⌝ }
 {
-    let reading = read::read_table(table);
+    let reading = reading::read_table(table);
     let outcome = reading.outcome;
     if let ReadOutcome::Refused(why, record) = outcome {
         return Trial {

@@ -7,7 +7,6 @@ ghost use Prim.Native.Nat.{_<_};
 ghost use lib.Dec.{eqb};
 ghost use Rattle.tables.specs.Words.{word, records};
 ghost use Rattle.readers.specs.Reader.{reader-at, stepped};
-use tables::words;
 
 pub struct Reader<'a> {
     pub table: &'a [u32],

@@ -14,14 +14,13 @@ use input::Words;
 use lines::Turn;
 use lines::text;
 use numbers::Line;
-use tables::read;
 
 // The line of a job.
 fn answer(kind: u32, table: &[u32], numbers: &[u32]) -> Line
     ensures { λ r. ⌜ r ≡ line kind (now (table .entry)) (now (numbers .entry)) ⌝ }
 {
     if kind == 0 {
-        let reading = read::read_table(table);
+        let reading = reading::read_table(table);
         let outcome = reading.outcome;
         return numbers::read_line(outcome);
     }

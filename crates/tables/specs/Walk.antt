@@ -5,8 +5,8 @@ use mathlib.Core.List.{List}
 use Prim.Native.Nat.{ℕ, zero, suc, _≤_}
 use Rattle.residues.specs.Prime.{is-modulus}
 use Rattle.polynomials.specs.Packed.{bytes}
-use Rattle.tables.specs.declared.words.Next.{Next}
-use Rattle.tables.specs.declared.words.Next.the-variants.{End, To, Astray}
+use Rattle.tables.specs.declared.Next.{Next}
+use Rattle.tables.specs.declared.Next.the-variants.{End, To, Astray}
 use Rattle.tables.specs.Words.{is-whole, Followed, end, to, astray}
 use Rattle.tables.specs.Read.{Read, good, Before, first, after}
 

@@ -1,9 +1,13 @@
-// Term tables: the record format, and reading with its refusals.
+// Term tables: the definitions of the record format and of reading (`specs/`), and how an operation on a table answers.
 //
 // A table is a lent run of 32-bit words in records of four, numbered from 0. Chains run by index to higher records; index 0 ends one.
 
-pub mod read;
-pub mod words;
+// Where an index leads.
+pub enum Next {
+    End,
+    To(usize),
+    Astray,
+}
 
 // Why a call is refused. `specs/Reason.antt` gives document 01's number for each.
 pub enum Reason {

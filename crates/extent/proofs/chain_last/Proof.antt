@@ -7,7 +7,7 @@ use native.Mathlib.Omega.{arith}
 use borrow.Author.Needs.{needs}
 use Rattle.tables.specs.Words.{word, records, follow}
 use Rattle.tables.specs.Walk.{next}
-use Rattle.tables.specs.declared.words.Next.the-variants.{To}
+use Rattle.tables.specs.declared.Next.the-variants.{To}
 use Rattle.tables.specs.laws.Chains.{next-inside}
 use Rattle.extent.specs.Extent.{chain-last}
 use Rattle.extent.proofs.ExtentLaws.{Walking, walking-first, walking-end, walking-astray, walking-on}

@@ -6,7 +6,7 @@ use Prim.Native.Nat.{ℕ, _-_, _<_}
 use native.Mathlib.Omega.{arith}
 use borrow.Author.Needs.{needs}
 use Rattle.polynomials.specs.Poly.{Poly}
-use Rattle.tables.specs.declared.words.Next.the-variants.{To}
+use Rattle.tables.specs.declared.Next.the-variants.{To}
 use Rattle.tables.specs.Words.{word, records, follow}
 use Rattle.tables.specs.Read.{good, read-head, read-triangle}
 use Rattle.tables.specs.Solve.{checked}

@@ -46,10 +46,10 @@ use Rattle.readers.proofs.Held.{B, D, L, parts, Own, token, twice, Pass
 use Rattle.readers.proofs.Locals.{local, two, takes, takes-result, last-first, free-held, with-usize}
 use Rattle.readers.proofs.Reader as T
 use Rattle.readers.proofs.Reader.Laws as T′
-use Rattle.tables.proofs.words.index as core
-use Rattle.tables.proofs.words.index.Symbol as core-def
-use Rattle.tables.proofs.words.index.Symbol.{name as #core}
-use Rattle.tables.proofs.words.index.Met as core-thm
+use Rattle.words.proofs.index as core
+use Rattle.words.proofs.index.Symbol as core-def
+use Rattle.words.proofs.index.Symbol.{name as #core}
+use Rattle.words.proofs.index.Met as core-thm
 use Rattle.readers.proofs.step.Key.{name as #step}
 use Rattle.readers.proofs.step as step
 use Rattle.readers.proofs.step.Statement as stated
@@ -170,5 +170,5 @@ step-spec 𝓤 H 𝓜 𝓖 𝓡 =
     entered 𝓤 H (tripleOf 𝓤 H (𝓖 .A) step.signature (step.spec 𝓤 H (𝓖 .A) (𝓜 .mem) (𝓡 .run)))
     (tables 𝓤 H 𝓜 𝓡 code.env .C) (tables 𝓤 H 𝓜 𝓡 code.env .Λ) #step code.function (code.unfolded 𝓤 H 𝓜 𝓡)
     (meets 𝓤 H (𝓖 .A) (givenOf 𝓤 H 𝓜 𝓖) (𝓜 .mem) (𝓡 .run) (tablesOf 𝓤 H 𝓜 (tables 𝓤 H 𝓜 𝓡 code.env))
-    (cited 𝓤 H (Core 𝓤 H (𝓖 .A) (𝓜 .mem) (𝓡 .run)) 𝓜 𝓡 code.env #core core-def.routine code.calls-tables·words·index
+    (cited 𝓤 H (Core 𝓤 H (𝓖 .A) (𝓜 .mem) (𝓡 .run)) 𝓜 𝓡 code.env #core core-def.routine code.calls-words·index
     (core-thm.met 𝓤 H 𝓜 𝓖 𝓡)))

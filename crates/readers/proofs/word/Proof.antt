@@ -42,10 +42,10 @@ use Rattle.readers.specs.declared.Reader.{Reader}
 use Rattle.readers.proofs.Held.{B, Own, token, Passed, taken-apart}
 use Rattle.readers.proofs.Reader as T
 use Rattle.readers.proofs.Reader.Laws as T′
-use Rattle.tables.proofs.words.word as core
-use Rattle.tables.proofs.words.word.Symbol as core-def
-use Rattle.tables.proofs.words.word.Symbol.{name as #core}
-use Rattle.tables.proofs.words.word.Met as core-thm
+use Rattle.words.proofs.word as core
+use Rattle.words.proofs.word.Symbol as core-def
+use Rattle.words.proofs.word.Symbol.{name as #core}
+use Rattle.words.proofs.word.Met as core-thm
 use Rattle.readers.proofs.word.Key.{name as #word}
 use Rattle.readers.proofs.word as word
 use Rattle.readers.proofs.word.Statement as stated
@@ -138,4 +138,4 @@ word-spec 𝓤 H 𝓜 𝓖 𝓡 =
     entered 𝓤 H (tripleOf 𝓤 H (𝓖 .A) word.signature (word.spec 𝓤 H (𝓖 .A) (𝓜 .mem) (𝓡 .run)))
     (tables 𝓤 H 𝓜 𝓡 code.env .C) (tables 𝓤 H 𝓜 𝓡 code.env .Λ) #word code.function (code.unfolded 𝓤 H 𝓜 𝓡)
     (meets 𝓤 H (𝓖 .A) (givenOf 𝓤 H 𝓜 𝓖) (𝓜 .mem) (𝓡 .run) (tablesOf 𝓤 H 𝓜 (tables 𝓤 H 𝓜 𝓡 code.env))
-    (cited 𝓤 H (Core 𝓤 H (𝓖 .A) (𝓜 .mem) (𝓡 .run)) 𝓜 𝓡 code.env #core core-def.routine code.calls-tables·words·word (core-thm.met 𝓤 H 𝓜 𝓖 𝓡)))
+    (cited 𝓤 H (Core 𝓤 H (𝓖 .A) (𝓜 .mem) (𝓡 .run)) 𝓜 𝓡 code.env #core core-def.routine code.calls-words·word (core-thm.met 𝓤 H 𝓜 𝓖 𝓡)))

@@ -17,7 +17,7 @@ use Rattle.tables.specs.declared.Reason.the-variants.{Shape, Prime, Vari
 use Rattle.tables.specs.declared.Checked.{Checked}
 use Rattle.tables.specs.declared.Checked.the-variants.{Good, Refused as CheckedRefused}
 use Rattle.tables.specs.declared.ReadOutcome.the-variants.{Accepted, Refused as ReadRefused}
-use Rattle.tables.specs.declared.words.Next.the-variants.{End, To, Astray}
+use Rattle.tables.specs.declared.Next.the-variants.{End, To, Astray}
 use Rattle.tables.specs.Words.{word, records, is-whole, follow, Followed, end, to, astray, term-at}
 use Rattle.tables.specs.Read.{Read, good, refused, then, unless, Input, Before, after, not-below, has-above}
 use Rattle.tables.specs.Read.{read-term, read-terms, read-head, read-heads, read-triangle, read-system, read-systems, read-header}

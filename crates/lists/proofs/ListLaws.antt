@@ -2,7 +2,7 @@
 use mathlib.Core.Path.{_≡_, refl, sym, _∙_, ap, subst}
 use mathlib.Core.Logic.{_≢_}
 use mathlib.Core.Bool.{true, false}
-use mathlib.Core.List.{List, [], _∷_}
+use mathlib.Core.List.{List, _∷_}
 use Prim.Native.Nat.{ℕ, zero, suc, _+_, _≤_, _<_}
 use native.Mathlib.Nat.{zero-add}
 use native.Mathlib.Numerals.{add-one}
@@ -19,14 +19,14 @@ use Rattle.tables.specs.declared.Next.the-variants.{End, To, Astray}
 use Rattle.lists.specs.declared.Counted.{Counted}
 use Rattle.lists.specs.declared.Counted.the-variants.{Systems, Refused}
 use Rattle.tables.specs.Words.{word, records, follow, Followed, end, to, astray, term-at}
-use Rattle.tables.specs.Read.{Read, good, refused, then, first, System, Listing, read-header, read-head, read-heads, read-triangle, read-system, read-systems, read-list}
+use Rattle.tables.specs.Read.{Read, good, refused, then, System, Listing, read-header, read-head, read-heads, read-triangle, read-system, read-systems, read-list}
 use Rattle.tables.specs.Solve.{checked, is-point, all-zero, none-zero, solves, first-solved, try-systems}
 use Rattle.tables.specs.Walk.{accepted, next}
 use Rattle.lists.specs.Count.{counted}
 use Rattle.tables.specs.Admissible.{Admissible}
 use Rattle.tables.specs.laws.Chains.{then-good, header-passes, header-refuses, next-end, next-to, next-astray, term-read}
 use Rattle.tables.specs.laws.Chains.{along, cons, Enough, whole-chain, ends, strays, leads, read-led, heads-chain, triangle-chain, systems-chain}
-use Rattle.tables.specs.laws.Linked.{good-same, linked-member, linked-end, terms-linked, led-parts, SystemChain, SystemMember, next-system, systems-linked}
+use Rattle.tables.specs.laws.Linked.{good-same, Member, chain-end, chain-next, chain-on, terms-left, led-parts, SystemsLeft, systems-left}
 use Rattle.tables.specs.laws.Accepted.{head-admissible, list-read}
 
 -- As `counted`, with k systems before.
@@ -65,15 +65,15 @@ module _ (w : List ℕ) (p n : ℕ) where
   -- ── the leading variable ──
   pub leader-none : {i : ℕ} (f : Poly) → i < records w → word w i 0 ≡ 0 → read-head w p n i ≡ good f → leader f ≡ 0
   unfolding leader degrees highest
-  leader-none {i} f h z e = ap leader (linked-end w _ _ (0, first) i (word w i 0) f z (terms-linked w p n i f h e))
+  leader-none {i} f h z e = ap leader (chain-end (terms-left w p n i f h e) z)
 
   pub first-inside : {i : ℕ} (f : Poly) → i < records w → word w i 0 ≢ 0 → read-head w p n i ≡ good f → word w i 0 < records w
-  first-inside {i} f h z e = linked-member w _ _ (0, first) i (word w i 0) f z (terms-linked w p n i f h e) .inside
+  first-inside {i} f h z e = chain-next (terms-left w p n i f h e) z .inside
 
   -- Its first term has the highest variable, since the terms fall.
   pub leader-some : {i : ℕ} (f : Poly) → i < records w → word w i 0 ≢ 0 → read-head w p n i ≡ good f → leader f ≡ highest (term-at w (word w i 0) .exps)
   leader-some {i} f h z e =
-      let m = linked-member w _ _ (0, first) i (word w i 0) f z (terms-linked w p n i f h e) in
+      let m = chain-next (terms-left w p n i f h e) z in
       let a = subst (Admissible p n) (m .parts) (head-admissible w p n i f h e) in
       ap leader (m .parts) ∙ leader-first p 8 (m .member) (m .behind) (a .canonical) (a .places) ∙ ap (λ (t : Term). highest (t .exps)) (term-read w p n (m .is-read) .is)
 
@@ -161,45 +161,37 @@ module _ (w : List ℕ) (p n : ℕ) where
   -- ── the first system solved ──
   -- The systems from index i on, with `place` for the first of them, decide the place of the first solved.
   pub record Placed (x : List ℕ) (i place : ℕ) : Type 0 where
-    pub at : ℕ
-    pub few : place ≤ at + 1
-    pub left : List System
-    pub linked : SystemChain w p n at i left
-    pub same : (ss : List System) → read-systems w p n (records w) 0 (word w 0 2) ≡ good ss → first-solved p x place left ≡ first-solved p x 1 ss
+    pub chain : SystemsLeft w p n i
+    pub few : place ≤ chain .at + 1
+    pub same : (ss : List System) → read-systems w p n (records w) 0 (word w 0 2) ≡ good ss → first-solved p x place (chain .rest) ≡ first-solved p x 1 ss
 
   pub placed-first : (x : List ℕ) {ss : List System} → 0 < records w → read-systems w p n (records w) 0 (word w 0 2) ≡ good ss → Placed x (word w 0 2) 1
   placed-first x {ss} h e =
       record {
-        at = 0;
+        chain = systems-left w p n 0 (word w 0 2) ss h e;
         few = omega arith;
-        left = ss;
-        linked = systems-linked w p n 0 (word w 0 2) ss h e;
         same = λ ts q. ap (first-solved p x 1) (good-same (sym e ∙ q));
       }
 
   module _ {x : List ℕ} {i place : ℕ} (c : Placed x i place) where
     pub placed-none : i ≡ 0 → {ss : List System} → read-systems w p n (records w) 0 (word w 0 2) ≡ good ss → 0 ≡ first-solved p x 1 ss
     unfolding first-solved
-    placed-none z e =
-        let q : c .left ≡ [] = linked-end w _ _ tt (c .at) i (c .left) z (c .linked) in
-        sym (ap (first-solved p x place) q) ∙ c .same _ e
+    placed-none z e = sym (ap (first-solved p x place) (chain-end (c .chain) z)) ∙ c .same _ e
 
-    pub placed-some : i ≢ 0 → SystemMember w p n (c .at) i (c .left)
-    placed-some more = next-system w p n more (c .linked)
+    module _ (more : i ≢ 0) where
+      abbrev system : Member (c .chain)
+      system = chain-next (c .chain) more
 
-    module _ (o : SystemMember w p n (c .at) i (c .left)) where
-      pub placed-solved : solves p x (o .member .T) (o .member .U) ≡ true
+      pub placed-solved : solves p x (system .member .T) (system .member .U) ≡ true
           → {ss : List System} → read-systems w p n (records w) 0 (word w 0 2) ≡ good ss → place ≡ first-solved p x 1 ss
-      placed-solved h e = sym (ap (first-solved p x place) (o .parts) ∙ first-here p x place (o .member) (o .behind) h) ∙ c .same _ e
+      placed-solved h e = sym (ap (first-solved p x place) (system .parts) ∙ first-here p x place (system .member) (system .behind) h) ∙ c .same _ e
 
-      pub placed-on : solves p x (o .member .T) (o .member .U) ≡ false → Placed x (word w i 3) (place + 1)
+      pub placed-on : solves p x (system .member .T) (system .member .U) ≡ false → Placed x (word w i 3) (place + 1)
       placed-on h =
           record {
-            at = i;
-            few = omega (arith, c .few, o .higher);
-            left = o .behind;
-            linked = o .linked;
-            same = λ ss e. sym (ap (first-solved p x place) (o .parts) ∙ first-later p x place (o .member) (o .behind) h) ∙ c .same ss e;
+            chain = chain-on (c .chain) more;
+            few = omega (arith, c .few, system .higher);
+            same = λ ss e. sym (ap (first-solved p x place) (system .parts) ∙ first-later p x place (system .member) (system .behind) h) ∙ c .same ss e;
           }
 
 -- ── a list ──

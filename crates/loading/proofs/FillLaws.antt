@@ -13,7 +13,7 @@ use Rattle.polynomials.specs.Poly.{Poly, monic}
 use Rattle.polynomials.specs.Packed.{terms}
 use Rattle.tables.specs.Words.{word, records}
 use Rattle.tables.specs.Read.{good, read-head, read-heads}
-use Rattle.tables.specs.laws.Linked.{left, linked-end, member-less, HeadChain, HeadMember, next-head, heads-linked}
+use Rattle.tables.specs.laws.Linked.{Member, chain-end, chain-next, chain-on, HeadsLeft, heads-left}
 use Rattle.rules.specs.Branch as rules
 use Rattle.rules.specs.Branch.{Branch, unless-dropped, put-all}
 use Rattle.rules.specs.Room.{polynomials-size, branch-size, branches-size, systems-size, live}
@@ -127,38 +127,26 @@ module _ (p : ℕ) (s : List ℕ) (f : Poly) (sound : Sound p s) (is-monic : Mon
 -- ── the loop ──
 -- The polynomials from index i on, put into the branch that the work area holds, make the branch `whole`.
 pub record PutLeft (w : List ℕ) (p n : ℕ) (q : Bool) (most : ℕ) (whole : Branch) (i : ℕ) (v : List Rec) : Type 0 where
-  pub at : ℕ
-  pub rest : List Poly
-  pub linked : HeadChain w p n at i rest
+  pub chain : HeadsLeft w p n i
   pub done : Branch
   pub alone : Alone p most done v
-  pub same : put-heads q p rest done ≡ whole
+  pub same : put-heads q p (chain .rest) done ≡ whole
 
 module _ (w : List ℕ) (p n : ℕ) (q : Bool) (most : ℕ) where
   pub put-first : (i : ℕ) (v : List Rec) (fs : List Poly) (c : Branch) → 0 < records w → read-heads w p n (records w) 0 i ≡ good fs → Alone p most c v
       → PutLeft w p n q most (put-heads q p fs c) i v
-  put-first i v fs c h e x = record { at = 0; rest = fs; linked = heads-linked w p n 0 i fs h e; done = c; alone = x; same = refl }
+  put-first i v fs c h e x = record { chain = heads-left w p n 0 i fs h e; done = c; alone = x; same = refl }
 
   module _ (whole : Branch) (i : ℕ) (v : List Rec) (l : PutLeft w p n q most whole i v) where
     pub put-end : i ≡ 0 → Filled p most whole true v
     put-end z =
-        let r : l .rest ≡ [] = linked-end w _ _ tt (l .at) i (l .rest) z (l .linked) in
-        let is : l .done ≡ whole = sym (put-heads-none q p (l .done)) ∙ ap (λ (fs : List Poly). put-heads q p fs (l .done)) (sym r) ∙ l .same in
+        let is : l .done ≡ whole = sym (put-heads-none q p (l .done)) ∙ ap (λ (fs : List Poly). put-heads q p fs (l .done)) (sym (chain-end (l .chain) z)) ∙ l .same in
         let x : Alone p most whole v = subst (λ (c : Branch). Alone p most c v) is (l .alone) in
         record { answer = sym (le-leb (1 + branch-size whole) most (alone-fits x)); alone = λ t. x }
 
     module _ (more : i ≢ 0) where
-      head : HeadMember w p n (l .at) i (l .rest)
-      head = next-head w p n more (l .linked)
-
-      pub put-inside : i < records w
-      put-inside = head .inside
-
-      pub put-read : (f : Poly) × (read-head w p n i ≡ good f)
-      put-read = (head .member, head .is-read)
-
-      pub put-less : left (records w) (word w i 3) < left (records w) i
-      put-less = member-less w _ _ more head
+      head : Member (l .chain)
+      head = chain-next (l .chain) more
 
       -- The branch with the polynomial of record i put.
       with-head : Branch
@@ -182,4 +170,5 @@ module _ (w : List ℕ) (p n : ℕ) (q : Bool) (most : ℕ) where
             (subst (λ (c : Branch). branch-size with-head ≤ branch-size c) whole-is (size-put-heads q p (head .behind) with-head))
 
         pub put-next : r ≡ true → PutLeft w p n q most whole (word w i 3) u
-        put-next z = record { at = i; rest = head .behind; linked = head .linked; done = with-head; alone = filled .alone z; same = whole-is }
+        unfolding head
+        put-next z = record { chain = chain-on (l .chain) more; done = with-head; alone = filled .alone z; same = whole-is }

@@ -17,12 +17,11 @@ use Rattle.tables.specs.declared.Reason.the-variants.{Point as PointReason}
 use Rattle.tables.specs.declared.Reading.{Reading}
 use Rattle.tables.specs.declared.ReadOutcome.the-variants.{Accepted, Refused as ReadRefused}
 use Rattle.tables.specs.declared.TrialOutcome.the-variants.{Yes, No, Refused as TrialRefused}
-use Rattle.tables.specs.Read.{good, refused, unless, Input, Before, first, read-head, read-heads, read-table}
+use Rattle.tables.specs.Read.{good, refused, unless, Input, read-head, read-heads, read-table}
 use Rattle.tables.specs.Solve.{is-point, is-root, all-zero, none-zero, solves, reading, yes-or-no, trial, try-input}
 use Rattle.points.specs.Walks.{all-match}
 use Rattle.tables.specs.laws.Chains.{reading-good, reading-refused, term-read}
-use Rattle.tables.specs.laws.Linked.{good-same, left, linked-end, member-less}
-use Rattle.tables.specs.laws.Linked.{TermChain, TermMember, next-term, terms-linked, HeadChain, HeadMember, next-head, heads-linked}
+use Rattle.tables.specs.laws.Linked.{good-same, Member, chain-end, chain-next, chain-on, TermsLeft, terms-left, HeadsLeft, heads-left}
 use Rattle.tables.specs.laws.Accepted.{TableRead, table-read}
 use Rattle.tables.specs.Solved.{PointOf}
 use Rattle.tables.specs.laws.Solved.{point-is}
@@ -37,68 +36,45 @@ not-point p n x h = go (is-point p n x) (point-is p n x .0)
 -- ── the value of a polynomial ──
 -- v and the value of the terms from index i on make the value of the polynomial with its head in record `head`.
 pub record ValueLeft (w : List ℕ) (p n head : ℕ) (x : List ℕ) (v i : ℕ) : Type 0 where
-  pub whole : Poly
-  pub is-read : read-head w p n head ≡ good whole
-  pub state : ℕ × Before
-  pub at : ℕ
-  pub rest : Poly
-  pub linked : TermChain w p n state at i rest
+  pub chain : TermsLeft w p n i
   pub below : v < p
-  pub sum : (v + valueℕ rest x) % p ≡ value-modulo p whole x
+  pub sum : (f : Poly) → read-head w p n head ≡ good f → (v + valueℕ (chain .rest) x) % p ≡ value-modulo p f x
 
 module _ (w : List ℕ) (p n head : ℕ) (x : List ℕ) where
   pub value-start : (f : Poly) → 0 < p → head < records w → read-head w p n head ≡ good f → ValueLeft w p n head x 0 (word w head 0)
   unfolding value-modulo
   value-start f pos h e =
       record {
-        whole = f;
-        is-read = e;
-        state = (0, first);
-        at = head;
-        rest = f;
-        linked = terms-linked w p n head f h e;
+        chain = terms-left w p n head f h e;
         below = pos;
-        sum = ap (λ z. z % p) (zero-add (valueℕ f x));
+        sum = λ g q. ap (λ z. z % p) (zero-add (valueℕ f x)) ∙ ap (λ (g : Poly). value-modulo p g x) (good-same (sym e ∙ q));
       }
 
   module _ (v i : ℕ) (l : ValueLeft w p n head x v i) where
     pub value-end : i ≡ 0 → (f : Poly) → read-head w p n head ≡ good f → v ≡ value-modulo p f x
     unfolding valueℕ
     value-end z f e =
-        let r : l .rest ≡ [] = linked-end w _ _ (l .state) (l .at) i (l .rest) z (l .linked) in
-        let s : l .whole ≡ f = good-same (sym (l .is-read) ∙ e) in
-        sym (mod-eq-of-lt (l .below)) ∙ ap (λ z. z % p) (sym (add-zero v)) ∙ ap (λ (g : Poly). (v + valueℕ g x) % p) (sym r) ∙ l .sum ∙ ap (λ (g : Poly). value-modulo p g x) s
+        sym (mod-eq-of-lt (l .below)) ∙ ap (λ z. z % p) (sym (add-zero v)) ∙ ap (λ (g : Poly). (v + valueℕ g x) % p) (sym (chain-end (l .chain) z)) ∙ l .sum f e
 
     -- The term in record i.
     module _ (more : i ≢ 0) where
-      term : TermMember w p n (l .state) (l .at) i (l .rest)
-      term = next-term w p n more (l .linked)
-
-      pub value-inside : i < records w
-      value-inside = term .inside
+      term : Member (l .chain)
+      term = chain-next (l .chain) more
 
       pub value-residue : word w i 0 < p
       value-residue = term-read w p n (term .is-read) .residue
 
-      pub value-less : left (records w) (word w i 3) < left (records w) i
-      value-less = member-less w _ _ more term
-
       pub value-next : 0 < p → (u : ℕ) → u ≡ (v + word w i 0 * monomial-valueℕ x (exponents (word w i 1) (word w i 2)) % p) % p → ValueLeft w p n head x u (word w i 3)
-      unfolding valueℕ
+      unfolding valueℕ term
       value-next pos u e =
           record {
-            whole = l .whole;
-            is-read = l .is-read;
-            state = _;
-            at = i;
-            rest = term .behind;
-            linked = term .linked;
+            chain = chain-on (l .chain) more;
             below = subst (λ z. z < p) (sym e) (mod-lt _ pos);
-            sum = ap (λ z. (z + valueℕ (term .behind) x) % p) e
+            sum = λ f r. ap (λ z. (z + valueℕ (term .behind) x) % p) e
                 ∙ regroup (word w i 0 * monomial-valueℕ x (exponents (word w i 1) (word w i 2))) (valueℕ (term .behind) x)
                 ∙ ap (λ (t : Term). (v + valueℕ (t ∷ term .behind) x) % p) (sym (term-read w p n (term .is-read) .is))
                 ∙ ap (λ (g : Poly). (v + valueℕ g x) % p) (sym (term .parts))
-                ∙ l .sum;
+                ∙ l .sum f r;
           }
         where
           regroup : (q r : ℕ) → ((v + q % p) % p + r) % p ≡ (v + (q + r)) % p
@@ -138,63 +114,41 @@ agree false false e = refl
 
 -- The polynomials from index i on decide for all from the index `start` on, which record `from` holds.
 pub record MatchLeft (w : List ℕ) (p n from start : ℕ) (x : List ℕ) (b : Bool) (i : ℕ) : Type 0 where
-  pub whole : List Poly
-  pub is-read : read-heads w p n (records w) from start ≡ good whole
-  pub at : ℕ
-  pub rest : List Poly
-  pub linked : HeadChain w p n at i rest
-  pub same : all-match p x b rest ≡ all-match p x b whole
+  pub chain : HeadsLeft w p n i
+  pub same : (fs : List Poly) → read-heads w p n (records w) from start ≡ good fs → all-match p x b (chain .rest) ≡ all-match p x b fs
 
 module _ (w : List ℕ) (p n from start : ℕ) (x : List ℕ) (b : Bool) where
   pub match-start : (fs : List Poly) → from < records w → read-heads w p n (records w) from start ≡ good fs → MatchLeft w p n from start x b start
-  match-start fs h e = record { whole = fs; is-read = e; at = from; rest = fs; linked = heads-linked w p n from start fs h e; same = refl }
+  match-start fs h e = record { chain = heads-left w p n from start fs h e; same = λ gs q. ap (all-match p x b) (good-same (sym e ∙ q)) }
 
   module _ (i : ℕ) (l : MatchLeft w p n from start x b i) where
     pub match-end : i ≡ 0 → (fs : List Poly) → read-heads w p n (records w) from start ≡ good fs → true ≡ all-match p x b fs
     unfolding all-zero none-zero
-    match-end z fs e =
-        let r : l .rest ≡ [] = linked-end w _ _ tt (l .at) i (l .rest) z (l .linked) in
-        let s : l .whole ≡ fs = good-same (sym (l .is-read) ∙ e) in
-        none b ∙ ap (all-match p x b) (sym r) ∙ l .same ∙ ap (all-match p x b) s
+    match-end z fs e = none b ∙ ap (all-match p x b) (sym (chain-end (l .chain) z)) ∙ l .same fs e
       where
         none : (b : Bool) → true ≡ all-match p x b []
         none true = refl
         none false = refl
 
-    module _ (more : i ≢ 0) where
-      head : HeadMember w p n (l .at) i (l .rest)
-      head = next-head w p n more (l .linked)
+    -- r is the value of the polynomial with its head in record i.
+    module _ (more : i ≢ 0) (r : ℕ) (is-value : (f : Poly) → read-head w p n i ≡ good f → r ≡ value-modulo p f x) where
+      head : Member (l .chain)
+      head = chain-next (l .chain) more
 
-      pub match-inside : i < records w
-      match-inside = head .inside
+      head-root : is-root p x (head .member) ≡ eqb r 0
+      unfolding is-root
+      head-root = ap (λ z. eqb z 0) (sym (is-value (head .member) (head .is-read)))
 
-      pub match-read : (f : Poly) × (read-head w p n i ≡ good f)
-      match-read = (head .member, head .is-read)
+      pub match-on : eqb r 0 ≡ b → MatchLeft w p n from start x b (word w i 3)
+      unfolding head
+      match-on e =
+          record {
+            chain = chain-on (l .chain) more;
+            same = λ fs q. sym (match-next p x b (head .member) (head .behind) (head-root ∙ e)) ∙ ap (all-match p x b) (sym (head .parts)) ∙ l .same fs q;
+          }
 
-      pub match-less : left (records w) (word w i 3) < left (records w) i
-      match-less = member-less w _ _ more head
-
-      -- r is the value of the polynomial with its head in record i.
-      module _ (r : ℕ) (is-value : (f : Poly) → read-head w p n i ≡ good f → r ≡ value-modulo p f x) where
-        head-root : is-root p x (head .member) ≡ eqb r 0
-        unfolding is-root
-        head-root = ap (λ z. eqb z 0) (sym (is-value (head .member) (head .is-read)))
-
-        pub match-on : eqb r 0 ≡ b → MatchLeft w p n from start x b (word w i 3)
-        match-on e =
-            record {
-              whole = l .whole;
-              is-read = l .is-read;
-              at = i;
-              rest = head .behind;
-              linked = head .linked;
-              same = sym (match-next p x b (head .member) (head .behind) (head-root ∙ e)) ∙ ap (all-match p x b) (sym (head .parts)) ∙ l .same;
-            }
-
-        pub match-fails : eqb r 0 ≢ b → (fs : List Poly) → read-heads w p n (records w) from start ≡ good fs → false ≡ all-match p x b fs
-        match-fails k fs e =
-            let s : l .whole ≡ fs = good-same (sym (l .is-read) ∙ e) in
-            sym (match-not p x b (head .member) (head .behind) (λ q. k (sym head-root ∙ q))) ∙ ap (all-match p x b) (sym (head .parts)) ∙ l .same ∙ ap (all-match p x b) s
+      pub match-fails : eqb r 0 ≢ b → (fs : List Poly) → read-heads w p n (records w) from start ≡ good fs → false ≡ all-match p x b fs
+      match-fails k fs e = sym (match-not p x b (head .member) (head .behind) (λ q. k (sym head-root ∙ q))) ∙ ap (all-match p x b) (sym (head .parts)) ∙ l .same fs e
 
 -- ── a table ──
 module _ (w x : List ℕ) (r : Reading) (e : r ≡ reading (read-table w)) where

@@ -47,8 +47,8 @@ use Rattle.tables.specs.Read.{good, System, read-system, read-systems}
 use Rattle.tables.specs.Solve.{solves, first-solved}
 use Rattle.tables.specs.Walk.{Readable}
 use Rattle.tables.specs.laws.Chains.{whole-records}
-use Rattle.tables.specs.laws.Linked.{SystemMember}
-use Rattle.lists.proofs.ListLaws.{Placed, placed-first, placed-none, placed-some, placed-solved, placed-on}
+use Rattle.tables.specs.laws.Linked.{Member, chain-next}
+use Rattle.lists.proofs.ListLaws.{Placed, placed-first, placed-none, placed-solved, placed-on}
 use Rattle.readers.proofs.Locals.{empty, holds, local, one, two, takes, takes-result, takes-last, last-first, free-held, with-u32, with-usize}
 use Rattle.readers.proofs.Calls.{Returned, calls-held, forks, while-more, says-both, needs-both}
 use Rattle.readers.proofs.Readers.{Known, knows}
@@ -152,8 +152,8 @@ module _ {M : Type 1} (𝓤 : URA M) (H : Heap 𝓤) (A : Atoms 𝓤) (W : Given
     abbrev i : ℕ
     i = s .i
 
-    abbrev system : SystemMember (now t) p n (s .inv .at) i (s .inv .left)
-    system = placed-some (now t) p n (s .inv) more
+    abbrev system : Member (s .inv .chain)
+    system = chain-next (s .inv .chain) more
 
     abbrev is-it : Bool
     is-it = solves p (now x) (system .member .T) (system .member .U)
@@ -257,7 +257,7 @@ module _ {M : Type 1} (𝓤 : URA M) (H : Heap 𝓤) (A : Atoms 𝓤) (W : Given
           -- the locals are freed
           move ! (last-first 2 15) $ free-held ! $ free-held ! $ free-held ! $ free-held ! $ free-held ! $ free-held ! $ free-held ! $
           free1 ! $ free-held ! $ free-held ! $ free-held ! $ free-held ! $ free-held ! $ free-held ! $ free1 ! $ free0 ! $
-          by ! (exits (s .place) (place-fits s more) (λ ss h. placed-solved (now t) p n (s .inv) (system s more) d h)))
+          by ! (exits (s .place) (place-fits s more) (λ ss h. placed-solved (now t) p n (s .inv) more d h)))
           -- place += 1; r = readers::step(r, 3)
           (λ d. takes ! (bin ! (local ! 18 refl) (lit ! tt) (record { fits = plus-fits s more }))
           (store ! 18 refl (tt, record { fits = plus-fits s more })) $
@@ -266,7 +266,7 @@ module _ {M : Type 1} (𝓤 : URA M) (H : Heap 𝓤) (A : Atoms 𝓤) (W : Given
           takes-last ! (store ! 20 refl (typed next fits)) $
           -- the temporaries are empty again
           forget ! 2 refl $ forget ! 4 refl $ forget ! 6 refl $ forget ! 8 refl $ forget ! 10 refl $ forget ! 12 refl $ forget ! 14 refl $
-          again ! fewer I s (record { i = next; place = s .place + 1; fits = fits; inv = placed-on (now t) p n (s .inv) (system s more) d })
+          again ! fewer I s (record { i = next; place = s .place + 1; fits = fits; inv = placed-on (now t) p n (s .inv) more d })
           (omega (arith, s .inv .few, system s more .higher, system s more .inside))))))
           -- the chain is over: no system is solved
           (λ over. exec ! (𝓣 .C) (𝓣 .Λ) En body.t-5 (atRet En Post) $

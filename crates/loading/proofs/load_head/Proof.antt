@@ -7,8 +7,8 @@ use borrow.Author.Needs.{needs}
 use lib.ListN.{length, length-set}
 use Rattle.polynomials.specs.Packed.{bytes, exponents}
 use Rattle.tables.specs.Words.{word, records}
-use Rattle.tables.specs.laws.Linked.{left}
-use Rattle.loading.proofs.LoadLaws.{LoadLeft, load-start, load-end, load-inside, load-room, load-less, load-next}
+use Rattle.tables.specs.laws.Linked.{left, chain-next, chain-less}
+use Rattle.loading.proofs.LoadLaws.{LoadLeft, load-start, load-end, load-room, load-next}
 use Rattle.loading.proofs.load_head.Statement.{statement}
 use Rattle.loading.proofs.load_head.Tie as tie
 
@@ -32,10 +32,7 @@ loop-holds c =
 
 -- In a turn: index i is that of a record, and two words are free.
 inside : (c : tie.In-loop Inv-loop μ-loop) → let a = c .before .before .before .before .before .args in (c .before .loop .i) < records (a .table .now)
-inside c =
-    let a = c .before .before .before .before .before .args in
-    let l = c .before .loop in
-    load-inside (a .table .now) (a .p) (a .n) (a .head) (l .out) (l .k) (l .i) (l .inv .1) (c .loop-test .taken)
+inside c = chain-next (c .before .loop .inv .1 .chain) (c .loop-test .taken) .inside
 
 free : (c : tie.In-loop Inv-loop μ-loop) → (c .before .loop .k + 2 ≤ 512) × (512 ≤ length (c .before .loop .out))
 free c =
@@ -84,9 +81,8 @@ cast-i-2 c = search needs
 
 loop-less : tie.Need-loop-less Inv-loop μ-loop
 loop-less c =
-    let a = c .before .before .before .before .before .before .before .before .before .before .args in
-    let l = c .before .before .before .before .before .before .loop in
-    rw (c .word5 .ensures) (load-less (a .table .now) (a .p) (a .n) (a .head) (l .out) (l .k) (l .i) (l .inv .1) (c .before .before .before .before .before .loop-test .taken))
+    let d = c .before .before .before .before .before in
+    rw (c .word5 .ensures) (chain-less (d .before .loop .inv .1 .chain) (d .loop-test .taken))
 
 loop-again : tie.Need-loop-again Inv-loop μ-loop
 loop-again c =

@@ -3,7 +3,7 @@
 use mathlib.Core.Path.{_≡_, sym, _∙_, subst}
 use mathlib.Core.Bool.{Bool}
 use mathlib.Core.List.{List, []}
-use Prim.Native.Nat.{ℕ, _<_}
+use Prim.Native.Nat.{ℕ}
 use native.Mathlib.Omega.{arith}
 use borrow.Author.Needs.{needs}
 use borrow.Author.Tests.{not-true, not-false}
@@ -13,7 +13,7 @@ use Rattle.records.specs.Records.{view}
 use Rattle.polynomials.specs.Poly.{Poly}
 use Rattle.tables.specs.Words.{records}
 use Rattle.tables.specs.Read.{good, read-heads}
-use Rattle.tables.specs.laws.Linked.{left}
+use Rattle.tables.specs.laws.Linked.{left, Member, chain-next, chain-less}
 use Rattle.tables.specs.laws.Accepted.{some-record}
 use Rattle.rules.specs.Branch.{Branch}
 use Rattle.branches.specs.Area.{capacity, with-open, Held}
@@ -21,7 +21,7 @@ use Rattle.branches.proofs.LengthLaws.{same-capacity}
 use Rattle.representation.specs.laws.Sounds.{sound-storable}
 use Rattle.loading.specs.Started.{Loaded, put-heads, Alone}
 use Rattle.loading.proofs.MonicLaws.{readable-modulus}
-use Rattle.loading.proofs.FillLaws.{Puts, PutLeft, put-first, put-end, put-inside, put-read, put-less, put-fails, put-next}
+use Rattle.loading.proofs.FillLaws.{Puts, PutLeft, put-first, put-end, put-fails, put-next}
 use Rattle.loading.proofs.put_heads.Statement.{statement}
 use Rattle.loading.proofs.put_heads.Tie as tie
 
@@ -59,34 +59,22 @@ here : (c : tie.In-loop Inv-loop μ-loop) → let a = start c .args in let l = c
 unfolding whole
 here c = let s = start c in c .before .loop .inv .2 (s .pre .0 .1 .0) (s .pre .1 .0 .0) (s .pre .0 .1 .1) (s .pre .1 .0 .1)
 
-inside : (c : tie.In-loop Inv-loop μ-loop) → c .before .loop .i < records (start c .args .table .now)
-inside c =
-    let a = start c .args in
-    let l = c .before .loop in
-    put-inside (a .table .now) (a .p) (a .n) (a .in-q) (capacity (a .work .now)) (whole c) (l .i) (view (l .work)) (here c) (c .loop-test .taken)
+abbrev head : (c : tie.In-loop Inv-loop μ-loop) → Member (here c .chain)
+head c = chain-next (here c .chain) (c .loop-test .taken)
 
 load-monic-requires : tie.Need-load-monic-requires Inv-loop μ-loop
 load-monic-requires c κs =
     let d = c .before in
     let s = start d in
-    let a = s .args in
-    let l = d .before .loop in (
-      (s .pre .0 .0, inside d, put-read (a .table .now) (a .p) (a .n) (a .in-q) (capacity (a .work .now)) (whole d) (l .i) (view (l .work)) (here d) (d .loop-test .taken)),
-      omega (arith, l .inv .1, s .pre .1 .1),
-    )
+    let h = head d in
+    ((s .pre .0 .0, h .inside, (h .member, h .is-read)), omega (arith, d .before .loop .inv .1, s .pre .1 .1))
 
 -- What was loaded.
 abbrev words : tie.After-load-monic Inv-loop μ-loop → List ℕ
 words c = c .load-monic .last .1 .1 .1 .1 .0
 
-loaded : (c : tie.After-load-monic Inv-loop μ-loop) → let d = c .before .before in let a = start d .args in let l = d .before .loop in
-    Loaded (a .p) (put-read (a .table .now) (a .p) (a .n) (a .in-q) (capacity (a .work .now)) (whole d) (l .i) (view (l .work)) (here d) (d .loop-test .taken) .0) (c .load-monic .result) (words c)
-loaded c =
-    let d = c .before .before in
-    let a = start d .args in
-    let l = d .before .loop in
-    let f = put-read (a .table .now) (a .p) (a .n) (a .in-q) (capacity (a .work .now)) (whole d) (l .i) (view (l .work)) (here d) (d .loop-test .taken) in
-    c .load-monic .ensures (f .0) (f .1)
+loaded : (c : tie.After-load-monic Inv-loop μ-loop) → let d = c .before .before in Loaded (start d .args .p) (head d .member) (c .load-monic .result) (words c)
+loaded c = let h = head (c .before .before) in c .load-monic .ensures (h .member) (h .is-read)
 
 slice-reshare-prefix-put-one : tie.Need-slice-reshare-prefix-put-one Inv-loop μ-loop
 slice-reshare-prefix-put-one c = loaded (c .before .before .before) .within
@@ -132,7 +120,7 @@ returns c fs b e x =
     (d .load-monic .result) (words d) (d .load-monic .ensures) (k .put-one .result) (view (k .put-one .last .0)) (puts k) (not-true (k .put-one .result) (c .if1 .taken))
 
 word-requires : tie.Need-word-requires Inv-loop μ-loop
-word-requires c κs = (inside (c .before .before .before .before .before .before .before .before .before .before), omega arith)
+word-requires c κs = (head (c .before .before .before .before .before .before .before .before .before .before) .inside, omega arith)
 
 cast-i : tie.Need-cast-i Inv-loop μ-loop
 cast-i c = search needs
@@ -140,9 +128,7 @@ cast-i c = search needs
 loop-less : tie.Need-loop-less Inv-loop μ-loop
 loop-less c =
     let d = c .before .before .before .before .before .before .before .before .before .before .before in
-    let a = start d .args in
-    let l = d .before .loop in
-    rw (c .word .ensures) (put-less (a .table .now) (a .p) (a .n) (a .in-q) (capacity (a .work .now)) (whole d) (l .i) (view (l .work)) (here d) (d .loop-test .taken))
+    rw (c .word .ensures) (chain-less (here d .chain) (d .loop-test .taken))
 
 loop-again : tie.Need-loop-again Inv-loop μ-loop
 loop-again c =

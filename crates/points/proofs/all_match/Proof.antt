@@ -47,8 +47,8 @@ use Rattle.tables.specs.Words.{word, records}
 use Rattle.tables.specs.Read.{good, read-head, read-heads}
 use Rattle.tables.specs.Walk.{Readable}
 use Rattle.points.specs.Walks.{all-match}
-use Rattle.tables.specs.laws.Linked.{good-same, left}
-use Rattle.points.proofs.PointLaws.{MatchLeft, match-start, match-end, match-inside, match-read, match-less, match-on, match-fails}
+use Rattle.tables.specs.laws.Linked.{good-same, left, Member, chain-next, chain-less}
+use Rattle.points.proofs.PointLaws.{MatchLeft, match-start, match-end, match-on, match-fails}
 use Rattle.points.proofs.PointLaws.{differ, agree}
 use Rattle.readers.proofs.Locals.{empty, holds, local, one, two, takes, takes-result, takes-last, last-first, free-held, with-u32, with-usize}
 use Rattle.readers.proofs.Calls.{Returned, calls-held, forks, while-more, says-both, needs-both}
@@ -156,20 +156,17 @@ module _ {M : Type 1} (𝓤 : URA M) (H : Heap 𝓤) (A : Atoms 𝓤) (W : Given
     abbrev i : ℕ
     i = s .i
 
-    inside : i < records (now t)
-    inside = match-inside (now t) p n holder first (now x) zero i (s .inv) more
-
-    abbrev read : (f : Poly) × (read-head (now t) p n i ≡ good f)
-    read = match-read (now t) p n holder first (now x) zero i (s .inv) more
+    abbrev head : Member (s .inv .chain)
+    head = chain-next (s .inv .chain) more
 
     abbrev value : ℕ
-    value = value-modulo p (read .0) (now x)
+    value = value-modulo p (head .member) (now x)
 
     abbrev Values : ℕ → Type 0
     Values r = (f : Poly) → read-head (now t) p n i ≡ good f → r ≡ value-modulo p f (now x)
 
     is-value : Values value
-    is-value f e = ap (λ (g : Poly). value-modulo p g (now x)) (good-same (sym (read .1) ∙ e))
+    is-value f e = ap (λ (g : Poly). value-modulo p g (now x)) (good-same (sym (head .is-read) ∙ e))
 
     abbrev given : Args value-at.signature (κ, (κ′, tt))
     given = (t, (p, (n, (i, (x, tt)))))
@@ -189,7 +186,7 @@ module _ {M : Type 1} (𝓤 : URA M) (H : Heap 𝓤) (A : Atoms 𝓤) (W : Given
         move ! (1 ∷ []) $ split3 ! $ move ! (0 ∷ 3 ∷ []) $ fjoin ! $ move ! (1 ∷ 0 ∷ []) $
         use2 W (raw (ValueAt 𝓤 H A mem run .pre to))
         (qed W (tokens 𝓤 κ κ′ q q′ ∷ ‵ (owns (ShrSlice (named 0) κ u32 ∷ u32 ∷ u32 ∷ usize ∷ ShrSlice (named 1) κ′ u32 ∷ []) given passed) ∷ []) ∵
-        says-both ! (ready .0, inside, read) point $ frame ! $ done !) $ frame ! $ done !
+        says-both ! (ready .0, head .inside, (head .member, head .is-read)) point $ frame ! $ done !) $ frame ! $ done !
 
     module _ (C : Calls 𝓤 H) (fm : FmC 𝓤 H (W .laws) C) (known : Triple 𝓤 (C #value-at) (ValueAt 𝓤 H A mem run)) where
       value-called : ent 𝓤 held (C #value-at (slice t ∷ vint w32 p ∷ vint w32 n ∷ vint w64 i ∷ slice x ∷ [])
@@ -199,7 +196,7 @@ module _ {M : Type 1} (𝓤 : URA M) (H : Heap 𝓤) (A : Atoms 𝓤) (W : Given
           (ensured 𝓤 H A value-at.ended (value-at.clauses 𝓤 H A mem run) (κ, (κ′, tt)) given tt) Values (vint w64 value) (value < 2 ^ 64)
           (λ w. id⊢ 𝓤 _)
           (λ r. exE 𝓤 _ (λ ws. snd∗ 𝓤 (sem 𝓤 H A (lasts value-at.ended (κ, (κ′, tt)) given ws)) (fact 𝓤 (Values r))))
-          (λ w r e is. let same : r ≡ value = e (read .0) (read .1) in
+          (λ w r e is. let same : r ≡ value = e (head .member) (head .is-read) in
           (ap only (is .0) ∙ ap (vint w64) same, subst (λ (z : ℕ). z < 2 ^ 64) same (is .1)))
           asked
 
@@ -282,11 +279,11 @@ module _ {M : Type 1} (𝓤 : URA M) (H : Heap 𝓤) (A : Atoms 𝓤) (W : Given
           free-held ! $ free1 ! $ free0 ! $ by ! (exits false (fails more d)))
           -- r = readers::step(r, 3)
           (λ d. takes ! (of-opd ! (local ! 20 refl)) (init ! 2 refl (typed (s .i) (s .fits))) $
-          goes-on-last ! along (s .i) (s .fits) 3 (inside s more) (lit< tt) (two ! (local ! 2 refl) (lit ! tt)) (λ next-fits.
+          goes-on-last ! along (s .i) (s .fits) 3 (head s more .inside) (lit< tt) (two ! (local ! 2 refl) (lit ! tt)) (λ next-fits.
           takes-last ! (store ! 20 refl (typed next next-fits)) $
           -- the temporaries are empty again
           forget ! 2 refl $ forget ! 4 refl $ forget ! 6 refl $ forget ! 8 refl $ forget ! 10 refl $ forget ! 12 refl $ forget ! 14 refl $
-          forget ! 18 refl $ again ! fewer I s (on more d next-fits) (match-less (now t) p n holder first (now x) zero (s .i) (s .inv) more)))))
+          forget ! 18 refl $ again ! fewer I s (on more d next-fits) (chain-less (s .inv .chain) more)))))
           -- the chain is over: all match
           (λ over. exec ! (𝓣 .C) (𝓣 .Λ) En body.t-4 (atRet En Post) $ takes ! (of-opd ! (true-lit !)) (init ! 36 refl (tt, tt)) $
           returns ! (look ! 36 refl) $ move ! (last-first 2 18) $ free-held ! $ free-held ! $ free-held ! $ free-held ! $ free-held ! $

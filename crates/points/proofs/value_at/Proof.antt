@@ -47,10 +47,9 @@ use Rattle.tables.specs.Words.{word, records}
 use Rattle.tables.specs.Read.{good, read-head}
 use Rattle.tables.specs.Walk.{Readable}
 use Rattle.points.specs.Walks.{plus-term}
-use Rattle.tables.specs.laws.Linked.{left}
+use Rattle.tables.specs.laws.Linked.{left, chain-next, chain-less}
 use Rattle.tables.specs.laws.Accepted.{readable-numbers}
-use Rattle.points.proofs.PointLaws.{ValueLeft, value-start, value-end, value-inside, value-residue}
-use Rattle.points.proofs.PointLaws.{value-less, value-next}
+use Rattle.points.proofs.PointLaws.{ValueLeft, value-start, value-end, value-residue, value-next}
 use Rattle.readers.proofs.Locals.{empty, holds, local, one, two, takes, takes-result, takes-last, last-first, free-held, with-u32, with-usize, with-u64}
 use Rattle.readers.proofs.Calls.{Returned, calls-held, while-more, says-both, needs-both}
 use Rattle.readers.proofs.Readers.{Known, knows, slice, Own, Held, lent, reading, reader, reader-typed}
@@ -164,7 +163,7 @@ module _ {M : Type 1} (𝓤 : URA M) (H : Heap 𝓤) (A : Atoms 𝓤) (W : Given
 
     module _ (more : i ≢ 0) where
       inside : i < records (now t)
-      inside = value-inside (now t) p n head (now x) v i (s .inv) more
+      inside = chain-next (s .inv .chain) more .inside
 
       abbrev sum : ℕ
       sum = plus-term (now t) p (now x) i v
@@ -271,7 +270,7 @@ module _ {M : Type 1} (𝓤 : URA M) (H : Heap 𝓤) (A : Atoms 𝓤) (W : Given
           -- the temporaries are empty again
           forget ! 2 refl $ forget ! 4 refl $ forget ! 6 refl $ forget ! 8 refl $ forget ! 10 refl $ forget ! 12 refl $
           again ! fewer I s (record { v = sum s more; i = next; fits = next-fits; inv = kept more })
-          (value-less (now t) p n head (now x) (s .v) (s .i) (s .inv) more))))
+          (chain-less (s .inv .chain) more))))
           -- the chain is over: v is the result
           (λ over. exec ! (𝓣 .C) (𝓣 .Λ) En body.t-5 (atRet En Post) $
           takes ! (of-opd ! (local ! 18 refl)) (init ! 30 refl (tt, record { fits = v-fits s })) $ returns ! (look ! 30 refl) $

@@ -22,7 +22,7 @@ use Rattle.tables.specs.Read.{read-term, read-head, read-heads, read-tri
 use Rattle.tables.specs.Walk.{Readable}
 use Rattle.tables.specs.Admissible.{Rising, Admissible, AdmissibleNumbers, AdmissibleInput, AdmissibleListing}
 use Rattle.tables.specs.laws.Chains.{unless-not-good, then-good, header-read, whole-records, term-read}
-use Rattle.tables.specs.laws.Linked.{good-same, linked-each, TermChain, terms-linked, HeadChain, heads-linked, triangle-linked, systems-linked}
+use Rattle.tables.specs.laws.Linked.{good-same, linked-each, TermChain, terms-left, HeadChain, heads-left, triangle-linked, systems-left}
 
 -- ── exponents ──
 small-append : (s t : Exponents) → ((k : ℕ) → getD s k 0 < 256) → ((k : ℕ) → getD t k 0 < 256) → (k : ℕ) → getD (s ++ t) k 0 ≤ 255
@@ -102,7 +102,7 @@ module _ (w : List ℕ) (p n : ℕ) where
 
   pub head-admissible : (i : ℕ) (f : Poly) → i < records w → read-head w p n i ≡ good f → Admissible p n f
   head-admissible i f h e =
-      let l = terms-linked w p n i f h e in
+      let l = terms-left w p n i f h e .linked in
       record {
         canonical = chain-canonical 0 first i (word w i 0) f l .0;
         few = omega (arith, chain-few 0 first i (word w i 0) f (omega arith) l);
@@ -149,8 +149,8 @@ accepted-admissible w t e =
     let h = some-record (r .readable) in
     record {
       numbers = rw (r .modulus, r .variables) (readable-numbers w p n (r .readable));
-      zeros = rw (r .modulus, r .variables) (heads-admissible w p n 0 (word w 0 2) (t .P) (heads-linked w p n 0 (word w 0 2) (t .P) h (r .zeros)));
-      nonzeros = rw (r .modulus, r .variables) (heads-admissible w p n 0 (word w 0 3) (t .Q) (heads-linked w p n 0 (word w 0 3) (t .Q) h (r .nonzeros)));
+      zeros = rw (r .modulus, r .variables) (heads-admissible w p n 0 (word w 0 2) (t .P) (heads-left w p n 0 (word w 0 2) (t .P) h (r .zeros) .linked));
+      nonzeros = rw (r .modulus, r .variables) (heads-admissible w p n 0 (word w 0 3) (t .Q) (heads-left w p n 0 (word w 0 3) (t .Q) h (r .nonzeros) .linked));
     }
 
 -- ── a list ──
@@ -191,7 +191,7 @@ accepted-list-admissible w l e =
           (each (λ s. Each (Admissible p n) (s .T)) (λ i s h q. heads-admissible w p n i (word w i 0) (s .T) (triangle i s h q .0)));
       companion = rw (r .modulus, r .variables)
           (each (λ s. Each (Admissible p n) (s .U))
-          (λ i s h q. heads-admissible w p n i (word w i 1) (s .U) (heads-linked w p n i (word w i 1) (s .U) h (system-read w p n i s q .companion))));
+          (λ i s h q. heads-admissible w p n i (word w i 1) (s .U) (heads-left w p n i (word w i 1) (s .U) h (system-read w p n i s q .companion) .linked)));
       rising = each (λ s. Rising 0 (s .T)) (λ i s h q. triangle i s h q .1);
     }
   where
@@ -207,7 +207,7 @@ accepted-list-admissible w l e =
     each : (P : System → Type 0) → ((i : ℕ) (s : System) → i < records w → read-system w p n i ≡ good s → P s) → Each P (l .systems)
     each P f =
         linked-each w _ _ P (λ u. f) tt 0 (word w 0 2) (l .systems)
-        (systems-linked w p n 0 (word w 0 2) (l .systems) (some-record (r .readable)) (r .systems))
+        (systems-left w p n 0 (word w 0 2) (l .systems) (some-record (r .readable)) (r .systems) .linked)
 
     triangle : (i : ℕ) (s : System) → i < records w → read-system w p n i ≡ good s → HeadChain w p n i (word w i 0) (s .T) × Rising 0 (s .T)
     triangle i s h q = triangle-linked w p n 0 i (word w i 0) (s .T) h (system-read w p n i s q .triangle)

@@ -31,23 +31,12 @@ module _ {A S : Type 0} (w : List ℕ) (step : S → ℕ → Read A) (on : S →
   Linked s at i [] = i ≡ 0
   Linked s at i (a ∷ xs) = (at < i) × (i < records w) × (step s i ≡ good a) × Linked (on s a) i (word w i 3) xs
 
-  -- The first member of a chain that has not ended.
-  pub record Member (s : S) (at i : ℕ) (xs : List A) : Type 0 where
-    pub member : A
-    pub behind : List A
-    pub parts : xs ≡ member ∷ behind
-    pub higher : at < i
-    pub inside : i < records w
-    pub is-read : step s i ≡ good member
-    pub linked : Linked (on s member) i (word w i 3) behind
-
-  pub linked-member : (s : S) (at i : ℕ) (xs : List A) → i ≢ 0 → Linked s at i xs → Member s at i xs
-  linked-member s at i [] h l = absurd (h l)
-  linked-member s at i (a ∷ xs) h l = record { member = a; behind = xs; parts = refl; higher = l .0; inside = l .1; is-read = l .2; linked = l .3 }
-
-  pub linked-end : (s : S) (at i : ℕ) (xs : List A) → i ≡ 0 → Linked s at i xs → xs ≡ []
-  linked-end s at i [] z l = refl
-  linked-end s at i (a ∷ xs) z l = absurd (omega (arith, l .0))
+  -- What is left of a chain at the index i: the record that holds the index, and the members from there on.
+  pub record ChainLeft (i : ℕ) : Type 0 where
+    pub state : S
+    pub at : ℕ
+    pub rest : List A
+    pub linked : Linked state at i rest
 
   pub linked-each : (P : A → Type 0) → ((s : S) (i : ℕ) (a : A) → i < records w → step s i ≡ good a → P a) →
       (s : S) (at i : ℕ) (xs : List A) → Linked s at i xs → Each P xs
@@ -60,8 +49,38 @@ module _ {A S : Type 0} (w : List ℕ) (step : S → ℕ → Read A) (on : S →
   linked-less s (suc i) (suc j) [] h l k = absurd (omega (arith, k))
   linked-less s (suc i) (suc j) (a ∷ xs) h l k = omega (arith, k .0, k .1)
 
-  pub member-less : {s : S} {at i : ℕ} {xs : List A} → i ≢ 0 → Member s at i xs → left (records w) (word w i 3) < left (records w) i
-  member-less {i = i} h m = linked-less (on _ (m .member)) i (word w i 3) (m .behind) h (m .inside) (m .linked)
+module _ {A S : Type 0} {w : List ℕ} {step : S → ℕ → Read A} {on : S → A → S} {i : ℕ} (l : ChainLeft w step on i) where
+  pub chain-end : i ≡ 0 → l .rest ≡ []
+  chain-end z = go (l .rest) (l .linked)
+    where
+      go : (xs : List A) → Linked w step on (l .state) (l .at) i xs → xs ≡ []
+      go [] k = refl
+      go (a ∷ xs) k = absurd (omega (arith, k .0))
+
+  -- The next member.
+  pub record Member : Type 0 where
+    pub member : A
+    pub behind : List A
+    pub parts : l .rest ≡ member ∷ behind
+    pub higher : l .at < i
+    pub inside : i < records w
+    pub is-read : step (l .state) i ≡ good member
+    pub linked : Linked w step on (on (l .state) member) i (word w i 3) behind
+
+  module _ (more : i ≢ 0) where
+    pub chain-next : Member
+    chain-next = go (l .rest) refl (l .linked)
+      where
+        go : (xs : List A) → l .rest ≡ xs → Linked w step on (l .state) (l .at) i xs → Member
+        go [] e k = absurd (more k)
+        go (a ∷ xs) e k = record { member = a; behind = xs; parts = e; higher = k .0; inside = k .1; is-read = k .2; linked = k .3 }
+
+    -- What is left behind it.
+    abbrev pub chain-on : ChainLeft w step on (word w i 3)
+    chain-on = record { state = on (l .state) (chain-next .member); at = i; rest = chain-next .behind; linked = chain-next .linked }
+
+    pub chain-less : left (records w) (word w i 3) < left (records w) i
+    chain-less = linked-less w step on (chain-on .state) i (word w i 3) (chain-on .rest) more (chain-next .inside) (chain-next .linked)
 
 -- A chain that was read with enough fuel.
 pub chain-linked : {A S : Type 0} {w : List ℕ} {step : S → ℕ → Read A} {on : S → A → S} {X : ℕ → S → ℕ → ℕ → Read (List A)} → Chain w step on X →
@@ -93,11 +112,8 @@ module _ (w : List ℕ) (p n : ℕ) where
   abbrev pub TermChain : (ℕ × Before) → ℕ → ℕ → Poly → Type 0
   TermChain = Linked w (λ s j. read-term w p n (s .0) (s .1) j) (λ s t. (suc (s .0), after (t .exps)))
 
-  abbrev pub TermMember : (ℕ × Before) → ℕ → ℕ → Poly → Type 0
-  TermMember = Member w (λ s j. read-term w p n (s .0) (s .1) j) (λ s t. (suc (s .0), after (t .exps)))
-
-  pub next-term : {s : ℕ × Before} {at i : ℕ} {f : Poly} → i ≢ 0 → TermChain s at i f → TermMember s at i f
-  next-term more l = linked-member w _ _ _ _ _ _ more l
+  abbrev pub TermsLeft : ℕ → Type 0
+  TermsLeft = ChainLeft {S = ℕ × Before} w (λ s j. read-term w p n (s .0) (s .1) j) (λ s t. (suc (s .0), after (t .exps)))
 
   pub terms-linked : (i : ℕ) (f : Poly) → i < records w → read-head w p n i ≡ good f → TermChain (0, first) i (word w i 0) f
   unfolding read-head
@@ -105,29 +121,23 @@ module _ (w : List ℕ) (p n : ℕ) where
       chain-linked (terms-chain w p n) (records w) (0, first) i (word w i 0) f (whole-chain w i h)
       (unless-good (not-zero (word w i 1 ∷ word w i 2 ∷ [])) Head i _ e .1)
 
+  abbrev pub terms-left : (i : ℕ) (f : Poly) → i < records w → read-head w p n i ≡ good f → TermsLeft (word w i 0)
+  terms-left i f h e = record { state = (0, first); at = i; rest = f; linked = terms-linked i f h e }
+
   abbrev pub HeadChain : ℕ → ℕ → List Poly → Type 0
   HeadChain = Linked {S = Unit {0}} w (λ s j. read-head w p n j) (λ s f. s) tt
 
-  abbrev pub HeadMember : ℕ → ℕ → List Poly → Type 0
-  HeadMember = Member {S = Unit {0}} w (λ s j. read-head w p n j) (λ s f. s) tt
+  abbrev pub HeadsLeft : ℕ → Type 0
+  HeadsLeft = ChainLeft {S = Unit {0}} w (λ s j. read-head w p n j) (λ s f. s)
 
-  pub next-head : {at i : ℕ} {fs : List Poly} → i ≢ 0 → HeadChain at i fs → HeadMember at i fs
-  next-head more l = linked-member w _ _ tt _ _ _ more l
+  abbrev pub heads-left : (at i : ℕ) (fs : List Poly) → at < records w → read-heads w p n (records w) at i ≡ good fs → HeadsLeft i
+  heads-left at i fs h e = record { state = tt; at = at; rest = fs; linked = chain-linked (heads-chain w p n) (records w) tt at i fs (whole-chain w at h) e }
 
-  pub heads-linked : (at i : ℕ) (fs : List Poly) → at < records w → read-heads w p n (records w) at i ≡ good fs → HeadChain at i fs
-  heads-linked at i fs h e = chain-linked (heads-chain w p n) (records w) tt at i fs (whole-chain w at h) e
+  abbrev pub SystemsLeft : ℕ → Type 0
+  SystemsLeft = ChainLeft {S = Unit {0}} w (λ s j. read-system w p n j) (λ s f. s)
 
-  abbrev pub SystemChain : ℕ → ℕ → List System → Type 0
-  SystemChain = Linked {S = Unit {0}} w (λ s j. read-system w p n j) (λ s f. s) tt
-
-  abbrev pub SystemMember : ℕ → ℕ → List System → Type 0
-  SystemMember = Member {S = Unit {0}} w (λ s j. read-system w p n j) (λ s f. s) tt
-
-  pub next-system : {at i : ℕ} {ss : List System} → i ≢ 0 → SystemChain at i ss → SystemMember at i ss
-  next-system more l = linked-member w _ _ tt _ _ _ more l
-
-  pub systems-linked : (at i : ℕ) (ss : List System) → at < records w → read-systems w p n (records w) at i ≡ good ss → SystemChain at i ss
-  systems-linked at i ss h e = chain-linked (systems-chain w p n) (records w) tt at i ss (whole-chain w at h) e
+  abbrev pub systems-left : (at i : ℕ) (ss : List System) → at < records w → read-systems w p n (records w) at i ≡ good ss → SystemsLeft i
+  systems-left at i ss h e = record { state = tt; at = at; rest = ss; linked = chain-linked (systems-chain w p n) (records w) tt at i ss (whole-chain w at h) e }
 
   -- A T chain is a chain of heads whose leading variables rise.
   pub led-parts : (last i : ℕ) (f : Poly) → read-led w p n last i ≡ good f → (read-head w p n i ≡ good f) × (last < leader f)

@@ -1,11 +1,22 @@
-// The state of a run in the work area: the open branch, the waiting ones, and the listed systems; `specs/Area.antt` has the layout. What is read of the
-// open branch: whether Q holds a polynomial, and the words of one.
+// The state of a run in the work area: the open branch, the waiting ones, and the listed systems; `specs/Area.antt` has the layout. How
+// many records it has, and what is read of the open branch: whether Q holds a polynomial, and the words of one.
 ghost use mathlib.Core.Path.{_≡_};
 ghost use mathlib.Core.List.{[]};
 ghost use Prim.Native.Nat.{_≤_, _<_};
 ghost use lib.ListN.{length, getD, take};
 ghost use Rattle.stored.specs.Stored.{member, Storable};
-ghost use Rattle.branches.specs.Area.{Opened, When-open};
+ghost use Rattle.branches.specs.Area.{Opened, When-open, capacity};
+
+// How many records of a work area are used.
+pub fn count_records(w: &[u32]) -> usize
+    ensures { λ r. ⌜ r ≡ capacity (now (w .entry)) ⌝ }
+{
+    let all = w.len() / 4;
+    if all < 65536 {
+        return all;
+    }
+    65536
+}
 
 // Whether Q holds f.
 pub fn find_q(w: &[u32], f: &[u64]) -> bool

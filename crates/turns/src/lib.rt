@@ -10,8 +10,7 @@ pub fn begin(w: &mut [u32])
     requires { ⌜ 2 ≤ capacity (now w) ⌝ }
     ensures { λ _. ⌜ Held (view (now (w .exit))) (capacity (now (w .entry))) (with-open empty [] []) ⌝ }
 {
-    let all = w.len() / 4;
-    let most = if all < 65536 { all } else { 65536 };
+    let most = branches::count_records(w);
     records::put_rec(w, 0, 1, 2, most as u32, 0);
     records::put_rec(w, 1, 0, 0, 0, 0);
 }

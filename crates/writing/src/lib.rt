@@ -49,8 +49,7 @@ pub fn write_list(w: &[u32], p: u32, n: u32, out: &mut [u32])
 {
     let top = records::get2(w, 0) as usize;
     let count = records::get3(w, 0);
-    let all = w.len() / 4;
-    let most = if all < 65536 { all } else { 65536 };
+    let most = branches::count_records(w);
     let first = if count == 0 { 0 } else { 1 };
     chains::put_record(out, 0, p, n, first, count);
     let mut i = top;

@@ -1,6 +1,5 @@
 -- `turn::begin`: `begun` with the words read.
-use mathlib.Core.Path.{_≡_, ap, _∙_}
-use mathlib.Core.Logic.{⊎-elim}
+use mathlib.Core.Path.{ap, _∙_}
 use Prim.Native.Nat.{ℕ}
 use native.Mathlib.Omega.{arith}
 use lib.ListN.{set}
@@ -12,11 +11,11 @@ use borrow.Author.Needs.{needs}
 use Rattle.turns.proofs.begin.Statement.{statement}
 use Rattle.turns.proofs.begin.Tie as tie
 
-most-is : (c : tie.Joined1) → c .if1 .most ≡ capacity (c .before .before .args .w .now)
-most-is c = ⊎-elim (λ w. omega arith) (λ w. omega arith) (c .if1 .came)
+count-records-requires : tie.Need-count-records-requires
+count-records-requires c κs = search needs
 
 cast-put-rec : tie.Need-cast-put-rec
-cast-put-rec c = omega (arith, most-is (c .before .before))
+cast-put-rec c = omega (arith, c .before .count-records .ensures)
 
 put-rec-requires : tie.Need-put-rec-requires
 put-rec-requires c κs = search needs
@@ -34,8 +33,8 @@ returns c =
     let v = view w in
     let p = c .before .before .before .before .before .before in
     begun v _ _ (capacity w) (s .pre) (omega (arith, length-view w)) (omega arith)
-    (p .put-rec .ensures ∙ ap (λ (k : ℕ). set v 0 (record-of 1 2 k 0)) (most-is (p .before .before .before))) (c .before .before .put-rec2 .ensures)
+    (p .put-rec .ensures ∙ ap (λ (k : ℕ). set v 0 (record-of 1 2 k 0)) (p .before .before .count-records .ensures)) (c .before .before .put-rec2 .ensures)
 
 pub begin-spec : {M : Type 1} → statement M
 begin-spec =
-    tie.close (tie.spec cast-put-rec put-rec-requires put-rec-requires-2 same-length returns)
+    tie.close (tie.spec count-records-requires cast-put-rec put-rec-requires put-rec-requires-2 same-length returns)

@@ -1,10 +1,11 @@
 -- `write_list` meets its contract. The invariant: from record `end` on stand the systems walked over, in list order, and `next` is their index.
-use mathlib.Core.Path.{_≡_, refl, _∙_}
+use mathlib.Core.Path.{_≡_, refl, sym, _∙_}
 use mathlib.Core.Logic.{⊎-elim}
 use mathlib.Core.List.{List, [], _∷_, map, reverse}
 use Prim.Native.Nat.{_+_, _-_}
 use native.Mathlib.Omega.{arith}
 use lib.ListN.{length}
+use borrow.Author.Needs.{needs}
 use Rattle.records.specs.Records.{view}
 use Rattle.records.proofs.Rows.{length-view}
 use Rattle.branches.specs.Area.{Stored, capacity, Held-in}
@@ -14,40 +15,36 @@ use Rattle.writing.proofs.write_list.Statement.{statement}
 use Rattle.writing.proofs.write_list.Tie as tie
 
 abbrev Inv-loop : tie.InvT-loop
-Inv-loop w p n out₀ top count all most first i₀ end₀ next₀ out i end next =
+Inv-loop w p n out₀ top count most first i₀ end₀ next₀ out i end next =
     (length out ≡ length out₀)
     × ((ss : List Stored) → Held-in w (record { branches = []; systems = ss }) → Walked (view w) most ss out₀ out i end next)
 
 abbrev μ-loop : tie.MeasureT-loop
-μ-loop w p n out₀ top count all most first i₀ end₀ next₀ out i end next = most - i
-
--- The records that the work area has.
-most-is : (c : tie.Joined1 Inv-loop μ-loop) → capacity (c .before .before .before .before .before .args .w .now) ≡ c .if1 .most
-most-is c = ⊎-elim (λ w. omega arith) (λ w. omega arith) (c .if1 .came)
+μ-loop w p n out₀ top count most first i₀ end₀ next₀ out i end next = most - i
 
 -- In a turn a system lies at i.
 abbrev At : tie.In-loop Inv-loop μ-loop → List Stored → Type 0
 At c ss =
     let turn = c .before .loop in
-    let put = c .before .before .before .before .before .put-record in
-    let most = c .before .before .before .before .before .before .before .before .if1 .most in
-    let a = c .before .before .before .before .before .before .before .before .before .before .before .before .before .args in
+    let put = c .before .before .before .before .put-record in
+    let most = c .before .before .before .before .before .before .before .count-records .result in
+    let a = c .before .before .before .before .before .before .before .before .before .before .before .before .args in
     Turn (view (a .w .now)) most ss (put .last .0) (turn .out) (turn .i) (turn .end) (turn .next)
 
 turn-of : (c : tie.In-loop Inv-loop μ-loop) (ss : List Stored)
-    → let w = c .before .before .before .before .before .before .before .before .before .before .before .before .before .args .w .now in Held-in w (record { branches = []; systems = ss }) → At c ss
+    → let w = c .before .before .before .before .before .before .before .before .before .before .before .before .args .w .now in Held-in w (record { branches = []; systems = ss }) → At c ss
 turn-of c ss h =
     let loop = c .before .loop in
-    let put = c .before .before .before .before .before .put-record in
-    let most = c .before .before .before .before .before .before .before .before .if1 .most in
-    let a = c .before .before .before .before .before .before .before .before .before .before .before .before .before .args in
+    let put = c .before .before .before .before .put-record in
+    let most = c .before .before .before .before .before .before .before .count-records .result in
+    let a = c .before .before .before .before .before .before .before .before .before .before .before .before .args in
     let w = loop .inv .1 ss h in
     turn (view (a .w .now)) most ss (put .last .0) (loop .out) (loop .i) (loop .end) (loop .next) (w .rest) (w .done) (w .walk) (c .loop-test .taken)
 
 -- For the systems that the contract names.
-turn-asked : (c : tie.In-loop Inv-loop μ-loop) → At c (c .before .before .before .before .before .before .before .before .before .before .before .before .before .pre .0 .0)
-turn-asked c = turn-of c (c .before .before .before .before .before .before .before .before .before .before .before .before .before .pre .0 .0)
-    (c .before .before .before .before .before .before .before .before .before .before .before .before .before .pre .0 .1)
+turn-asked : (c : tie.In-loop Inv-loop μ-loop) → At c (c .before .before .before .before .before .before .before .before .before .before .before .before .pre .0 .0)
+turn-asked c = turn-of c (c .before .before .before .before .before .before .before .before .before .before .before .before .pre .0 .0)
+    (c .before .before .before .before .before .before .before .before .before .before .before .before .pre .0 .1)
 
 get2-requires : tie.Need-get2-requires Inv-loop μ-loop
 get2-requires c κs =
@@ -68,6 +65,9 @@ get3-requires c κs =
     let k = control (view (a .w .now)) (capacity (a .w .now)) (start .pre .0 .0) (start .pre .0 .1) in
     omega (arith, k .inside)
 
+count-records-requires : tie.Need-count-records-requires Inv-loop μ-loop
+count-records-requires c κs = search needs
+
 put-record-requires : tie.Need-put-record-requires Inv-loop μ-loop
 put-record-requires c κs =
     let start = c .before .before .before .before .before .before .before in
@@ -75,30 +75,30 @@ put-record-requires c κs =
 
 sub-end : tie.Need-sub-end Inv-loop μ-loop
 sub-end c =
-    let start = c .before .before .before .before .before .before .before .before .before .before .before in
+    let start = c .before .before .before .before .before .before .before .before .before .before in
     let a = start .args in
     let l = length-view (a .w .now) in
     let k = control (view (a .w .now)) (capacity (a .w .now)) (start .pre .0 .0) (start .pre .0 .1) in
-    let most = most-is (c .before .before .before .before .before .before) in
-    let top = c .before .before .before .before .before .before .before .before .get2 .ensures in omega (arith, k .top, k .some, k .few)
+    let most = c .before .before .before .before .before .count-records .ensures in
+    let top = c .before .before .before .before .before .before .before .get2 .ensures in omega (arith, k .top, k .some, k .few)
 
 add-end : tie.Need-add-end Inv-loop μ-loop
 add-end c =
-    let start = c .before .before .before .before .before .before .before .before .before .before .before in
+    let start = c .before .before .before .before .before .before .before .before .before .before in
     let a = start .args in
     let l = length-view (a .w .now) in
     let k = control (view (a .w .now)) (capacity (a .w .now)) (start .pre .0 .0) (start .pre .0 .1) in
-    let most = most-is (c .before .before .before .before .before .before) in
-    let top = c .before .before .before .before .before .before .before .before .get2 .ensures in omega (arith, k .top, k .some, k .few)
+    let most = c .before .before .before .before .before .count-records .ensures in
+    let top = c .before .before .before .before .before .before .before .get2 .ensures in omega (arith, k .top, k .some, k .few)
 
 loop-holds : tie.Need-loop-holds Inv-loop μ-loop
 loop-holds c =
-    let d = c .before .before .before .put-record .last .0 in
-    let all = c .before .before .before .before .before .before in
-    let get2 = c .before .before .before .before .before .before .before .before .get2 in
-    let start = c .before .before .before .before .before .before .before .before .before .before .before in
+    let d = c .before .before .put-record .last .0 in
+    let all = c .before .before .before .before .before in
+    let get2 = c .before .before .before .before .before .before .before .get2 in
+    let start = c .before .before .before .before .before .before .before .before .before .before in
     let w = start .args .w .now in
-    let most = all .if1 .most in
+    let most = all .count-records .result in
     let top = get2 .result in (
       refl,
       λ ss h. let asked = start .pre .1 ss h in
@@ -106,7 +106,7 @@ loop-holds c =
             rest = ss;
             done = [];
             walk =
-                begins (view w) (capacity w) most ss d top (1 + (most - top)) h (most-is all) (asked .1) (omega (arith, asked .0)) (get2 .ensures) refl;
+                begins (view w) (capacity w) most ss d top (1 + (most - top)) h (sym (all .count-records .ensures)) (asked .1) (omega (arith, asked .0)) (get2 .ensures) refl;
           },
     )
 
@@ -160,18 +160,18 @@ same-length c = omega arith
 
 returns : tie.Need-returns Inv-loop μ-loop
 returns c ss h =
-    let start = c .before .before .before .before .before .before .before .before .before .before .before .before .before in
+    let start = c .before .before .before .before .before .before .before .before .before .before .before .before in
     let a = start .args in
     let v = view (a .w .now) in
     let loop = c .before .loop in
     let w = loop .inv .1 ss h in
-    let most = c .before .before .before .before .before .before .before .before .if1 .most in
-    let put = c .before .before .before .before .before .put-record in
-    let first = c .before .before .before .before .before .before .before .if2 in
-    list-written ss (a .p) (a .n) (first .first) (c .before .before .before .before .before .before .before .before .before .get3 .result) (a .out .now) (put .last .0) (loop .out)
+    let most = c .before .before .before .before .before .before .before .count-records .result in
+    let put = c .before .before .before .before .put-record in
+    let first = c .before .before .before .before .before .before .if1 in
+    list-written ss (a .p) (a .n) (first .first) (c .before .before .before .before .before .before .before .before .get3 .result) (a .out .now) (put .last .0) (loop .out)
     (put .ensures)
     (omega (arith, start .pre .1 ss h .0, list-some (reverse (map system-of ss))))
-    (c .before .before .before .before .before .before .before .before .before .get3 .ensures ∙ control v (capacity (a .w .now)) ss h .count)
+    (c .before .before .before .before .before .before .before .before .get3 .ensures ∙ control v (capacity (a .w .now)) ss h .count)
     (λ h. ⊎-elim (λ w. omega arith) (λ w. omega arith) (first .came))
     (λ h. ⊎-elim (λ w. omega arith) (λ w. omega arith) (first .came))
     (finished v most ss (put .last .0) (loop .out) (loop .i) (loop .end) (loop .next) (w .rest) (w .done) (w .walk) (omega arith))
@@ -185,6 +185,7 @@ write-list-spec =
     get2-requires
     cast-top
     get3-requires
+    count-records-requires
     put-record-requires
     sub-end
     add-end

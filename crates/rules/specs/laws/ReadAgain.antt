@@ -7,11 +7,12 @@ use native.Mathlib.Omega.{arith}
 use borrow.Author.Tests.{eq-eqb, ne-eqb, le-leb, lt-leb}
 use lib.Dec.{eqb, leb}
 use lib.ListN.{length, take, drop}
+use Rattle.tables.specs.laws.Accepted.{Falls}
 use Rattle.residues.specs.Each.{Each}
 use Rattle.residues.specs.Prime.{is-modulus}
 use Rattle.residues.specs.laws.Prime.{prime-modulus}
 use Rattle.polynomials.specs.Poly.{Term, Poly}
-use Rattle.polynomials.specs.Canonical.{Under, Canonical, All}
+use Rattle.polynomials.specs.Canonical.{Canonical, All}
 use Rattle.polynomials.specs.Division.{leader}
 use Rattle.polynomials.specs.Packed.{word as pack, exponents}
 use Rattle.tables.specs.Words.{word, records, is-whole, follow, term-at}
@@ -33,11 +34,6 @@ passes b why at r e = ap (λ c. unless c why at r) e
 
 passes-not : {A : Type 0} (b : Bool) (why : Reason) (at : ℕ) (r : Read A) → b ≡ true → unless (not b) why at r ≡ r
 passes-not b why at r e = ap (λ c. unless (not c) why at r) e
-
--- The polynomial f falls from the term before it on.
-abbrev Falls : Before → Poly → Type 0
-Falls first f = Unit {0}
-Falls (after e) f = Under e f
 
 falls-below : (b : Before) (t : Term) (f : Poly) → Falls b (t ∷ f) → not-below (t .exps) b ≡ false
 unfolding not-below

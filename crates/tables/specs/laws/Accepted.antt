@@ -55,6 +55,11 @@ absent-above n e h k l =
     ap (λ (j : ℕ). getD e j 0) (omega arith) ∙ sym (getD-drop n e (k - n) 0) ∙ zero-places (drop n e) h (k - n)
 
 -- ── terms ──
+-- All of f is below the term before it.
+abbrev pub Falls : Before → Poly → Type 0
+Falls first f = Unit {0}
+Falls (after e) f = Under e f
+
 not-below-false : (e b : Exponents) → not-below e (after b) ≡ false → order e b ≡ Ordering·lt
 unfolding not-below
 not-below-false e b = go (order e b)
@@ -70,11 +75,6 @@ module _ (w : List ℕ) (p n : ℕ) where
       let r = term-read w p n e in
       let c : word w i 0 ≡ 0 → ⊥ = r .some in
       subst (λ (u : Term). (1 ≤ u .coef) × (u .coef < p) × (not-below (u .exps) b ≡ false)) (sym (r .is)) (omega (arith, c), r .residue, r .falls)
-
-  -- All of f is below the term before it.
-  abbrev Falls : Before → Poly → Type 0
-  Falls first f = Unit {0}
-  Falls (after e) f = Under e f
 
   chain-canonical : (m : ℕ) (b : Before) (at i : ℕ) (f : Poly) → TermChain w p n (m, b) at i f → Canonical p f × Falls b f
   chain-canonical m first at i [] l = (tt, tt)

@@ -15,7 +15,7 @@ use Rattle.records.proofs.Rows.{length-view}
 use Rattle.branches.specs.Area.{Stored, Area, Held, has-branch, with-open, capacity, Held-in}
 use Rattle.branches.proofs.LengthLaws.{same-capacity}
 use Rattle.representation.specs.Represent.{branch-of, system-of, state-of}
-use Rattle.steps.specs.declared.Division.{Division}
+use Rattle.pivots.specs.declared.Division.{Division}
 use Rattle.steps.specs.declared.Prepared.{Prepared}
 use Rattle.steps.specs.declared.Prepared.the-variants.{Done, Members, Stop}
 use Rattle.representation.specs.Ready.{Ready, limits-in}

@@ -33,12 +33,13 @@ use Rattle.representation.specs.laws.Monics.{remove-monic}
 use Rattle.representation.specs.laws.Tests.{is-one-terms, member-terms}
 use Rattle.representation.specs.laws.Steps.{chosen-at}
 use Rattle.representation.specs.laws.Replaced.{apply-close}
-use Rattle.steps.specs.declared.Division.{Division}
+use Rattle.pivots.specs.declared.Division.{Division}
+use Rattle.pivots.specs.Aimed.{division-of, aimed}
 use Rattle.representation.specs.Ready.{Ready}
 use Rattle.members.specs.Members.{rest-of-step}
-use Rattle.steps.specs.Pending.{Leads, Pivoted, Comes, division-of, aimed}
+use Rattle.steps.specs.Pending.{Leads, Pivoted, Comes}
 use Rattle.members.proofs.MadeLaws.{small-take}
-use Rattle.steps.proofs.RestLaws.{initial-few}
+use Rattle.pivots.proofs.RestLaws.{initial-few}
 use Rattle.steps.proofs.ChoiceLaws.{at-inside}
 
 -- ── loading ──

@@ -1,33 +1,22 @@
 -- What is left of a step when its rule has been found.
 use mathlib.Core.Path.{_≡_}
-use mathlib.Core.Bool.{true, false}
 use mathlib.Core.List.{List, [], map, reverse}
 use Prim.Native.Nat.{ℕ, _+_, _≤_, _<_}
 use lib.ListN.{length, getD, take}
 use Rattle.polynomials.specs.Packed.{terms}
 use Rattle.polynomials.specs.Division.{degree, leader, coefficient}
 use Rattle.polynomials.specs.Working.{Holds}
-use Rattle.rules.specs.Branch.{Found, none, found}
 use Rattle.rules.specs.Room.{Limits}
 use Rattle.rules.specs.Rule.{rule-with}
 use Rattle.rules.specs.Step.{Stepped, next, stopped, apply}
 use Rattle.records.specs.Records.{Rec}
-use Rattle.branches.specs.Area.{Stored, Area, Held, with-open, closed}
+use Rattle.branches.specs.Area.{Stored, Area, Held, with-open}
 use Rattle.representation.specs.Represent.{branch-of, system-of, state-of, chosen}
 use Rattle.representation.specs.Ready.{Ready}
 use Rattle.members.specs.Members.{Has-members, rest-of-step}
-use Rattle.steps.specs.declared.Division.{Division}
+use Rattle.pivots.specs.declared.Division.{Division}
 use Rattle.steps.specs.declared.Prepared.{Prepared}
 use Rattle.steps.specs.declared.Prepared.the-variants.{Done, Members, Stop, Crowded}
-
--- What rule 4 or 5 leaves to be divided, by the other polynomial that the pivot's variable leads; and the branch then.
-abbrev pub division-of : Found → ℕ → ℕ → ℕ → ℕ → Stored → Division
-division-of none k d n m b = record { k = k; degree = d; pivot = n; initial = m; closing = true; place = 0; left = length (b .Q) }
-division-of (found c) k d n m b = record { k = k; degree = d; pivot = n; initial = m; closing = false; place = c .place; left = 1 }
-
-abbrev pub aimed : Found → ℕ → Stored → Stored
-aimed none i b = closed i b
-aimed (found c) i b = b
 
 -- The member of P at `place` is led by v(k+1).
 abbrev pub Leads : ℕ → ℕ → Stored → Type 0

@@ -1,39 +1,19 @@
 // A step of the run in the work area: the rule that fits is found and applied, but for the divisions of rules 4 and 5.
 ghost use mathlib.Core.Path.{_≡_};
-ghost use mathlib.Core.Bool.{false, _||_};
-ghost use mathlib.Core.List.{List, [], map, reverse};
-ghost use Prim.Native.Nat.{ℕ, _+_, _≤_, _<_};
-ghost use lib.ListN.{length, getD};
-ghost use Rattle.polynomials.specs.Poly.{monic};
-ghost use Rattle.polynomials.specs.Packed.{terms};
+ghost use mathlib.Core.List.{List, map, reverse};
+ghost use Prim.Native.Nat.{_≤_, _<_};
+ghost use lib.ListN.{length};
 ghost use Rattle.records.specs.Records.{view};
-ghost use Rattle.branches.specs.Words.{is-one};
-ghost use Rattle.branches.specs.Area.{Stored, Held, Leaves, Opened, capacity, with-open, split-area, Held-in, When-open};
-ghost use Rattle.stored.specs.Stored.{Storable, member};
-ghost use Rattle.polynomials.specs.Division.{degree, leader, initial, rest};
-ghost use Rattle.rules.specs.Branch.{other};
+ghost use Rattle.branches.specs.Area.{Stored, capacity, with-open, Held-in, When-open};
 ghost use Rattle.rules.specs.Rule.{rule-with};
 ghost use Rattle.rules.specs.Step.{apply, step};
-ghost use Rattle.survey.specs.Survey.{All-hold};
-ghost use Rattle.representation.specs.Represent.{Sound, branch-of, system-of, chosen};
+ghost use Rattle.representation.specs.Represent.{branch-of, system-of, chosen};
 ghost use Rattle.steps.specs.declared.Prepared.the-variants.{Crowded};
 ghost use Rattle.representation.specs.Ready.{Ready, Modulus, limits-in};
-ghost use Rattle.steps.specs.Pending.{division-of, aimed, Leads, Prepares};
+ghost use Rattle.steps.specs.Pending.{Leads, Prepares};
+use pivots::Division;
 use survey::Choice;
-use survey::Other;
 use tables::Reason;
-
-// What a rule leaves to be divided by the pivot, whose words and whose initial's are so many: at rule 5 the last `left` members of Q, and at rule 4
-// the member of P at `place`, with `left` 1.
-pub struct Division {
-    pub k: u32,
-    pub degree: u64,
-    pub pivot: usize,
-    pub initial: usize,
-    pub closing: bool,
-    pub place: usize,
-    pub left: usize,
-}
 
 // What a step has done when its rule has been found. `Crowded`: the pivot is longer than the slice for it, and nothing was changed.
 pub enum Prepared {
@@ -41,84 +21,6 @@ pub enum Prepared {
     Members(Division),
     Stop(Reason),
     Crowded,
-}
-
-// Rule 4 or 5 for the pivot t, which stands in P at `place`: at rule 5 it goes to T.
-fn prepare_division(w: &mut [u32], k: u32, place: usize, t: &[u64], initial: usize) -> Division
-    requires { ⌜ Opened (now w) × (k < 8) × Storable (now t) ⌝ }
-    requires { ⌜ When-open (now w) (λ b bs ss. (p : ℕ) × All-hold p (b .P)) ⌝ }
-    requires { ⌜ When-open (now w) (λ b bs ss. (place < length (b .P)) × (getD (b .P) place [] ≡ now t)) ⌝ }
-    ensures { λ d. ⌜ When-open (now (w .entry)) (λ b bs ss.
-        (d ≡ division-of (other k place (branch-of b .P)) k (degree k (terms (now (t .entry)))) (length (now (t .entry))) initial b)
-        × Held (view (now (w .exit))) (capacity (now (w .entry))) (with-open (aimed (other k place (branch-of b .P)) place b) bs ss)) ⌝ }
-{
-    let degree = degrees::degree(t, k);
-    let pivot = t.len();
-    match survey::find_other(w, k, place) {
-        Other::At(j) => {
-            return Division {
-                k: k,
-                degree: degree,
-                pivot: pivot,
-                initial: initial,
-                closing: false,
-                place: j,
-                left: 1,
-            };
-        }
-        Other::None => {
-            changes::close(w, place, t);
-            let q = members::count_q(w);
-            return Division {
-                k: k,
-                degree: degree,
-                pivot: pivot,
-                initial: initial,
-                closing: true,
-                place: 0,
-                left: q,
-            };
-        }
-    }
-}
-
-// Whether f is 1 or in Q.
-fn is_settled(w: &[u32], f: &[u64]) -> bool
-    requires { ⌜ Opened (now w) ⌝ }
-    requires { ⌜ Storable (now f) ⌝ }
-    ensures { λ r. ⌜ When-open (now (w .entry)) (λ b bs ss.
-        r ≡ (is-one (now (f .entry)) || member (now (f .entry)) (b .Q))) ⌝ }
-{
-    if f.len() == 2 && f[0] == 1 && f[1] == 0 {
-        return true;
-    }
-    branches::find_q(w, f)
-}
-
-// Rule 3 for the pivot t, which stands in P at `place`, and its initial i. Whether there is room.
-fn apply_split(
-    w: &mut [u32],
-    p: u64,
-    k: u32,
-    place: usize,
-    t: &[u64],
-    i: &[u64],
-    r: &mut [u64],
-) -> bool
-    requires { ⌜ Opened (now w) × Modulus p × (512 ≤ length (now r)) ⌝ }
-    requires { ⌜ Sound p (now t) × (leader (terms (now t)) ≡ k + 1) ⌝ }
-    requires { ⌜ Sound p (now i) × (terms (now i) ≡ initial k (terms (now t))) ⌝ }
-    requires { ⌜ When-open (now w) (λ b bs ss.
-        (place < length (b .P)) × (getD (b .P) place [] ≡ now t) × (is-one (now i) ≡ false) × (member (now i) (b .Q) ≡ false)) ⌝ }
-    ensures { λ q. ⌜ When-open (now (w .entry)) (λ b bs ss.
-        (f : List ℕ) × Sound p f × (terms f ≡ monic p (rest k (terms (now (t .entry)))))
-        × Leaves (capacity (now (w .entry))) (split-area place (now (i .entry)) f b bs ss) q (view (now (w .exit)))) ⌝ }
-{
-    let m = i.len();
-    let l = t.len() - m;
-    sums::copy(t, m, r, 0);
-    sums::monic(p, &mut r[..l]);
-    splits::split(w, place, t, i, &r[..l])
 }
 
 // Rules 3 to 5 for the pivot in v(k+1), which stands in P at `place`: it and its initial are loaded into t and i, if it fits t.
@@ -146,11 +48,11 @@ fn with_pivot(
     }
     let n = branches::load_p(w, place, t);
     let m = terms::initial(&t[..n], k, i);
-    if is_settled(w, &i[..m]) {
-        let d = prepare_division(w, k, place, &t[..n], m);
+    if pivots::is_settled(w, &i[..m]) {
+        let d = pivots::prepare_division(w, k, place, &t[..n], m);
         return Prepared::Members(d);
     }
-    if apply_split(w, p, k, place, &t[..n], &i[..m], r) {
+    if pivots::apply_split(w, p, k, place, &t[..n], &i[..m], r) {
         return Prepared::Done;
     }
     Prepared::Stop(Reason::Room)

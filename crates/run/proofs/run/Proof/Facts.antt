@@ -23,7 +23,7 @@ use Rattle.tables.specs.declared.Reason.{Reason}
 use Rattle.tables.specs.declared.Reason.the-variants.{Room}
 use Rattle.rules.specs.Step.{Stepped, stopped, remainder-by}
 use Rattle.branches.specs.Area.{capacity}
-use Rattle.steps.specs.declared.Division.{Division}
+use Rattle.pivots.specs.declared.Division.{Division}
 use Rattle.steps.specs.declared.Prepared.{Prepared}
 use Rattle.steps.specs.declared.Prepared.the-variants.{Done, Members, Stop}
 use Rattle.representation.specs.Ready.{Modulus, limits-in}

@@ -7,9 +7,9 @@ use Rattle.rules.specs.Branch.{other}
 use Rattle.records.specs.Records.{view}
 use Rattle.branches.specs.Area.{Stored, Held, with-open, capacity, closed, Held-in}
 use Rattle.branches.proofs.LengthLaws.{held-by}
-use Rattle.steps.proofs.PrepareLaws.{aims-at, aims-all}
-use Rattle.steps.proofs.prepare_division.Statement.{statement}
-use Rattle.steps.proofs.prepare_division.Tie as tie
+use Rattle.pivots.proofs.AimLaws.{aims-at, aims-all}
+use Rattle.pivots.proofs.prepare_division.Statement.{statement}
+use Rattle.pivots.proofs.prepare_division.Tie as tie
 
 -- ── the places, and what is known there ──
 abbrev entry : tie.After-find-other → tie.Start

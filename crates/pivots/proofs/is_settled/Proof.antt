@@ -6,8 +6,8 @@ use borrow.Author.Needs.{needs}
 use Rattle.stored.specs.Stored.{member}
 use Rattle.branches.specs.Words.{is-one}
 use Rattle.changes.proofs.PutLaws.{one, not-one-by-length, not-one-by-coefficient, not-one-by-monomial}
-use Rattle.steps.proofs.is_settled.Statement.{statement}
-use Rattle.steps.proofs.is_settled.Tie as tie
+use Rattle.pivots.proofs.is_settled.Statement.{statement}
+use Rattle.pivots.proofs.is_settled.Tie as tie
 
 shared-slice-read-if2 : tie.Need-shared-slice-read-if2
 shared-slice-read-if2 c = search needs

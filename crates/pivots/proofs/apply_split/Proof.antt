@@ -13,9 +13,9 @@ use Rattle.stored.specs.Stored.{Storable}
 use Rattle.representation.specs.Represent.{Sound}
 use Rattle.representation.specs.laws.Sounds.{sound-storable}
 use Rattle.members.proofs.MadeLaws.{Made, made-length, made-monic, made-sound}
-use Rattle.steps.proofs.RestLaws.{Rest-in, rest-in, initial-inside}
-use Rattle.steps.proofs.apply_split.Statement.{statement}
-use Rattle.steps.proofs.apply_split.Tie as tie
+use Rattle.pivots.proofs.RestLaws.{Rest-in, rest-in, initial-inside}
+use Rattle.pivots.proofs.apply_split.Statement.{statement}
+use Rattle.pivots.proofs.apply_split.Tie as tie
 
 inside : (s : tie.Start) → length (s .args .i .now) ≤ length (s .args .t .now)
 inside s =

@@ -8,8 +8,8 @@ use lib.ListN.{length}
 use Rattle.rules.specs.Branch.{Found, none, found}
 use Rattle.records.specs.Records.{Rec}
 use Rattle.branches.specs.Area.{Stored, Held, with-open, closed}
-use Rattle.survey.specs.Survey.{other-place}
-use Rattle.survey.specs.declared.Other.the-variants.{None, At}
+use Rattle.search.specs.Search.{other-place}
+use Rattle.search.specs.declared.Other.the-variants.{None, At}
 use Rattle.pivots.specs.declared.Division.{Division}
 use Rattle.pivots.specs.Aimed.{division-of, aimed}
 

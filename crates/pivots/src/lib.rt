@@ -12,11 +12,11 @@ ghost use Rattle.stored.specs.Stored.{Storable, member};
 ghost use Rattle.branches.specs.Words.{is-one};
 ghost use Rattle.branches.specs.Area.{Held, Leaves, Opened, capacity, with-open, split-area, When-open};
 ghost use Rattle.rules.specs.Branch.{other};
-ghost use Rattle.survey.specs.Survey.{All-hold};
+ghost use Rattle.heads.specs.Heads.{All-hold};
 ghost use Rattle.representation.specs.Represent.{Sound, branch-of};
 ghost use Rattle.representation.specs.Ready.{Modulus};
 ghost use Rattle.pivots.specs.Aimed.{division-of, aimed};
-use survey::Other;
+use search::Other;
 
 // What a rule leaves to be divided by the pivot, whose words and whose initial's are so many: at rule 5 the last `left` members of Q, and at rule 4
 // the member of P at `place`, with `left` 1.

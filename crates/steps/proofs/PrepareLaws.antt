@@ -3,7 +3,7 @@ use mathlib.Core.Path.{_≡_, subst}
 use mathlib.Core.List.{List, [], _∷_}
 use Prim.Native.Nat.{ℕ}
 use Rattle.representation.specs.Represent.{All-sound}
-use Rattle.survey.specs.Survey.{All-hold}
+use Rattle.heads.specs.Heads.{All-hold}
 use Rattle.steps.specs.declared.Prepared.{Prepared}
 use Rattle.steps.specs.declared.Prepared.the-variants.{Done, Members, Stop, Crowded}
 

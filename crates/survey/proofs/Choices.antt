@@ -12,7 +12,8 @@ use Rattle.polynomials.specs.laws.Parts.{leader-places}
 use Rattle.rules.specs.Branch.{Branch, some-one, some-zero, highest-leader, pivot}
 use Rattle.survey.specs.declared.Choice.{Choice}
 use Rattle.survey.specs.declared.Choice.the-variants.{Drop, List as Lists, Pivot}
-use Rattle.survey.specs.Survey.{choice, choice-of-P, pivot-place}
+use Rattle.search.specs.Search.{pivot-place}
+use Rattle.survey.specs.Survey.{choice, choice-of-P}
 
 abbrev by : Bool → List Poly → Choice
 by t fs = elim t [ true ↦ Drop | false ↦ choice-of-P fs ]

@@ -8,7 +8,7 @@ use Rattle.rules.specs.Room.{Limits}
 use Rattle.rules.specs.Step.{Stepped}
 use Rattle.records.specs.Records.{view}
 use Rattle.branches.specs.Area.{Stored, with-open, capacity, Held-in}
-use Rattle.survey.specs.Survey.{All-hold}
+use Rattle.heads.specs.Heads.{All-hold}
 use Rattle.representation.specs.Represent.{branch-of, chosen}
 use Rattle.representation.specs.laws.Steps.{drop-state, list-state}
 use Rattle.representation.specs.Ready.{Ready, limits-in}

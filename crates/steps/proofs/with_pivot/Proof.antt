@@ -16,7 +16,7 @@ use Rattle.rules.specs.Rule.{Rule, split, divide-or-close, rule-with}
 use Rattle.stored.specs.Stored.{member, Storable}
 use Rattle.branches.specs.Words.{is-one}
 use Rattle.branches.specs.Area.{Stored, with-open, capacity, Held-in}
-use Rattle.survey.specs.Survey.{All-hold}
+use Rattle.heads.specs.Heads.{All-hold}
 use Rattle.representation.specs.Represent.{branch-of, chosen}
 use Rattle.representation.specs.laws.Sounds.{sound-storable}
 use Rattle.representation.specs.Ready.{Ready, limits-in}

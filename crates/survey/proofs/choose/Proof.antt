@@ -13,7 +13,9 @@ use Rattle.branches.specs.Area.{Stored, capacity, with-open, Held-in}
 use Rattle.polynomials.specs.Packed.{terms}
 use Rattle.rules.specs.Branch.{some-one, some-zero, highest-leader}
 use Rattle.representation.specs.Represent.{branch-of}
-use Rattle.survey.specs.Survey.{All-hold, choice, choice-of-P, pivot-place}
+use Rattle.heads.specs.Heads.{All-hold}
+use Rattle.search.specs.Search.{pivot-place}
+use Rattle.survey.specs.Survey.{choice, choice-of-P}
 use Rattle.survey.proofs.Choices.{choice-one, choice-zero, choice-other, choice-list, choice-pivot, leaders-at-most-8, length-map-terms}
 use Rattle.survey.proofs.Open.{Lies, lies}
 use Rattle.survey.proofs.choose.Statement.{statement}

@@ -11,7 +11,8 @@ use Rattle.stored.specs.Stored.{skip-to}
 use Rattle.branches.specs.Area.{Stored, capacity, with-open, Held-in}
 use Rattle.polynomials.specs.Packed.{terms}
 use Rattle.rules.specs.Branch.{other}
-use Rattle.survey.specs.Survey.{All-hold, other-place}
+use Rattle.heads.specs.Heads.{All-hold}
+use Rattle.search.specs.Search.{other-place}
 use Rattle.survey.proofs.Open.{Lies, lies}
 use Rattle.survey.proofs.find_other.Statement.{statement}
 use Rattle.survey.proofs.find_other.Tie as tie

@@ -9,9 +9,9 @@ use Rattle.records.proofs.Rows.{length-view}
 use Rattle.stored.specs.Stored.{size-at, skip-to}
 use Rattle.stored.proofs.Laws.{skip-turn, skip-in}
 use Rattle.rules.specs.Branch.{some-zero}
-use Rattle.survey.proofs.Walk.{all-at, all-turn, all-end, zero-at, not-zero-at}
-use Rattle.survey.proofs.has_zero.Statement.{statement}
-use Rattle.survey.proofs.has_zero.Tie as tie
+use Rattle.heads.proofs.Walk.{all-at, all-turn, all-end, zero-at, not-zero-at}
+use Rattle.heads.proofs.has_zero.Statement.{statement}
+use Rattle.heads.proofs.has_zero.Tie as tie
 
 abbrev Inv-loop : tie.InvT-loop
 Inv-loop w at k i₀ left₀ i left =

@@ -11,10 +11,10 @@ use Rattle.polynomials.specs.Division.{degree, leader}
 use Rattle.polynomials.specs.Packed.{bytes, terms}
 use Rattle.polynomials.specs.laws.Packed.{byte-small}
 use Rattle.representation.specs.laws.Sizes.{length-terms-at}
-use Rattle.survey.proofs.Walk.{monomial-at, led-some, degree-at-first}
-use Rattle.survey.proofs.Pass.{rank-led, rank-unled}
-use Rattle.survey.proofs.rank_at.Statement.{statement}
-use Rattle.survey.proofs.rank_at.Tie as tie
+use Rattle.heads.proofs.Walk.{monomial-at, led-some, degree-at-first}
+use Rattle.search.proofs.Pass.{rank-led, rank-unled}
+use Rattle.search.proofs.rank_at.Statement.{statement}
+use Rattle.search.proofs.rank_at.Tie as tie
 
 -- Behind the test v(v+1) leads the polynomial.
 led : (c : tie.Else1) → leader (terms (words-at (view (c .before .before .before .args .w .now)) (c .before .before .before .args .i))) ≡ suc (c .before .before .before .args .v)

@@ -9,11 +9,11 @@ use Rattle.records.specs.Records.{room, view}
 use Rattle.stored.specs.Stored.{size-at, words-at, skip-to, polys-at}
 use Rattle.stored.proofs.Laws.{skip-turn, skip-in}
 use Rattle.polynomials.specs.Packed.{terms}
-use Rattle.survey.specs.Survey.{All-hold}
-use Rattle.survey.proofs.Walk.{all-at, all-turn, all-end, all-hold-turn}
-use Rattle.survey.proofs.Pass.{passed, passed-turn, passed-all, all-hold-bounded}
-use Rattle.survey.proofs.pivot_place.Statement.{statement}
-use Rattle.survey.proofs.pivot_place.Tie as tie
+use Rattle.heads.specs.Heads.{All-hold}
+use Rattle.heads.proofs.Walk.{all-at, all-turn, all-end, all-hold-turn}
+use Rattle.search.proofs.Pass.{passed, passed-turn, passed-all, all-hold-bounded}
+use Rattle.search.proofs.pivot_place.Statement.{statement}
+use Rattle.search.proofs.pivot_place.Tie as tie
 
 abbrev Inv-loop : tie.InvT-loop
 Inv-loop w at k v i₀ j₀ place₀ least₀ i j place least =

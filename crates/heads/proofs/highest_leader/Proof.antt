@@ -10,10 +10,10 @@ use Rattle.stored.proofs.Laws.{skip-turn, skip-in}
 use Rattle.polynomials.specs.Division.{leader}
 use Rattle.polynomials.specs.Packed.{terms}
 use Rattle.rules.specs.Branch.{highest-leader}
-use Rattle.survey.specs.Survey.{All-hold}
-use Rattle.survey.proofs.Walk.{all-at, all-turn, all-end, all-hold-turn}
-use Rattle.survey.proofs.highest_leader.Statement.{statement}
-use Rattle.survey.proofs.highest_leader.Tie as tie
+use Rattle.heads.specs.Heads.{All-hold}
+use Rattle.heads.proofs.Walk.{all-at, all-turn, all-end, all-hold-turn}
+use Rattle.heads.proofs.highest_leader.Statement.{statement}
+use Rattle.heads.proofs.highest_leader.Tie as tie
 
 abbrev Inv-loop : tie.InvT-loop
 Inv-loop w at k i₀ left₀ best₀ i left best =

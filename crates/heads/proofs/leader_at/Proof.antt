@@ -9,9 +9,9 @@ use Rattle.records.proofs.Rows.{length-view}
 use Rattle.stored.specs.Stored.{size-at}
 use Rattle.polynomials.specs.Division.{highest}
 use Rattle.polynomials.specs.Packed.{bytes}
-use Rattle.survey.proofs.Walk.{no-leader-at, leader-at-first}
-use Rattle.survey.proofs.leader_at.Statement.{statement}
-use Rattle.survey.proofs.leader_at.Tie as tie
+use Rattle.heads.proofs.Walk.{no-leader-at, leader-at-first}
+use Rattle.heads.proofs.leader_at.Statement.{statement}
+use Rattle.heads.proofs.leader_at.Tie as tie
 
 get0-requires : tie.Need-get0-requires
 get0-requires c κs = search needs

@@ -11,11 +11,11 @@ use Rattle.stored.specs.Stored.{size-at, words-at, skip-to, polys-at}
 use Rattle.stored.proofs.Laws.{skip-turn, skip-in}
 use Rattle.polynomials.specs.Division.{leader}
 use Rattle.polynomials.specs.Packed.{terms}
-use Rattle.survey.specs.Survey.{All-hold}
-use Rattle.survey.proofs.Walk.{all-at, all-turn, all-end, all-hold-turn}
-use Rattle.survey.proofs.Others.{scan, scan-pivot, scan-led, scan-unled, scan-all}
-use Rattle.survey.proofs.other_from.Statement.{statement}
-use Rattle.survey.proofs.other_from.Tie as tie
+use Rattle.heads.specs.Heads.{All-hold}
+use Rattle.heads.proofs.Walk.{all-at, all-turn, all-end, all-hold-turn}
+use Rattle.search.proofs.Others.{scan, scan-pivot, scan-led, scan-unled, scan-all}
+use Rattle.search.proofs.other_from.Statement.{statement}
+use Rattle.search.proofs.other_from.Tie as tie
 
 abbrev Inv-loop : tie.InvT-loop
 Inv-loop w at k v place i₀ j₀ i j =

@@ -10,9 +10,9 @@ use lib.Dec.{eqb}
 use Rattle.polynomials.specs.Poly.{Poly}
 use Rattle.polynomials.specs.Division.{leader}
 use Rattle.rules.specs.Branch.{led-by, Found, none, found, behind, earliest, other}
-use Rattle.survey.specs.declared.Other.{Other}
-use Rattle.survey.specs.declared.Other.the-variants.{None, At}
-use Rattle.survey.specs.Survey.{other-place}
+use Rattle.search.specs.declared.Other.{Other}
+use Rattle.search.specs.declared.Other.the-variants.{None, At}
+use Rattle.search.specs.Search.{other-place}
 
 -- What is found among those from place j on.
 abbrev from : ℕ → Found → Other

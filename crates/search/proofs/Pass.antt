@@ -19,8 +19,9 @@ use Rattle.polynomials.specs.laws.Packed.{byte-small}
 use Rattle.polynomials.specs.laws.Degree.{degree-at-most}
 use Rattle.polynomials.specs.laws.Terms.{length-terms}
 use Rattle.rules.specs.Branch.{led-by, Chosen, better, prefer, pivot}
-use Rattle.survey.specs.Rank.{rank}
-use Rattle.survey.specs.Survey.{All-hold, pivot-place}
+use Rattle.search.specs.Rank.{rank}
+use Rattle.heads.specs.Heads.{All-hold}
+use Rattle.search.specs.Search.{pivot-place}
 
 -- ── ranks ──
 -- Bounds under which the rank orders degrees, and then terms.

@@ -7,9 +7,9 @@ use Rattle.records.specs.Records.{room, view}
 use Rattle.stored.specs.Stored.{size-at, skip-to}
 use Rattle.stored.proofs.Laws.{skip-turn, skip-in}
 use Rattle.rules.specs.Branch.{some-one}
-use Rattle.survey.proofs.Walk.{all-at, all-turn, all-end}
-use Rattle.survey.proofs.has_one.Statement.{statement}
-use Rattle.survey.proofs.has_one.Tie as tie
+use Rattle.heads.proofs.Walk.{all-at, all-turn, all-end}
+use Rattle.heads.proofs.has_one.Statement.{statement}
+use Rattle.heads.proofs.has_one.Tie as tie
 
 abbrev Inv-loop : tie.InvT-loop
 Inv-loop w at k i₀ left₀ i left =

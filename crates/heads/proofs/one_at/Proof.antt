@@ -13,11 +13,11 @@ use Rattle.records.proofs.Rows.{length-view}
 use Rattle.stored.specs.Stored.{size-at}
 use Rattle.polynomials.specs.Packed.{bytes}
 use Rattle.rules.specs.Branch.{all-zeros}
-use Rattle.survey.proofs.Walk.{monomial-at}
+use Rattle.heads.proofs.Walk.{monomial-at}
 use Rattle.representation.specs.laws.Tests.{all-zeros-bytes}
-use Rattle.survey.proofs.One.{not-one-at, one-at-first}
-use Rattle.survey.proofs.one_at.Statement.{statement}
-use Rattle.survey.proofs.one_at.Tie as tie
+use Rattle.heads.proofs.One.{not-one-at, one-at-first}
+use Rattle.heads.proofs.one_at.Statement.{statement}
+use Rattle.heads.proofs.one_at.Tie as tie
 
 get0-requires : tie.Need-get0-requires
 get0-requires c κs = search needs

@@ -20,7 +20,7 @@ use Rattle.polynomials.specs.Working.{Holds}
 use Rattle.polynomials.specs.laws.Places.{Places, places-terms}
 use Rattle.polynomials.specs.laws.Parts.{above-leader, degree-first, leader-first}
 use Rattle.rules.specs.Branch.{is-zero}
-use Rattle.survey.specs.Survey.{All-hold}
+use Rattle.heads.specs.Heads.{All-hold}
 
 -- ── walking ──
 pub all-hold-turn : (p : ℕ) (v : List Rec) (i left : ℕ) → 0 < left → All-hold p (polys-at v i left)

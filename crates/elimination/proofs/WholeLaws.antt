@@ -16,12 +16,12 @@ use Rattle.rules.specs.Run.{Ended, after-step, run, start, run-of}
 use Rattle.rules.specs.Eliminate.{Eliminated, turned-back, delivered, eliminated, limits-of}
 use Rattle.branches.specs.Area.{Area, Held, capacity}
 use Rattle.representation.specs.Represent.{state-of}
-use Rattle.elimination.specs.declared.Answer.{Answer}
+use Rattle.delivery.specs.declared.Answer.{Answer}
 use Rattle.run.specs.declared.Outcome.the-variants.{Refused}
 use Rattle.representation.specs.Ready.{Ready, limits-in}
 use Rattle.run.specs.Stretch.{Ran}
 use Rattle.loading.specs.Started.{Started}
-use Rattle.elimination.specs.Delivered.{Delivered}
+use Rattle.delivery.specs.Delivered.{Delivered}
 use Rattle.loading.proofs.StartLaws.{limits-are}
 
 module _ (w : List ℕ) (work output limit : ℕ) where

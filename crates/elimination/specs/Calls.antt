@@ -14,8 +14,8 @@ use Rattle.rules.specs.Cause.{Cause}
 use Rattle.rules.specs.Claims.{steps-within, refused-cause, cause-refuses, accepted-alike}
 use Rattle.run.specs.declared.Outcome.{Outcome}
 use Rattle.run.specs.declared.Outcome.the-variants.{Systems, Refused}
-use Rattle.elimination.specs.declared.Answer.{Answer}
-use Rattle.elimination.specs.Answer.{answer-of}
+use Rattle.delivery.specs.declared.Answer.{Answer}
+use Rattle.delivery.specs.Answer.{answer-of}
 use Rattle.elimination.specs.Eliminates.{Eliminates}
 
 steps-are : (E : Eliminated) → answer-of E .steps ≡ steps-of E

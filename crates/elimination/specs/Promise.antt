@@ -23,9 +23,9 @@ use Rattle.rules.specs.Written.{list-records}
 use Rattle.rules.specs.Eliminate.{Eliminated, listed, turned-back, eliminated, output-after}
 use Rattle.rules.specs.laws.Promised.{says}
 use Rattle.rules.specs.Promise.{ListPromise, PointPromise, promise}
-use Rattle.elimination.specs.declared.Answer.{Answer}
+use Rattle.delivery.specs.declared.Answer.{Answer}
 use Rattle.run.specs.declared.Outcome.the-variants.{Systems}
-use Rattle.elimination.specs.Answer.{answer-of}
+use Rattle.delivery.specs.Answer.{answer-of}
 use Rattle.elimination.specs.Eliminates.{Eliminates}
 use Rattle.elimination.specs.Numbers.{outcome-numbers}
 

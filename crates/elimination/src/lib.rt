@@ -1,6 +1,4 @@
 // Elimination of a table, whole: the run in the lent work area, and the written list.
-mod deliver;
-
 ghost use mathlib.Core.Path.{_≡_};
 ghost use Prim.Native.Nat.{_-_, _/_, _≤_};
 ghost use lib.ListN.{length};
@@ -12,18 +10,13 @@ ghost use Rattle.rules.specs.Run.{run, run-of};
 ghost use Rattle.rules.specs.Eliminate.{delivered, limits-of};
 ghost use Rattle.representation.specs.Ready.{Ready, Modulus, limits-in};
 ghost use Rattle.run.specs.Stretch.{Ran};
-ghost use Rattle.elimination.specs.Delivered.{Delivered};
+ghost use Rattle.delivery.specs.Delivered.{Delivered};
 ghost use Rattle.elimination.specs.Eliminates.{Eliminates};
+pub use delivery::Answer;
 use run::Ending;
 pub use run::Outcome;
 use tables::ReadOutcome;
 use tables::Reason;
-
-// The whole steps finished, and the outcome.
-pub struct Answer {
-    pub steps: u32,
-    pub outcome: Outcome,
-}
 
 // Eliminates an accepted table. The work area may hold anything, before and afterwards.
 fn eliminate_accepted(table: &[u32], work: &mut [u32], output: &mut [u32], limit: u32) -> Answer
@@ -45,7 +38,7 @@ fn eliminate_accepted(table: &[u32], work: &mut [u32], output: &mut [u32], limit
     } else {
         run_long(work, p, limit, 0)
     };
-    deliver::deliver(table, work, output, ran)
+    delivery::deliver(table, work, output, ran)
 }
 
 // Runs in short scratch, and goes on in long scratch where the run pauses: a small job need not clear what only a large one uses.

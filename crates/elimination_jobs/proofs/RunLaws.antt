@@ -4,8 +4,8 @@ use mathlib.Core.List.{List}
 use Prim.Native.Nat.{ℕ, zero, suc}
 use lib.ListN.{length, replicate, length-replicate}
 use Rattle.rules.specs.Eliminate.{eliminated, output-after}
-use Rattle.elimination.specs.declared.Answer.{Answer}
-use Rattle.elimination.specs.Answer.{answer-of}
+use Rattle.delivery.specs.declared.Answer.{Answer}
+use Rattle.delivery.specs.Answer.{answer-of}
 use Rattle.elimination_jobs.specs.declared.job.Heading.{Heading}
 use Rattle.elimination_jobs.specs.Heading.{nonzero, heading-of}
 

@@ -4,7 +4,7 @@ ghost use mathlib.Core.List.{[], _∷_};
 ghost use Prim.Native.Nat.{_+_, _≤_, min};
 ghost use lib.ListN.{length, replicate};
 ghost use Rattle.rules.specs.Eliminate.{eliminated, output-after};
-ghost use Rattle.elimination.specs.Answer.{answer-of};
+ghost use Rattle.delivery.specs.Answer.{answer-of};
 ghost use Rattle.lines.specs.Text.{LineAdded};
 ghost use Rattle.elimination_jobs.specs.Heading.{heading-of, nonzero, Shaped};
 use elimination::Answer;

@@ -13,8 +13,8 @@ use Rattle.rules.specs.Written.{list-records}
 use Rattle.rules.specs.Eliminate.{Eliminated, listed, turned-back, eliminated, output-after}
 use Rattle.rules.specs.laws.Lengths.{length-list}
 use Rattle.rules.specs.laws.WrittenAgain.{listed-delivered}
-use Rattle.elimination.specs.declared.Answer.{Answer}
-use Rattle.elimination.specs.Answer.{answer-of}
+use Rattle.delivery.specs.declared.Answer.{Answer}
+use Rattle.delivery.specs.Answer.{answer-of}
 use Rattle.extent.specs.Extent.{extent}
 use Rattle.extent.specs.laws.Extent.{extent-of-list}
 use Rattle.input.specs.Input.{words-of}

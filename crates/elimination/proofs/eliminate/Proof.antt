@@ -8,7 +8,7 @@ use Rattle.tables.specs.Solve.{reading}
 use Rattle.tables.specs.declared.Reading.{Reading}
 use Rattle.rules.specs.Run.{run-of}
 use Rattle.rules.specs.Eliminate.{Eliminated, turned-back, delivered, eliminated, limits-of, output-after}
-use Rattle.elimination.specs.Answer.{answer-of}
+use Rattle.delivery.specs.Answer.{answer-of}
 use Rattle.tables.specs.laws.Chains.{reading-good, reading-refused}
 use Rattle.elimination.proofs.WholeLaws.{eliminated-refused, eliminated-accepted}
 use Rattle.elimination.proofs.eliminate.Statement.{statement}

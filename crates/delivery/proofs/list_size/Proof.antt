@@ -1,10 +1,10 @@
--- `deliver::list_size` meets its contract: the systems lie from the control record's third word to the end of the work area.
+-- `list_size` meets its contract: the systems lie from the control record's third word to the end of the work area.
 use native.Mathlib.Omega.{arith}
 use borrow.Author.Needs.{needs}
 use Rattle.records.proofs.Rows.{length-view}
-use Rattle.elimination.proofs.DeliverLaws.{some-records, top-within, records-needed}
-use Rattle.elimination.proofs.deliver.list_size.Statement.{statement}
-use Rattle.elimination.proofs.deliver.list_size.Tie as tie
+use Rattle.delivery.proofs.DeliverLaws.{some-records, top-within, records-needed}
+use Rattle.delivery.proofs.list_size.Statement.{statement}
+use Rattle.delivery.proofs.list_size.Tie as tie
 
 get2-requires : tie.Need-get2-requires
 get2-requires c κs = let s = c .before in omega (arith, some-records (s .pre .1), length-view (s .args .work .now))

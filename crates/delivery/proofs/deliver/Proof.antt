@@ -1,4 +1,4 @@
--- `deliver::deliver` meets its contract: by the outcome of the run, and by the room that its list finds in the output.
+-- `deliver` meets its contract: by the outcome of the run, and by the room that its list finds in the output.
 use mathlib.Core.List.{List, []}
 use Prim.Native.Nat.{_≤_}
 use native.Mathlib.Omega.{arith}
@@ -8,10 +8,10 @@ use Rattle.tables.specs.laws.Accepted.{TableRead, table-read}
 use Rattle.tables.specs.laws.Chains.{readable-words}
 use Rattle.branches.specs.Area.{Stored, Held-in}
 use Rattle.representation.specs.Represent.{All-listed}
-use Rattle.elimination.proofs.DeliverLaws.{listed-known}
-use Rattle.elimination.proofs.AnswerLaws.{refused-run, left-systems, too-long, list-written}
-use Rattle.elimination.proofs.deliver.deliver.Statement.{statement}
-use Rattle.elimination.proofs.deliver.deliver.Tie as tie
+use Rattle.delivery.proofs.DeliverLaws.{listed-known}
+use Rattle.delivery.proofs.AnswerLaws.{refused-run, left-systems, too-long, list-written}
+use Rattle.delivery.proofs.deliver.Statement.{statement}
+use Rattle.delivery.proofs.deliver.Tie as tie
 
 -- ── the call ──
 module _ (s : tie.Start) where

@@ -17,10 +17,10 @@ use Rattle.rules.specs.Eliminate.{Eliminated, listed, turned-back, delivered}
 use Rattle.branches.specs.Area.{Stored, Held}
 use Rattle.representation.specs.Represent.{All-listed, system-of}
 use Rattle.writing.specs.Listed.{listing-of}
-use Rattle.elimination.specs.declared.Answer.{Answer}
+use Rattle.delivery.specs.declared.Answer.{Answer}
 use Rattle.run.specs.declared.Outcome.the-variants.{Systems, Refused}
 use Rattle.run.specs.Stretch.{steps-of, outcome-of, Ran}
-use Rattle.elimination.specs.Delivered.{Delivered}
+use Rattle.delivery.specs.Delivered.{Delivered}
 
 -- What is known of the records that the list of the systems in the work area needs.
 abbrev pub Needs : List Rec → ℕ → ℕ → Type 0

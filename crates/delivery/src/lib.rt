@@ -1,4 +1,4 @@
-// The systems of a finished run, written to the output if they fit.
+// What an elimination hands over: its answer, and the systems of a finished run, written to the output if they fit.
 ghost use mathlib.Core.Path.{_≡_};
 ghost use mathlib.Core.List.{List, [], map, reverse};
 ghost use Prim.Native.Nat.{_/_};
@@ -11,10 +11,15 @@ ghost use Rattle.rules.specs.Eliminate.{delivered};
 ghost use Rattle.branches.specs.Area.{Stored, capacity, Held-in};
 ghost use Rattle.representation.specs.Represent.{All-listed, system-of};
 ghost use Rattle.run.specs.Stretch.{Ran};
-ghost use Rattle.elimination.specs.Delivered.{Delivered};
-use crate::Answer;
+ghost use Rattle.delivery.specs.Delivered.{Delivered};
 use run::Outcome;
 use tables::Reason;
+
+// The whole steps finished, and the outcome.
+pub struct Answer {
+    pub steps: u32,
+    pub outcome: Outcome,
+}
 
 // How many records the list of the systems in the work area needs.
 fn list_size(work: &[u32]) -> usize

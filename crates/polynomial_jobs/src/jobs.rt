@@ -26,8 +26,8 @@ fn are_operands(p: u32, f: &[u64], g: &[u64]) -> bool
     ensures { λ r. ⌜ (r ≡ true → Prime p × (p < 2147483648) × Holds p (now (f .entry)) × Holds p (now (g .entry))) ⌝ }
 {
     if primes::is_prime(p) {
-        if terms::is_polynomial(p as u64, f) {
-            return terms::is_polynomial(p as u64, g);
+        if forms::is_polynomial(p as u64, f) {
+            return forms::is_polynomial(p as u64, g);
         }
     }
     false
@@ -42,7 +42,7 @@ fn all(p: u64, f: &[u64], g: &[u64])
     print::polynomial(b"g", g);
     product(p, f, g);
     difference(p, f, g);
-    print::truth(b"equal", terms::equal(f, g));
+    print::truth(b"equal", forms::equal(f, g));
     monic(p, f);
     split(p, f);
     divide(p, f, g);
@@ -88,7 +88,7 @@ fn make_monic(p: u64, f: &[u64], x: &mut [u64])
 {
     sums::monic(p, x);
     print::polynomial(b"monic", x);
-    print::truth(b"equal", terms::equal(x, f));
+    print::truth(b"equal", forms::equal(x, f));
 }
 
 // Copies f to the first words of x; how many.

@@ -1,57 +1,11 @@
-// The parts of a polynomial: leading variable, initial and rest; equality; and whether words hold a polynomial.
+// The parts of a polynomial: leading variable, initial and rest.
 ghost use mathlib.Core.Path.{_≡_};
 ghost use Prim.Native.Nat.{ℕ, _+_, _≤_};
 ghost use lib.ListN.{length};
-ghost use Rattle.polynomials.specs.Poly.{equal};
 ghost use Rattle.polynomials.specs.Canonical.{Canonical};
 ghost use Rattle.polynomials.specs.Division.{leader, initial, rest};
 ghost use Rattle.polynomials.specs.Packed.{terms};
-ghost use Rattle.polynomials.specs.Working.{Pairs, Written, Split, is-held};
-
-// Whether f holds a polynomial: at most 256 terms that strictly fall, with coefficients 1 to p - 1.
-pub fn is_polynomial(p: u64, f: &[u64]) -> bool
-    ensures { λ r. ⌜ r ≡ is-held p (now (f .entry)) ⌝ }
-{
-    if f.len() % 2 == 1 {
-        return false;
-    }
-    if 512 < f.len() {
-        return false;
-    }
-    let mut i = 0;
-    while i < f.len() {
-        if f[i] == 0 {
-            return false;
-        }
-        if p <= f[i] {
-            return false;
-        }
-        if i + 2 < f.len() && f[i + 1] <= f[i + 3] {
-            return false;
-        }
-        i += 2;
-    }
-    true
-}
-
-// Whether two polynomials are equal.
-pub fn equal(f: &[u64], g: &[u64]) -> bool
-    requires { ⌜ Pairs (now f) ⌝ }
-    requires { ⌜ Pairs (now g) ⌝ }
-    ensures { λ r. ⌜ r ≡ equal (terms (now (f .entry))) (terms (now (g .entry))) ⌝ }
-{
-    if f.len() != g.len() {
-        return false;
-    }
-    let mut i = 0;
-    while i < f.len() {
-        if f[i] != g[i] {
-            return false;
-        }
-        i += 1;
-    }
-    true
-}
+ghost use Rattle.polynomials.specs.Working.{Pairs, Written, Split};
 
 // The leading variable: k for vk, 0 for a polynomial without one. It stands in the first term.
 pub fn leader(f: &[u64]) -> u32

@@ -8,9 +8,9 @@ use borrow.Author.Tests.{leb-true, leb-false}
 use lib.ListN.{length, drop}
 use Rattle.polynomials.specs.Packed.{terms}
 use Rattle.polynomials.specs.Working.{is-canonical, is-held}
-use Rattle.terms.proofs.HeldLaws.{no-pairs, too-long, tested-terms, passed-all, zero-coefficient, no-residue, no-fall, passed-last, passed-falling}
-use Rattle.terms.proofs.is_polynomial.Statement.{statement}
-use Rattle.terms.proofs.is_polynomial.Tie as tie
+use Rattle.forms.proofs.HeldLaws.{no-pairs, too-long, tested-terms, passed-all, zero-coefficient, no-residue, no-fall, passed-last, passed-falling}
+use Rattle.forms.proofs.is_polynomial.Statement.{statement}
+use Rattle.forms.proofs.is_polynomial.Tie as tie
 
 abbrev Inv-loop : tie.InvT-loop
 Inv-loop p f i₀ i = (i % 2 ≡ 0) × (length f % 2 ≡ 0) × (is-canonical p (terms (drop i f)) ≡ is-held p f)

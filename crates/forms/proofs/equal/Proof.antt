@@ -10,8 +10,8 @@ use Rattle.polynomials.specs.Poly.{equal}
 use Rattle.polynomials.specs.Packed.{terms}
 use Rattle.polynomials.specs.laws.Terms.{words-of-terms}
 use Rattle.polynomials.specs.laws.Equal.{equal-refl, unequal, terms-inj}
-use Rattle.terms.proofs.equal.Statement.{statement}
-use Rattle.terms.proofs.equal.Tie as tie
+use Rattle.forms.proofs.equal.Statement.{statement}
+use Rattle.forms.proofs.equal.Tie as tie
 
 abbrev Inv-loop : tie.InvT-loop
 Inv-loop f g i₀ i = (k : ℕ) → k < i → getD f k 0 ≡ getD g k 0

@@ -1,3 +1,2 @@
 pub mod Divisors
-pub mod Montgomery
 pub mod laws

@@ -1,4 +1,1 @@
-pub mod Root
-pub mod Wheel
-pub mod Montgomery
 pub mod Products

@@ -1,7 +1,7 @@
 -- `primes::is_prime` meets its contract: 2^31 and more, numbers below 2, those that 2, 3 or 5 divides, and for the others the wheel below 2^16, the products from there on.
 use borrow.Author.Needs.{needs}
-use Rattle.primes.specs.laws.Root.{test-small, modulus-below, modulus-above}
-use Rattle.primes.specs.laws.Wheel.{divided-by-prime, two-prime, three-prime, five-prime}
+use Rattle.wheel.specs.laws.Root.{test-small, modulus-below, modulus-above}
+use Rattle.wheel.specs.laws.Wheel.{divided-by-prime, two-prime, three-prime, five-prime}
 use Rattle.primes.proofs.is_prime.Statement.{statement}
 use Rattle.primes.proofs.is_prime.Tie as tie
 

@@ -6,7 +6,7 @@ use native.Mathlib.Nat.{mul-le-mul, mod-lt}
 use native.Mathlib.Omega.{arith}
 use borrow.Author.Needs.{needs}
 use Rattle.residues.specs.laws.Width.{product-fits}
-use Rattle.primes.specs.laws.Root.{root-below}
+use Rattle.wheel.specs.laws.Root.{root-below}
 use Rattle.primes.specs.laws.Products.{Gathered, gathered-none, gathered-turn, gathered-test}
 use Rattle.primes.proofs.is_prime_by_products.Statement.{statement}
 use Rattle.primes.proofs.is_prime_by_products.Tie as tie

@@ -10,11 +10,12 @@ use Rattle.residues.specs.Prime.{Prime, is-prime}
 use Rattle.residues.specs.laws.Booleans.{false-of}
 use Rattle.residues.specs.laws.Inverse.{euclid-or}
 use Rattle.residues.specs.laws.Prime.{is-prime-sound}
-use Rattle.primes.specs.Divisors.{Coprime30, Common}
-use Rattle.primes.specs.Montgomery.{NegatedInverse, Reduced}
-use Rattle.primes.specs.laws.Montgomery.{reduced-divided, divided-reduced}
-use Rattle.primes.specs.laws.Root.{root-below, test-yes}
-use Rattle.primes.specs.laws.Wheel.{remainders, of-remainders, coprime-divisor}
+use Rattle.wheel.specs.Wheel.{Coprime30}
+use Rattle.primes.specs.Divisors.{Common}
+use Rattle.montgomery.specs.Montgomery.{NegatedInverse, Reduced}
+use Rattle.montgomery.specs.laws.Montgomery.{reduced-divided, divided-reduced}
+use Rattle.wheel.specs.laws.Root.{root-below, test-yes}
+use Rattle.wheel.specs.laws.Wheel.{remainders, of-remainders, coprime-divisor}
 
 -- What a tells of the candidates below d that stand i and j behind the first number of a turn: of these, a divisor of p divides a. A prime p does not.
 pub record Gathered (p i j d a : ℕ) : Type 0 where

@@ -14,8 +14,8 @@ use Rattle.residues.specs.Each.{Each}
 use Rattle.residues.specs.Prime.{Prime, is-prime, no-divisor-from}
 use Rattle.residues.specs.laws.Booleans.{and-l, and-r, or-cases, true-of}
 use Rattle.residues.specs.laws.Prime.{is-prime-sound, is-prime-complete}
-use Rattle.primes.specs.Divisors.{Coprime30, Turn}
-use Rattle.primes.specs.laws.Root.{test-no, test-small}
+use Rattle.wheel.specs.Wheel.{Coprime30, Turn}
+use Rattle.wheel.specs.laws.Root.{test-no, test-small}
 
 -- ── divisors of a number coprime to 30 ──
 divides-on : (p e q : ℕ) → p % e ≡ 0 → e % q ≡ 0 → p % q ≡ 0

@@ -2,9 +2,9 @@
 use native.Mathlib.Omega.{arith}
 use borrow.Author.Needs.{needs}
 use Rattle.residues.specs.laws.Width.{product-fits}
-use Rattle.primes.specs.laws.Montgomery.{newton-squares}
-use Rattle.primes.proofs.newton.Statement.{statement}
-use Rattle.primes.proofs.newton.Tie as tie
+use Rattle.montgomery.specs.laws.Montgomery.{newton-squares}
+use Rattle.montgomery.proofs.newton.Statement.{statement}
+use Rattle.montgomery.proofs.newton.Tie as tie
 
 mul-result : tie.Need-mul-result
 mul-result c = product-fits {a = c .args .p} {b = c .args .n} (omega arith) (omega arith)

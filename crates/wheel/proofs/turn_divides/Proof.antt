@@ -1,9 +1,9 @@
 -- `primes::turn_divides` meets its contract: the candidate that divides p, or that none of the eight does.
 use native.Mathlib.Nat.{add-zero}
 use borrow.Author.Needs.{needs}
-use Rattle.primes.specs.laws.Wheel.{offsets, turn-divided, turn-passed}
-use Rattle.primes.proofs.turn_divides.Statement.{statement}
-use Rattle.primes.proofs.turn_divides.Tie as tie
+use Rattle.wheel.specs.laws.Wheel.{offsets, turn-divided, turn-passed}
+use Rattle.wheel.proofs.turn_divides.Statement.{statement}
+use Rattle.wheel.proofs.turn_divides.Tie as tie
 
 rem-if1 : tie.Need-rem-if1
 rem-if1 c = search needs

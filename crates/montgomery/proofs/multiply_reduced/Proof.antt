@@ -3,9 +3,9 @@ use Prim.Native.Nat.{ℕ, _*_, _%_, _≤_, _<_}
 use native.Mathlib.Nat.{mul-le-mul}
 use native.Mathlib.Omega.{arith}
 use Rattle.residues.specs.laws.Width.{product-fits}
-use Rattle.primes.specs.laws.Montgomery.{reduced}
-use Rattle.primes.proofs.multiply_reduced.Statement.{statement}
-use Rattle.primes.proofs.multiply_reduced.Tie as tie
+use Rattle.montgomery.specs.laws.Montgomery.{reduced}
+use Rattle.montgomery.proofs.multiply_reduced.Statement.{statement}
+use Rattle.montgomery.proofs.multiply_reduced.Tie as tie
 
 half : (a u : ℕ) → a < 4294967296 → u < 2147483648 → a * u ≤ 9223372030412324865
 half a u h k = omega (arith, mul-le-mul {n₁ = a} {m₁ = u} {n₂ = 4294967295} {m₂ = 2147483647} (omega arith) (omega arith))

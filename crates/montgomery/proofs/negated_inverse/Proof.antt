@@ -4,8 +4,8 @@ use Prim.Native.Nat.{ℕ, _+_, _*_, _%_, _∣_}
 use native.Mathlib.Nat.{mul-dvd-mul, dvd-of-mod-eq-zero}
 use native.Mathlib.Omega.{arith}
 use borrow.Author.Needs.{needs}
-use Rattle.primes.proofs.negated_inverse.Statement.{statement}
-use Rattle.primes.proofs.negated_inverse.Tie as tie
+use Rattle.montgomery.proofs.negated_inverse.Statement.{statement}
+use Rattle.montgomery.proofs.negated_inverse.Tie as tie
 
 add-newton : tie.Need-add-newton
 add-newton c = search needs

@@ -6,10 +6,10 @@ use Prim.Native.Nat.{ℕ, _≤_, _<_, _%_, _-_}
 use native.Mathlib.Nat.{mul-le-mul}
 use native.Mathlib.Omega.{arith}
 use borrow.Author.Needs.{needs}
-use Rattle.primes.specs.laws.Root.{root-below, test-yes}
-use Rattle.primes.specs.laws.Wheel.{none-below-seven, turn-over, turn-refutes}
-use Rattle.primes.proofs.is_prime_by_wheel.Statement.{statement}
-use Rattle.primes.proofs.is_prime_by_wheel.Tie as tie
+use Rattle.wheel.specs.laws.Root.{root-below, test-yes}
+use Rattle.wheel.specs.laws.Wheel.{none-below-seven, turn-over, turn-refutes}
+use Rattle.wheel.proofs.is_prime_by_wheel.Statement.{statement}
+use Rattle.wheel.proofs.is_prime_by_wheel.Tie as tie
 
 abbrev Inv-loop : tie.InvT-loop
 Inv-loop p d₀ d = (d % 30 ≡ 7) × (d < 65536) × ((e : ℕ) → 2 ≤ e → e < d → p % e ≢ 0)

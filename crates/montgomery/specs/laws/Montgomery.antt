@@ -3,7 +3,7 @@ use mathlib.Core.Path.{_≡_, ap, subst}
 use Prim.Native.Nat.{ℕ, _+_, _*_, _/_, _%_, _∣_}
 use native.Mathlib.Nat.{mod-add-div, mul-div-cancel', dvd-mul-right, dvd-mul-left-of-dvd, dvd-mul-right-of-dvd, dvd-add, dvd-add-iff-left, dvd-add-iff-right, mul-dvd-mul}
 use native.Mathlib.Omega.{arith}
-use Rattle.primes.specs.Montgomery.{NegatedInverse, Squares, Reduced}
+use Rattle.montgomery.specs.Montgomery.{NegatedInverse, Squares, Reduced}
 
 -- with r for n·(2 + p·n) modulo w, p·r + 1 is the square of p·n + 1 modulo w
 newton-squares-modulo : (w p n m : ℕ) → m * m ∣ w → m ∣ p * n + 1 → m * m ∣ p * (n * (2 + p * n % w) % w) + 1

@@ -28,11 +28,7 @@ fn list_size(work: &[u32]) -> usize
         → All-listed ss → r ≡ list-records (reverse (map system-of ss))) ⌝ }
 {
     let top = records::get2(work, 0) as usize;
-    let all = work.len() / 4;
-    if 65536 < all {
-        return 1 + (65536 - top);
-    }
-    1 + (all - top)
+    1 + (branches::count_records(work) - top)
 }
 
 // The answer of a run on an accepted table, with its list of systems in the first words of the output.

@@ -12,33 +12,18 @@ get2-requires c κs = let s = c .before in omega (arith, some-records (s .pre .1
 cast-top : tie.Need-cast-top
 cast-top c = search needs
 
+count-records-requires : tie.Need-count-records-requires
+count-records-requires c κs = search needs
+
 sub-result : tie.Need-sub-result
-sub-result c = omega (arith, top-within (c .before .before .before .pre .1), c .before .get2 .ensures)
+sub-result c = omega (arith, top-within (c .before .before .before .pre .1), c .before .get2 .ensures, c .count-records .ensures)
 
 add-result : tie.Need-add-result
 add-result c = search needs
 
 returns : tie.Need-returns
-returns c ss h l = omega (arith, records-needed h l, c .before .get2 .ensures)
-
-sub-result-2 : tie.Need-sub-result-2
-sub-result-2 c = omega (arith, top-within (c .before .before .before .pre .1), c .before .get2 .ensures)
-
-add-result-2 : tie.Need-add-result-2
-add-result-2 c = search needs
-
-returns-2 : tie.Need-returns-2
-returns-2 c ss h l = omega (arith, records-needed h l, c .before .get2 .ensures)
+returns c ss h l = omega (arith, records-needed h l, c .before .get2 .ensures, c .count-records .ensures)
 
 pub list-size-spec : {M : Type 1} → statement M
 list-size-spec =
-    tie.close
-    (tie.spec
-    get2-requires
-    cast-top
-    sub-result
-    add-result
-    returns
-    sub-result-2
-    add-result-2
-    returns-2)
+    tie.close (tie.spec get2-requires cast-top count-records-requires sub-result add-result returns)

@@ -1,3 +1,2 @@
--- `ChangeLaws` has what a put or a removal with both records written anew leaves; `PutLaws` when a put keeps, changes or finds no room for the branch.
+-- `ChangeLaws` has a branch against itself without a member, and with a member of P moved to T.
 pub mod ChangeLaws
-pub mod PutLaws

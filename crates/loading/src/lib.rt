@@ -52,9 +52,9 @@ fn put_one(work: &mut [u32], f: &[u64], in_q: bool) -> bool
         Leaves (capacity (now (work .entry))) (with-open (put-into in_q (now (f .entry)) b) bs ss) r (view (now (work .exit)))) ⌝ }
 {
     if in_q {
-        return changes::put_q(work, 0, f);
+        return puts::put_q(work, 0, f);
     }
-    changes::put_p(work, f)
+    puts::put_p(work, f)
 }
 
 // Puts the polynomials from the index `first` on, which the header holds, into Q or into P; whether there is room.

@@ -52,7 +52,7 @@ pub fn put_back(w: &mut [u32], p: u64, closing: bool, left: usize, r: &mut [u64]
 {
     sums::monic(p, &mut r[..n]);
     if closing {
-        return changes::put_q(w, left, &r[..n]);
+        return puts::put_q(w, left, &r[..n]);
     }
-    changes::put_p(w, &r[..n])
+    puts::put_p(w, &r[..n])
 }

@@ -16,7 +16,7 @@ use Rattle.branches.specs.Area.{Stored, Area, Held, Leaves, stack, branch-recor
 use Rattle.branches.specs.Area.{kept-open, aside, put-into-P, put-into-Q, without-P, split-area}
 use Rattle.branches.proofs.AreaLaws.{p-is}
 use Rattle.branches.specs.laws.Words.{remove-in-parts, length-remove}
-use Rattle.changes.proofs.PutLaws.{put-Q-new}
+use Rattle.puts.proofs.PutLaws.{put-Q-new}
 
 -- ── lists of polynomials ──
 -- A put only adds behind.

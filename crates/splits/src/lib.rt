@@ -25,10 +25,10 @@ pub fn split(w: &mut [u32], i: usize, f: &[u64], initial: &[u64], rest: &[u64]) 
     let at = records::get0(w, 0) as usize;
     let p = records::get0(w, at) as usize;
     changes::remove_p(w, i);
-    if !changes::put_p(w, initial) {
+    if !puts::put_p(w, initial) {
         return false;
     }
-    if !changes::put_p(w, rest) {
+    if !puts::put_p(w, rest) {
         return false;
     }
     keep_open(w, i, p - 1, f, initial)

@@ -5,7 +5,7 @@ use mathlib.Core.Logic.{⊎-elim}
 use borrow.Author.Needs.{needs}
 use Rattle.stored.specs.Stored.{member}
 use Rattle.branches.specs.Words.{is-one}
-use Rattle.changes.proofs.PutLaws.{one, not-one-by-length, not-one-by-coefficient, not-one-by-monomial}
+use Rattle.puts.proofs.PutLaws.{one, not-one-by-length, not-one-by-coefficient, not-one-by-monomial}
 use Rattle.pivots.proofs.is_settled.Statement.{statement}
 use Rattle.pivots.proofs.is_settled.Tie as tie
 

@@ -1,53 +1,24 @@
--- When a put into P or Q keeps the branch, when it adds the polynomial, and when there is no room for it.
+-- When a put into P or Q keeps the branch, and when it adds the polynomial.
 use mathlib.Core.Path.{_≡_, refl, sym, ap, ap₂, _∙_, subst}
 use mathlib.Core.Bool.{Bool, true, false, _&&_, _||_, false≢true}
 use mathlib.Core.List.{List, [], _∷_, _++_, append-assoc}
-use Prim.Native.Nat.{ℕ, _+_, _-_, _/_, _<_}
+use Prim.Native.Nat.{ℕ, _+_, _-_}
 use native.Mathlib.Omega.{arith}
-use borrow.Author.Tests.{le-leb, lt-leb}
 use lib.Dec.{eqb}
 use lib.ListN.{length, take, drop, getD, length-append, take-append-drop}
-use Rattle.branches.specs.laws.Words.{each-remove}
-use Rattle.residues.specs.Each.{Each}
-use Rattle.residues.specs.laws.Each.{each-append, each-take, each-drop, each-member}
 use Rattle.records.specs.Records.{Rec}
-use Rattle.stored.specs.Stored.{member, same, skip-to, polys-at, Storable}
-use Rattle.stored.specs.laws.Stored.{equal-of-same, length-le-polys-records}
-use Rattle.branches.specs.Words.{put-P, put-Q, put-Q-before, is-zero, is-one, unless, remove}
-use Rattle.branches.specs.Area.{Stored, Area, Held, Leaves, size, with-open, Storable-branch, put-into-P, put-into-Q, without-P, closed}
-use Rattle.branches.proofs.AreaLaws.{place, place-add, at-of, end-is, room-is, parted-Q, in-Q, skip-Q}
-use Rattle.changes.proofs.ChangeLaws.{More, more-ends}
+use Rattle.stored.specs.Stored.{member, same, skip-to, polys-at}
+use Rattle.stored.specs.laws.Stored.{equal-of-same}
+use Rattle.branches.specs.Words.{put-P, put-Q, put-Q-before, is-zero, is-one, unless}
+use Rattle.branches.specs.Area.{Stored, Held, Leaves, with-open, put-into-P, put-into-Q}
+use Rattle.branches.proofs.AreaLaws.{place, at-of, parted-Q, in-Q, skip-Q}
+use Rattle.places.specs.Places.{More, Counts}
+use Rattle.places.proofs.PlaceLaws.{leaves-held}
 
--- ── the answers ──
-pub leaves-held : {v : List Rec} {most : ℕ} {a : Area} → Held v most a → Leaves most a true v
-unfolding size
-leaves-held {v} {most} {a} H = record { answer = sym (le-leb (size a) most (omega (arith, H .fits))); held = λ e. H }
+pub leaves-same : {v : List Rec} {most : ℕ} {b : Stored} {bs ss : List Stored} → Held v most (with-open b bs ss) → (c : Stored) → b ≡ c
+    → Leaves most (with-open c bs ss) true v
+leaves-same {v} {most} {bs = bs} {ss} H c e = leaves-held (subst (λ (x : Stored). Held v most (with-open x bs ss)) e H)
 
-module _ {v : List Rec} {most : ℕ} {b : Stored} {bs ss : List Stored} (H : Held v most (with-open b bs ss)) where
-  pub no-room : {b₁ : Stored} {xs : List (List ℕ)} {f : List ℕ} {ys : List (List ℕ)} → More b b₁ xs f ys → length (H .free) < length f / 2 + 1
-      → Leaves most (with-open b₁ bs ss) false v
-  unfolding size
-  no-room {b₁} m h =
-      record {
-        answer = sym (lt-leb (size (with-open b₁ bs ss)) most (omega (arith, room-is H, end-is b₁ bs, more-ends m bs)));
-        held = λ e. absurd (false≢true e);
-      }
-
-  -- The counts of the open branch are small.
-  pub counts-small : (length (b .P) < most) × (length (b .Q) < most) × (length (b .T) < most)
-  counts-small =
-      let p = length-le-polys-records (b .P) in
-      let q = length-le-polys-records (b .Q) in
-      let t = length-le-polys-records (b .T) in
-      let first = place-add (at-of bs) (b .P) (b .Q ++ b .T) in
-      let second = place-add (at-of bs) (b .Q) (b .T) in
-      let room = room-is H in
-      (omega arith, omega arith, omega arith)
-
-  pub leaves-same : (b₁ : Stored) → b ≡ b₁ → Leaves most (with-open b₁ bs ss) true v
-  leaves-same b₁ e = leaves-held (subst (λ (x : Stored). Held v most (with-open x bs ss)) e H)
-
--- ── lists ──
 -- ── P ──
 pub put-P-zero : (f : List ℕ) (fs : List (List ℕ)) → length f ≡ 0 → put-P f fs ≡ fs
 unfolding put-P is-zero
@@ -69,14 +40,11 @@ module _ (f : List ℕ) (b : Stored) where
   kept-P e = λ t. record { P = sym e t; Q = b .Q; T = b .T }
 
   module _ (e : put-P f (b .P) ≡ b .P ++ (f ∷ [])) where
-    pub adds-P : More b (put-into-P f b) (b .P) f (b .Q ++ b .T)
-    adds-P = record { less = refl; more = ap (λ (l : List (List ℕ)). l ++ (b .Q ++ b .T)) e ∙ append-assoc (b .P) (f ∷ []) (b .Q ++ b .T) }
+    pub more-P : More b (put-into-P f b) (b .P) f (b .Q ++ b .T)
+    more-P = record { less = refl; more = ap (λ (l : List (List ℕ)). l ++ (b .Q ++ b .T)) e ∙ append-assoc (b .P) (f ∷ []) (b .Q ++ b .T) }
 
-    pub count-P : length (put-P f (b .P)) ≡ length (b .P) + 1
-    count-P = ap length e ∙ length-append (b .P) (f ∷ [])
-
-    pub storable-P : Storable-branch b → Storable f → Storable-branch (put-into-P f b)
-    storable-P h k = (subst (Each Storable) (sym e) (each-append Storable (b .P) (f ∷ []) .1 (h .0, (k, tt))), h .1, h .2)
+    pub counts-P : {p q t : ℕ} → Counts p q t b → Counts (p + 1) q t (put-into-P f b)
+    counts-P n = record { in-P = omega (arith, n .in-P, ap length e, length-append (b .P) (f ∷ [])); in-Q = n .in-Q; in-T = n .in-T }
 
 -- ── Q ──
 pub one : (f : List ℕ) → length f ≡ 2 → eqb (getD f 0 0) 1 ≡ true → eqb (getD f 1 0) 0 ≡ true → is-one f ≡ true
@@ -147,36 +115,20 @@ module _ (left : ℕ) (f : List ℕ) (b : Stored) where
     new-Q =
         ap (λ (l : List (List ℕ)). l ++ drop (seen left b) (b .Q)) e ∙ append-assoc (take (seen left b) (b .Q)) (f ∷ []) (drop (seen left b) (b .Q))
 
-    pub adds-Q : More b (put-into-Q left f b) (b .P ++ take (seen left b) (b .Q)) f (drop (seen left b) (b .Q) ++ b .T)
-    adds-Q = record {
+    pub more-Q : More b (put-into-Q left f b) (b .P ++ take (seen left b) (b .Q)) f (drop (seen left b) (b .Q) ++ b .T)
+    more-Q = record {
       less = parted-Q b (seen left b);
       more = ap (λ (l : List (List ℕ)). b .P ++ (l ++ b .T)) new-Q
           ∙ ap (λ (l : List (List ℕ)). b .P ++ l) (append-assoc (take (seen left b) (b .Q)) (f ∷ drop (seen left b) (b .Q)) (b .T))
           ∙ sym (append-assoc (b .P) (take (seen left b) (b .Q)) (f ∷ (drop (seen left b) (b .Q) ++ b .T)));
     }
 
-    pub count-Q : length (put-Q-before left f (b .Q)) ≡ length (b .Q) + 1
-    count-Q =
+    pub counts-Q : {p q t : ℕ} → Counts p q t b → Counts p (q + 1) t (put-into-Q left f b)
+    counts-Q n =
         let xs : List (List ℕ) = take (seen left b) (b .Q) in
         let ys : List (List ℕ) = drop (seen left b) (b .Q) in
-        ap length new-Q ∙ omega (arith, length-append xs (f ∷ ys), length-append xs ys, ap length (take-append-drop (seen left b) (b .Q)))
-
-    pub storable-Q : Storable-branch b → Storable f → Storable-branch (put-into-Q left f b)
-    storable-Q h k =
-        let xs = each-take Storable (seen left b) (b .Q) (h .1) in
-        let ys = each-drop Storable (seen left b) (b .Q) (h .1) in
-        (h .0, subst (Each Storable) (sym new-Q) (each-append Storable (take (seen left b) (b .Q)) (f ∷ drop (seen left b) (b .Q)) .1 (xs, (k, ys))), h .2)
-
--- ── a member of P moved to the front of T ──
-module _ (b : Stored) (i : ℕ) where
-  pub adds-T : More (without-P i b) (closed i b) (remove i (b .P) ++ b .Q) (getD (b .P) i []) (b .T)
-  adds-T = record {
-    less = sym (append-assoc (remove i (b .P)) (b .Q) (b .T));
-    more = sym (append-assoc (remove i (b .P)) (b .Q) (getD (b .P) i [] ∷ b .T));
-  }
-
-  pub count-T : {n : ℕ} → n ≡ length (b .T) → n + 1 ≡ length (closed i b .T)
-  count-T e = omega arith
-
-  pub storable-T : i < length (b .P) → Storable-branch b → Storable-branch (closed i b)
-  storable-T l h = (each-remove Storable i (b .P) (h .0), h .1, (each-member Storable i (b .P) [] l (h .0), h .2))
+        let is = ap length new-Q in
+        let new = length-append xs (f ∷ ys) in
+        let old = length-append xs ys in
+        let whole = ap length (take-append-drop (seen left b) (b .Q)) in
+        record { in-P = n .in-P; in-Q = omega (arith, n .in-Q); in-T = n .in-T }

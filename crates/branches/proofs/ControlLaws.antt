@@ -3,8 +3,6 @@ use mathlib.Core.Path.{_≡_, ap, _∙_}
 use mathlib.Core.List.{List}
 use Prim.Native.Nat.{ℕ, _+_, _-_, _≤_, _<_}
 use native.Mathlib.Omega.{arith}
-use mir.Syntax.{w32, w64}
-use mir.Val.{Fits}
 use lib.ListN.{length, getD}
 use Rattle.records.specs.Records.{Rec, record-of, zero-record}
 use Rattle.branches.specs.Area.{Stored, Held, with-open}
@@ -25,9 +23,6 @@ module _ {r : Rec} {x₀ x₁ x₂ x₃ n : ℕ} (e : r ≡ record-of x₀ x₁ 
 
   pub w3-is : n ≡ r .w3 → n ≡ x₃
   w3-is h = h ∙ ap (λ (u : Rec). u .w3) e
-
-pub fits-wide : {n : ℕ} → Fits w32 n → Fits w64 n
-fits-wide f = omega (arith, f .fits)
 
 -- What the control record says first: where the open branch starts and where it ends.
 pub record Read (v : List Rec) (at end : ℕ) : Type 0 where
@@ -58,16 +53,3 @@ module _ {v : List Rec} {most : ℕ} {b : Stored} {bs ss : List Stored} (H : Hel
 
     pub over-free : {n : ℕ} → top - end < n → length (H .free) < n
     over-free h = omega (arith, free-is top e)
-
-  -- What is written into the records fits a word.
-  pub fits-word : {n : ℕ} → n ≤ most → Fits w32 n
-  fits-word h = omega (arith, H .few)
-
-  pub next-fits : {x n : ℕ} → x ≡ n → n < most → Fits w32 (x + 1)
-  next-fits e h = fits-word (omega arith)
-
-  pub at-fits : Fits w32 at
-  at-fits = fits-word (omega (arith, start-is, room-is H))
-
-  pub top-fits : (top : ℕ) → top ≡ getD v 0 zero-record .w2 → Fits w32 top
-  top-fits top e = fits-word (omega (arith, free-is top e, ends, room-is H))

@@ -18,9 +18,6 @@ inside-room w h = omega arith
 pub still-inside : (w w₁ : List ℕ) {n : ℕ} → n < capacity w → length w₁ ≡ length w → n < room w₁
 still-inside w w₁ h e = omega arith
 
-pub first-inside : (w w₁ : List ℕ) {n : ℕ} → n < room w → length w₁ ≡ length w → 0 < room w₁
-first-inside w w₁ h e = omega arith
-
 pub held-by : (v : List Rec) (a : Area) (xs ys : List ℕ) → length xs ≡ length ys → Held v (capacity xs) a → Held v (capacity ys) a
 held-by v a xs ys e H = subst (λ (n : ℕ). Held v n a) (same-capacity xs ys e) H
 

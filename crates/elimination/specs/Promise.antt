@@ -142,7 +142,8 @@ promise-of-calls table work output limit x a work-after output-left C z =
     let ss = l .1 in
     let P = promise table work output limit x (l .0) ss (l .2) (l .3) in
     let same : a ≡ record { steps = l .0; outcome = Systems (length ss) } = C .answer ∙ ap answer-of (l .3) in
-    let own : take (4 * list-records ss) output-left ≡ take (4 * list-records ss) (output-after (eliminated table (length work) (length output) limit) output) = ap (take (4 * list-records ss)) (C .output-is) in (
+    let own : take (4 * list-records ss) output-left ≡ take (4 * list-records ss) (output-after (eliminated table (length work) (length output) limit) output) =
+    ap (take (4 * list-records ss)) (C .output-is) in (
       P .0,
       ss,
       l .2,

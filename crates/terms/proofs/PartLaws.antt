@@ -15,7 +15,8 @@ use Rattle.polynomials.specs.Working.{Split, Written}
 use Rattle.polynomials.specs.laws.Packed.{byte-power, length-bytes}
 use Rattle.polynomials.specs.laws.Terms.{length-terms, terms-append, terms-drop, terms-at, terms-push}
 use Rattle.polynomials.specs.laws.Places.{Places, all-map, places-terms}
-use Rattle.polynomials.specs.laws.Parts.{above-leader, leader-places, leader-first, falling, degree-rest, coefficient-parted, without-parted, length-coefficient, coefficient-append, coefficient-of, coefficient-off, cleared, shift-append}
+use Rattle.polynomials.specs.laws.Parts.{above-leader, leader-places, leader-first, falling, degree-rest, coefficient-parted}
+use Rattle.polynomials.specs.laws.Parts.{without-parted, length-coefficient, coefficient-append, coefficient-of, coefficient-off, cleared, shift-append}
 use Rattle.polynomials.specs.laws.Degree.{all-degree, degree-at-most}
 use Rattle.polynomials.specs.laws.Product.{canonical-drop}
 use Rattle.polynomials.specs.laws.Free.{Free}
@@ -146,7 +147,8 @@ module _ (k : ℕ) (s : List ℕ) (L : Led k s) where
   -- Behind a word no power is higher.
   behind : (i : ℕ) → i % 2 ≡ 0 → i + 1 < length s → All (λ e. getD e k 0 ≤ power-at k s i) (terms (drop i s))
   behind i e h =
-      falling-from (L .0 .0) k 8 (terms (drop i s)) _ _ (terms-at s i h) (subst (Canonical (L .0 .0)) (sym (terms-drop i s e)) (canonical-drop (L .0 .0) (i / 2) (terms s) (L .0 .1))) (places-terms (drop i s))
+      falling-from (L .0 .0) k 8 (terms (drop i s)) _ _ (terms-at s i h)
+      (subst (Canonical (L .0 .0)) (sym (terms-drop i s e)) (canonical-drop (L .0 .0) (i / 2) (terms s) (L .0 .1))) (places-terms (drop i s))
       (λ j l. subst (Free j) (sym (terms-drop i s e)) (all-drop (λ a. getD a j 0 ≡ 0) (i / 2) (terms s) (above-leader (terms s) j (omega (arith, L .1)))))
 
   -- The first term has the highest power.
@@ -213,7 +215,8 @@ module _ (k : ℕ) (s : List ℕ) (i : ℕ) (even : i % 2 ≡ 0) (inside : i + 1
 
   coefficient-next : (d : ℕ) → getD (t .exps) k 0 ≡ d → coefficient k d (terms (take (i + 2) s)) ≡ coefficient k d (terms (take i s)) ++ (cleared k t ∷ [])
   unfolding coefficient
-  coefficient-next d q = ap (coefficient k d) (terms-next s i even inside) ∙ coefficient-append k d (terms (take i s)) (t ∷ []) ∙ ap (λ z. coefficient k d (terms (take i s)) ++ z) (coefficient-of k d t [] q)
+  coefficient-next d q = ap (coefficient k d) (terms-next s i even inside) ∙ coefficient-append k d (terms (take i s)) (t ∷ [])
+      ∙ ap (λ z. coefficient k d (terms (take i s)) ++ z) (coefficient-of k d t [] q)
 
   pub coefficient-same : (d : ℕ) → getD (t .exps) k 0 ≢ d → coefficient k d (terms (take (i + 2) s)) ≡ coefficient k d (terms (take i s))
   unfolding coefficient

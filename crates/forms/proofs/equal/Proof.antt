@@ -45,7 +45,8 @@ returns-2 c =
     let start = c .before .before .before .before .before .before in
     let f = start .args .f .now in
     let g = start .args .g .now in
-    let same : terms f ≡ terms g → f ≡ g = terms-inj f g (λ j. c .before .before .shared-slice-known .given j .fits) (λ j. c .before .shared-slice-known2 .given j .fits) (start .pre .0) (start .pre .1) in
+    let same : terms f ≡ terms g → f ≡ g =
+    terms-inj f g (λ j. c .before .before .shared-slice-known .given j .fits) (λ j. c .before .shared-slice-known2 .given j .fits) (start .pre .0) (start .pre .1) in
     sym (unequal (terms f) (terms g) (λ e. c .if2 .taken (ap (λ l. getD l (c .before .before .before .before .loop .i) 0) (same e))))
 
 add-i : tie.Need-add-i Inv-loop μ-loop

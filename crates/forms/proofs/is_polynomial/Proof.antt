@@ -39,7 +39,8 @@ shared-slice-read-if3 c = search needs
 returns-3 : tie.Need-returns-3 Inv-loop μ-loop
 returns-3 c =
     let f = c .before .before .before .before .before .before .args .f .now in
-    sym (sym (c .before .before .before .loop .inv .2) ∙ zero-coefficient (c .before .before .before .before .before .before .args .p) f (c .before .before .before .loop .i) (omega arith) (c .if3 .taken))
+    sym (sym (c .before .before .before .loop .inv .2)
+    ∙ zero-coefficient (c .before .before .before .before .before .before .args .p) f (c .before .before .before .loop .i) (omega arith) (c .if3 .taken))
 
 mul-if4 : tie.Need-mul-if4 Inv-loop μ-loop
 mul-if4 c = search needs
@@ -50,7 +51,8 @@ shared-slice-read-if4 c = search needs
 returns-4 : tie.Need-returns-4 Inv-loop μ-loop
 returns-4 c =
     let f = c .before .before .before .before .before .before .before .before .args .f .now in
-    sym (sym (c .before .before .before .before .before .loop .inv .2) ∙ no-residue (c .before .before .before .before .before .before .before .before .args .p) f (c .before .before .before .before .before .loop .i) (omega arith) (c .if4 .taken))
+    sym (sym (c .before .before .before .before .before .loop .inv .2)
+    ∙ no-residue (c .before .before .before .before .before .before .before .before .args .p) f (c .before .before .before .before .before .loop .i) (omega arith) (c .if4 .taken))
 
 add-if5 : tie.Need-add-if5 Inv-loop μ-loop
 add-if5 c = search needs
@@ -79,7 +81,8 @@ returns-5 c =
     let i = c .before .before .before .before .before .before .before .before .before .loop .i in
     sym
     (sym (c .before .before .before .before .before .before .before .before .before .loop .inv .2)
-    ∙ no-fall (c .before .before .before .before .before .before .before .before .before .before .before .before .args .p) f i (omega arith) (omega arith) (c .before .before .shared-slice-known3 .given (i + 1) .fits) (c .before .before .shared-slice-known3 .given (i + 3) .fits) (leb-true _ _ (c .if6 .taken)))
+    ∙ no-fall (c .before .before .before .before .before .before .before .before .before .before .before .before .args .p) f i (omega arith) (omega arith)
+    (c .before .before .shared-slice-known3 .given (i + 1) .fits) (c .before .before .shared-slice-known3 .given (i + 3) .fits) (leb-true _ _ (c .if6 .taken)))
 
 add-i : tie.Need-add-i Inv-loop μ-loop
 add-i c = search needs
@@ -96,7 +99,8 @@ loop-again c =
       omega arith,
       inv .1,
       ⊎-elim
-          (λ w. sym (passed-falling p f i (omega arith) (c .before .before .before .if3 .left) (c .before .if4 .left) (omega (arith, w .0 .taken)) (w .1 .given (i + 1) .fits) (w .1 .given (i + 3) .fits) (leb-false _ _ (w .3 .left))) ∙ inv .2)
+          (λ w. sym (passed-falling p f i (omega arith) (c .before .before .before .if3 .left) (c .before .if4 .left) (omega (arith, w .0 .taken))
+          (w .1 .given (i + 1) .fits) (w .1 .given (i + 3) .fits) (leb-false _ _ (w .3 .left))) ∙ inv .2)
           (λ w. sym (passed-last p f i (omega arith) (c .before .before .before .if3 .left) (c .before .if4 .left) (w .left)) ∙ inv .2)
           (c .if5 .came),
     )

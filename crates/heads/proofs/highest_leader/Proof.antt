@@ -28,7 +28,9 @@ abbrev μ-loop : tie.MeasureT-loop
 within : (c : tie.In-loop Inv-loop μ-loop)
     → c .before .loop .i + 1 + size-at (view (c .before .before .before .args .w .now)) (c .before .loop .i) ≤ room (c .before .before .before .args .w .now)
 within c =
-    omega (arith, c .before .before .before .pre .0, c .before .loop .inv .0, skip-in (view (c .before .before .before .args .w .now)) (c .before .loop .i) (c .before .loop .left) (c .loop-test .taken))
+    let s = c .before .before .before in
+    let l = c .before .loop in
+    omega (arith, s .pre .0, l .inv .0, skip-in (view (s .args .w .now)) (l .i) (l .left) (c .loop-test .taken))
 
 loop-holds : tie.Need-loop-holds Inv-loop μ-loop
 loop-holds c = (refl, omega arith, c .before .pre .1)

@@ -139,7 +139,8 @@ loop-again c =
       k .put-one .kept .0 ∙ l .inv .0,
       d .load-monic .kept .1 .1 .1 .1 .0 ∙ l .inv .1,
       λ fs b e x. rw (c .word .ensures)
-          (put-next (a .table .now) (a .p) (a .n) (a .in-q) (capacity (a .work .now)) (put-heads (a .in-q) (a .p) fs b) (l .i) (view (l .work)) (l .inv .2 fs b e x) (d .before .before .loop-test .taken)
+          (put-next (a .table .now) (a .p) (a .n) (a .in-q) (capacity (a .work .now)) (put-heads (a .in-q) (a .p) fs b)
+          (l .i) (view (l .work)) (l .inv .2 fs b e x) (d .before .before .loop-test .taken)
           (d .load-monic .result) (words d) (d .load-monic .ensures) (k .put-one .result) (view (k .put-one .last .0)) (puts k) (not-false (k .put-one .result) (c .before .if1 .left))),
     )
 

@@ -80,7 +80,8 @@ sub-out c =
     let at = c .before .before .before .loop in
     let S = c .before .before .before .before .before .before .initial-words .ensures in
     let d = degree k (terms s) in
-    let q : getD (bytes 8 (getD s (at .i + 1) 0)) k 0 ≡ d = all-at-taken (λ e. getD e k 0 ≡ d) s (c .before .before .before .before .before .before .initial-words .result) (at .i) (at .inv .0) (omega arith) (S .within) (S .front) in
+    let q : getD (bytes 8 (getD s (at .i + 1) 0)) k 0 ≡ d =
+    all-at-taken (λ e. getD e k 0 ≡ d) s (c .before .before .before .before .before .before .initial-words .result) (at .i) (at .inv .0) (omega arith) (S .within) (S .front) in
     power-within k (getD s (at .i + 1) 0) d _ (led-place k s L) (omega arith) (at .inv .3)
 
 add-out-2 : tie.Need-add-out-2 Inv-loop μ-loop
@@ -107,7 +108,8 @@ loop-again c =
     let at = c .before .before .before .loop in
     let S = c .before .before .before .before .before .before .initial-words .ensures in
     let d = degree k (terms s) in
-    let q : getD (bytes 8 (getD s (at .i + 1) 0)) k 0 ≡ d = all-at-taken (λ e. getD e k 0 ≡ d) s (c .before .before .before .before .before .before .initial-words .result) (at .i) (at .inv .0) (omega arith) (S .within) (S .front) in
+    let q : getD (bytes 8 (getD s (at .i + 1) 0)) k 0 ≡ d =
+    all-at-taken (λ e. getD e k 0 ≡ d) s (c .before .before .before .before .before .before .initial-words .result) (at .i) (at .inv .0) (omega arith) (S .within) (S .front) in
     let next = initial-next k s (at .i) (at .inv .0) (omega arith) (at .out) (at .i) _ d (led-place k s L) (at .inv .0) (omega arith) (at .inv .3) q (at .inv .4) in
     (omega arith, omega arith, simp length-set (at .inv .2), at .inv .3, next)
 
@@ -121,7 +123,8 @@ returns c =
     let s = start .args .f .now in
     let L = start .pre .1 .0 in
     let at = c .before .loop in
-    initial-written k s L (c .before .before .before .before .initial-words .result) (at .i) (at .out) (c .before .before .before .before .initial-words .ensures) (omega arith) (omega arith) (at .inv .4)
+    initial-written k s L (c .before .before .before .before .initial-words .result) (at .i) (at .out)
+    (c .before .before .before .before .initial-words .ensures) (omega arith) (omega arith) (at .inv .4)
 
 pub initial-spec : {M : Type 1} → statement M
 initial-spec =

@@ -1,11 +1,12 @@
--- Laws about words of bytes.
+-- Laws about words from a buffer.
 use mathlib.Core.Path.{_≡_, refl, sym, _∙_, ap, subst}
-use mathlib.Core.List.{List, [], _∷_, _++_, append-assoc, append-nil}
-use Prim.Native.Nat.{ℕ, zero, suc, _+_, _*_, _-_, _≤_, _<_}
+use mathlib.Core.List.{List, _++_}
+use Prim.Native.Nat.{ℕ, _+_, _*_, _-_, _≤_, _<_}
 use native.Mathlib.Omega.{arith}
-use native.Mathlib.Numerals.{add-one}
 use lib.ListN.{length, getD, take, drop, set}
-use lib.Seq.{take-suc-set, take-length, length-take-le, getD-drop, getD-set-same, take-at, drop-at}
+use lib.Seq.{take-length, length-take-le, getD-drop, getD-set-same, take-at, drop-at}
+use Rattle.decoding.specs.Words.{word-at, words-from}
+use Rattle.decoding.proofs.DecodeLaws.{Decoded, decoded-first, decoded-on, decoded-end}
 use Rattle.input.specs.declared.Input.{Input}
 use Rattle.input.specs.declared.Word.{Word}
 use Rattle.input.specs.declared.Word.the-variants.{Read, End}
@@ -13,35 +14,7 @@ use Rattle.input.specs.declared.Filled.{Filled}
 use Rattle.input.specs.declared.Filled.the-variants.{Full, CutShort as FilledShort}
 use Rattle.input.specs.declared.Words.{Words}
 use Rattle.input.specs.declared.Words.the-variants.{First, CutShort}
-use Rattle.input.specs.Input.{word-at, words-from, Enough, Left, further, Before, Reached, Ended, Taken, Within, TakenFirst, Counted}
-
--- The first i of n words of the bytes are put; with those that are left they are all.
-abbrev pub Decoded : List ℕ → ℕ → ℕ → List ℕ → Type 0
-Decoded b n i words = take i words ++ words-from b i (n - i) ≡ words-from b 0 n
-
-pub decoded-first : (b : List ℕ) (n : ℕ) (words : List ℕ) → Decoded b n 0 words
-decoded-first b n words = ap (words-from b 0) (omega arith)
-
-next-left : (b : List ℕ) (i k : ℕ) → 0 < k → words-from b i k ≡ word-at b (4 * i) ∷ words-from b (suc i) (k - 1)
-unfolding words-from
-next-left b i zero h = absurd (omega arith)
-next-left b i (suc k) h = let e : k ≡ suc k - 1 = omega arith in ap (λ (m : ℕ). word-at b (4 * i) ∷ words-from b (suc i) m) e
-
-pub decoded-on : (b : List ℕ) (n i : ℕ) (words : List ℕ) (x : ℕ) → i < n → i < length words → x ≡ word-at b (4 * i) → Decoded b n i words → Decoded b n (i + 1) (set words i x)
-decoded-on b n i words x h l e d =
-    ap (λ (j : ℕ). take j (set words i x) ++ words-from b j (n - (i + 1))) (add-one i)
-    ∙ ap (λ (t : List ℕ). t ++ words-from b (suc i) (n - (i + 1))) (take-suc-set words i x l)
-    ∙ append-assoc (take i words) (x ∷ []) (words-from b (suc i) (n - (i + 1)))
-    ∙ ap (λ (y : ℕ). take i words ++ (y ∷ words-from b (suc i) (n - (i + 1)))) e
-    ∙ ap (λ (m : ℕ). take i words ++ (word-at b (4 * i) ∷ words-from b (suc i) m)) (omega arith)
-    ∙ sym (ap (λ (t : List ℕ). take i words ++ t) (next-left b i (n - i) (omega arith)))
-    ∙ d
-
-pub decoded-end : (b : List ℕ) (n i : ℕ) (words : List ℕ) → i ≡ n → Decoded b n i words → take n words ≡ words-from b 0 n
-unfolding words-from
-decoded-end b n i words e d =
-    let z : 0 ≡ n - i = omega arith in
-    ap (λ (j : ℕ). take j words) (sym e) ∙ sym (append-nil (take i words)) ∙ ap (λ (m : ℕ). take i words ++ words-from b i m) z ∙ d
+use Rattle.input.specs.Input.{Enough, Left, further, Before, Reached, Ended, Taken, Within, TakenFirst, Counted}
 
 -- ── words from the buffer ──
 module _ (b : List ℕ) (at end : ℕ) (l : at + 4 ≤ end) (h : end ≤ length b) where

@@ -1,9 +1,10 @@
-// Words from bytes, and from standard input by way of a buffer. What standard input holds is free: of a word that is read the contracts say where it
-// stands in the buffer, and of words that stood in the buffer already that they are taken in order, none skipped.
+// Words from standard input by way of a buffer. What standard input holds is free: of a word that is read the contracts say where it stands in the
+// buffer, and of words that stood in the buffer already that they are taken in order, none skipped.
 ghost use mathlib.Core.Path.{_≡_};
-ghost use Prim.Native.Nat.{_+_, _*_, _-_, _/_, _≤_};
-ghost use lib.ListN.{length, take, drop};
-ghost use Rattle.input.specs.Input.{word-at, words-of, Reached, Enough, Left, Ended, Taken, Within, Counted};
+ghost use Prim.Native.Nat.{_+_, _-_, _/_};
+ghost use lib.ListN.{length};
+ghost use Rattle.decoding.specs.Words.{word-at};
+ghost use Rattle.input.specs.Input.{Reached, Enough, Left, Ended, Taken, Within, Counted};
 use libc::STDIN_FILENO;
 
 // The bytes of a buffer that are read and not yet used: from `at` up to `end`.
@@ -28,35 +29,6 @@ pub enum Words {
     CutShort,
 }
 
-// The number that four bytes spell, the lowest first.
-fn from_bytes(a: u8, b: u8, c: u8, d: u8) -> u32
-    ensures { λ r. ⌜ r ≡ a + 256 * b + 65536 * c + 16777216 * d ⌝ }
-{
-    a as u32 + 256 * (b as u32) + 65536 * (c as u32) + 16777216 * (d as u32)
-}
-
-// The word at byte i.
-fn word_at(bytes: &[u8], i: usize) -> u32
-    requires { ⌜ i + 4 ≤ length (now bytes) ⌝ }
-    ensures { λ r. ⌜ r ≡ word-at (now (bytes .entry)) i ⌝ }
-{
-    from_bytes(bytes[i], bytes[i + 1], bytes[i + 2], bytes[i + 3])
-}
-
-// Puts the whole words of the bytes to the start of `words`.
-pub fn decode(bytes: &[u8], words: &mut [u32])
-    requires { ⌜ length (now bytes) / 4 ≤ length (now words) ⌝ }
-    ensures { λ _. ⌜ take (length (now (bytes .entry)) / 4) (now (words .exit)) ≡ words-of (now (bytes .entry)) ⌝ }
-    ensures { λ _. ⌜ drop (length (now (bytes .entry)) / 4) (now (words .exit)) ≡ drop (length (now (bytes .entry)) / 4) (now (words .entry)) ⌝ }
-{
-    let n = bytes.len() / 4;
-    let mut i = 0;
-    while i < n {
-        words[i] = word_at(bytes, 4 * i);
-        i += 1;
-    }
-}
-
 // Nothing is read yet.
 pub fn begin() -> Input
     ensures { λ r. ⌜ r ≡ record { at = 0; end = 0 } ⌝ }
@@ -74,7 +46,7 @@ pub fn next(buffer: &mut [u8], input: Input) -> Word
     let end = input.end;
     if end <= buffer.len() && at <= end && 4 <= end - at {
         return Word::Read(
-            word_at(buffer, at),
+            decoding::word_at(buffer, at),
             Input {
                 at: at + 4,
                 end: end,
@@ -85,7 +57,7 @@ pub fn next(buffer: &mut [u8], input: Input) -> Word
     if n < 4 {
         return Word::End;
     }
-    Word::Read(word_at(buffer, 0), Input { at: 4, end: n })
+    Word::Read(decoding::word_at(buffer, 0), Input { at: 4, end: n })
 }
 
 // Reads as many words as the slice has.

@@ -17,7 +17,7 @@ use Rattle.delivery.specs.declared.Answer.{Answer}
 use Rattle.delivery.specs.Answer.{answer-of}
 use Rattle.extent.specs.Extent.{extent}
 use Rattle.extent.specs.laws.Extent.{extent-of-list}
-use Rattle.input.specs.Input.{words-of}
+use Rattle.decoding.specs.Words.{words-of}
 use Rattle.lines.specs.Text.{line-text}
 use Rattle.triangularize.specs.Said.{records-text, said-of, said}
 use Rattle.triangularize.specs.Response.{answer-text, response}

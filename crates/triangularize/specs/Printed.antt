@@ -18,7 +18,7 @@ use Rattle.rules.specs.Step.{within-room, remainder-by, replace, apply, step}
 use Rattle.rules.specs.Run.{run, first-branch, start, run-of}
 use Rattle.rules.specs.Written.{terms-words, heads-words, systems-words, list-words, list-records}
 use Rattle.rules.specs.Eliminate.{room-of, limits-of, eliminated}
-use Rattle.input.specs.Input.{words-from, words-of}
+use Rattle.decoding.specs.Words.{words-from, words-of}
 use Rattle.lines.specs.Text.{digits-of, decimal, rest-text, line-text}
 use Rattle.triangularize.specs.Said.{records-text}
 use Rattle.triangularize.specs.Response.{answer-text, response}

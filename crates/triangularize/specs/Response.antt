@@ -7,7 +7,7 @@ use lib.ListN.{length}
 use Rattle.tables.specs.Reason.{number}
 use Rattle.rules.specs.Written.{list-records}
 use Rattle.rules.specs.Eliminate.{Eliminated, listed, turned-back, eliminated}
-use Rattle.input.specs.Input.{words-of}
+use Rattle.decoding.specs.Words.{words-of}
 use Rattle.lines.specs.Text.{line-text}
 use Rattle.triangularize.specs.Said.{records-text}
 

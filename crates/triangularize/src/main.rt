@@ -66,7 +66,7 @@ fn respond(
     if bytes.len() % 4 != 0 {
         return text::print_line(text, 0, &refused);
     }
-    input::decode(bytes, words);
+    decoding::decode(bytes, words);
     let n = bytes.len() / 4;
     let answer = elimination::eliminate(&words[..n], work, output, 100000);
     put_answer(text, answer, output)

@@ -8,7 +8,8 @@ use borrow.Author.Needs.{needs}
 use lib.Seq.{length-take-le}
 use Rattle.input.specs.declared.Input.{Input}
 use Rattle.input.specs.declared.Word.the-variants.{Read}
-use Rattle.input.specs.Input.{word-at, Left, further}
+use Rattle.decoding.specs.Words.{word-at}
+use Rattle.input.specs.Input.{Left, further}
 use Rattle.input.proofs.InputLaws.{count-lasts, counted-over, counted-short, counted-full}
 use Rattle.input.proofs.counted.Statement.{statement}
 use Rattle.input.proofs.counted.Tie as tie

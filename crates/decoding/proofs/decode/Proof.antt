@@ -5,10 +5,10 @@ use native.Mathlib.Omega.{arith}
 use borrow.Author.Needs.{needs}
 use lib.ListN.{length, drop, length-set}
 use lib.Seq.{drop-set-lt}
-use Rattle.input.specs.Input.{words-of}
-use Rattle.input.proofs.InputLaws.{Decoded, decoded-first, decoded-on, decoded-end}
-use Rattle.input.proofs.decode.Statement.{statement}
-use Rattle.input.proofs.decode.Tie as tie
+use Rattle.decoding.specs.Words.{words-of}
+use Rattle.decoding.proofs.DecodeLaws.{Decoded, decoded-first, decoded-on, decoded-end}
+use Rattle.decoding.proofs.decode.Statement.{statement}
+use Rattle.decoding.proofs.decode.Tie as tie
 
 abbrev Inv-loop : tie.InvT-loop
 Inv-loop bytes words₀ n i₀ words i = (i ≤ n) × (length words ≡ length words₀) × Decoded bytes n i words × (drop n words ≡ drop n words₀)

@@ -131,7 +131,8 @@ fn row(name: &str, timed: &Timed) -> String {
     let answer = job.answer();
     let (proved, here) = (timed.proved as f64 / 1000.0, timed.here as f64 / 1000.0);
     let times = format!("{:.2} | {proved:.2} | {here:.2}", timed.ratio());
-    let (p, n, records, work) = (job.table[0], job.table[1], job.table.len() / 4, job.work / 4);
+    let word = |i: usize| job.table.get(i).map_or("none".to_string(), u32::to_string);
+    let (p, n, records, work) = (word(0), word(1), job.table.len() / 4, job.work / 4);
     format!("| {name} | {place} | {times} | {p} | {n} | {records} | {work} | {} | {} |", answer.steps, answer.outcome.0)
 }
 

@@ -51,7 +51,7 @@ fn check_triangle(table: &[u32], p: u32, n: u32, system: usize) -> Checked
                 return Checked::Refused(Reason::Index, at as u32);
             }
             Next::To(j) => {
-                if let Checked::Refused(why, record) = reading::check_head(table, p, n, j) {
+                if let Checked::Refused(why, record) = checking::check_head(table, p, n, j) {
                     return Checked::Refused(why, record);
                 }
                 let k = leader_at(table, p, n, j);

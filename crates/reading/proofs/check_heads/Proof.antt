@@ -9,7 +9,7 @@ use Rattle.tables.specs.Read.{read-heads}
 use Rattle.tables.specs.Solve.{checked}
 use Rattle.tables.specs.Walk.{next}
 use Rattle.tables.specs.laws.Chains.{checked-good, next-inside, Reached, reached-first, reached-end, reached-astray, reached-refused, reached-on, heads-chain}
-use Rattle.reading.proofs.ReadLaws.{fits-word}
+use Rattle.checking.proofs.CheckLaws.{fits-word}
 use Rattle.reading.proofs.check_heads.Statement.{statement}
 use Rattle.reading.proofs.check_heads.Tie as tie
 

@@ -11,9 +11,9 @@ use Rattle.tables.specs.Read.{first, read-term, read-terms}
 use Rattle.tables.specs.Solve.{checked}
 use Rattle.tables.specs.Walk.{before, next}
 use Rattle.tables.specs.laws.Chains.{checked-good, next-inside, Reached, reached-first, reached-end, reached-astray, reached-refused, terms-chain, term-read}
-use Rattle.reading.proofs.ReadLaws.{fits-word, terms-on}
-use Rattle.reading.proofs.check_terms.Statement.{statement}
-use Rattle.reading.proofs.check_terms.Tie as tie
+use Rattle.checking.proofs.CheckLaws.{fits-word, terms-on}
+use Rattle.checking.proofs.check_terms.Statement.{statement}
+use Rattle.checking.proofs.check_terms.Tie as tie
 
 abbrev Inv-loop : tie.InvT-loop
 Inv-loop table p n head at₀ i₀ m₀ last₀ at i m last =

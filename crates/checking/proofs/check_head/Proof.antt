@@ -1,9 +1,9 @@
 -- Words 1 and 2 are tested as `read-head` does; then the terms.
 use mathlib.Core.Path.{sym, _∙_}
 use borrow.Author.Needs.{needs}
-use Rattle.reading.proofs.ReadLaws.{fits-word, refused-head, refused-head-2, head-terms}
-use Rattle.reading.proofs.check_head.Statement.{statement}
-use Rattle.reading.proofs.check_head.Tie as tie
+use Rattle.checking.proofs.CheckLaws.{fits-word, refused-head, refused-head-2, head-terms}
+use Rattle.checking.proofs.check_head.Statement.{statement}
+use Rattle.checking.proofs.check_head.Tie as tie
 
 word-requires : tie.Need-word-requires
 word-requires c κs = search needs

@@ -1,9 +1,9 @@
 -- The bits from 8 n on are the bytes from place n on.
 use native.Mathlib.Omega.{arith}
 use borrow.Author.Needs.{needs}
-use Rattle.reading.proofs.ReadLaws.{above-all, above-shift}
-use Rattle.reading.proofs.has_above.Statement.{statement}
-use Rattle.reading.proofs.has_above.Tie as tie
+use Rattle.checking.proofs.CheckLaws.{above-all, above-shift}
+use Rattle.checking.proofs.has_above.Statement.{statement}
+use Rattle.checking.proofs.has_above.Tie as tie
 
 returns : tie.Need-returns
 returns c = let a = c .before .args in above-all (a .n) (a .m) (c .if1 .taken)

@@ -8,9 +8,9 @@ use borrow.Author.Tests.{eq-eqb, ne-eqb, le-leb, lt-ltb, le-ltb}
 use borrow.Author.Needs.{needs}
 use Rattle.polynomials.specs.Packed.{exponents}
 use Rattle.tables.specs.Words.{word}
-use Rattle.reading.proofs.ReadLaws.{fits-word, falls-before, refused-terms, refused-coefficient, refused-exponent, refused-order, good-term}
-use Rattle.reading.proofs.check_term.Statement.{statement}
-use Rattle.reading.proofs.check_term.Tie as tie
+use Rattle.checking.proofs.CheckLaws.{fits-word, falls-before, refused-terms, refused-coefficient, refused-exponent, refused-order, good-term}
+use Rattle.checking.proofs.check_term.Statement.{statement}
+use Rattle.checking.proofs.check_term.Tie as tie
 
 cast-t11 : tie.Need-cast-t11
 cast-t11 c = fits-word (c .before .before .pre .0) (c .before .before .pre .1)

@@ -22,7 +22,7 @@ pub fn put_record(out: &mut [u32], i: usize, a: u32, b: u32, c: u32, d: u32)
 }
 
 // Writes the terms of the polynomial at record `from` of the work area to the records from `to` on.
-pub fn write_terms(w: &[u32], from: usize, out: &mut [u32], to: usize)
+fn write_terms(w: &[u32], from: usize, out: &mut [u32], to: usize)
     requires { ⌜ (from < room (now w)) × (from + 1 + size-at (view (now w)) from ≤ room (now w)) ⌝ }
     requires { ⌜ (4 * (to + size-at (view (now w)) from) ≤ length (now out)) × (to + size-at (view (now w)) from ≤ 65536) ⌝ }
     ensures { λ _. ⌜ now (out .exit) ≡ paste (now (out .entry)) (4 * to) (terms-words to (terms (words-at (view (now (w .entry))) from))) (4 * size-at (view (now (w .entry))) from) ⌝ }

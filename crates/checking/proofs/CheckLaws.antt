@@ -23,7 +23,7 @@ use Rattle.tables.specs.declared.Next.the-variants.{To}
 use Rattle.tables.specs.declared.Checked.the-variants.{Good, Refused}
 use Rattle.tables.specs.Words.{word, records, follow}
 use Rattle.tables.specs.Read.{first, after, not-zero, has-above, not-below, read-term, read-terms, read-head}
-use Rattle.tables.specs.Solve.{checked, reading}
+use Rattle.tables.specs.Solve.{checked}
 use Rattle.tables.specs.Walk.{Readable, before, next}
 use Rattle.tables.specs.laws.Chains.{whole-records, checked-good, Reached, reached-on, terms-chain, term-read}
 

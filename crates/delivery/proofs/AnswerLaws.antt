@@ -12,14 +12,14 @@ use Rattle.tables.specs.declared.Reason.{Reason}
 use Rattle.tables.specs.declared.Reason.the-variants.{Output}
 use Rattle.rules.specs.Written.{list-words, list-records}
 use Rattle.rules.specs.laws.Lengths.{length-list}
-use Rattle.rules.specs.Run.{Ended, finished, refused}
+use Rattle.rules.specs.Run.{Ended, finished, refused, run-steps}
 use Rattle.rules.specs.Eliminate.{Eliminated, listed, turned-back, delivered}
 use Rattle.branches.specs.Area.{Stored, Held}
 use Rattle.representation.specs.Represent.{All-listed, system-of}
 use Rattle.writing.specs.Listed.{listing-of}
 use Rattle.delivery.specs.declared.Answer.{Answer}
 use Rattle.run.specs.declared.Outcome.the-variants.{Systems, Refused}
-use Rattle.run.specs.Stretch.{steps-of, outcome-of, Ran}
+use Rattle.run.specs.Stretch.{outcome-of, Ran}
 use Rattle.delivery.specs.Delivered.{Delivered}
 
 -- What is known of the records that the list of the systems in the work area needs.
@@ -27,7 +27,7 @@ abbrev pub Needs : List Rec → ℕ → ℕ → Type 0
 Needs v most m = (ss : List Stored) → Held v most (record { branches = []; systems = ss }) → All-listed ss → m ≡ list-records (reverse (map system-of ss))
 
 module _ {p : ℕ} {r : Answer} {v : List Rec} {most : ℕ} where
-  whole : {e : Ended} → Ran e p (r .steps) (r .outcome) v most → r ≡ record { steps = steps-of e; outcome = outcome-of e }
+  whole : {e : Ended} → Ran e p (r .steps) (r .outcome) v most → r ≡ record { steps = run-steps e; outcome = outcome-of e }
   whole x i = record { steps = x .steps i; outcome = x .outcome i }
 
   pub refused-run : {e : Ended} {why : Reason} {at : ℕ} (t : Input) (room : ℕ) (out : List ℕ) → Ran e p (r .steps) (r .outcome) v most → r .outcome ≡ Refused why at

@@ -2,18 +2,17 @@
 use mathlib.Core.Path.{_≡_, refl, sym, ap, subst}
 use mathlib.Core.Bool.{Bool, true, false}
 use mathlib.Core.List.{List}
-use Prim.Native.Nat.{ℕ, _/_}
+use Prim.Native.Nat.{ℕ}
 use native.Mathlib.Omega.{arith}
 use lib.ListN.{length}
 use Rattle.records.specs.Records.{Rec}
-use Rattle.tables.specs.Read.{Read, Input, good, read-table}
-use Rattle.tables.specs.Read as tables
+use Rattle.tables.specs.Read.{Input}
 use Rattle.tables.specs.declared.Reason.{Reason}
 use Rattle.tables.specs.declared.Reason.the-variants.{Room}
 use Rattle.rules.specs.Room.{Limits, State}
 use Rattle.rules.specs.Step.{Stepped, next, stopped}
 use Rattle.rules.specs.Run.{Ended, after-step, run, start, run-of}
-use Rattle.rules.specs.Eliminate.{Eliminated, turned-back, delivered, eliminated, limits-of}
+use Rattle.rules.specs.Eliminate.{delivered, limits-of}
 use Rattle.branches.specs.Area.{Area, Held, capacity}
 use Rattle.representation.specs.Represent.{state-of}
 use Rattle.delivery.specs.declared.Answer.{Answer}
@@ -24,18 +23,6 @@ use Rattle.loading.specs.Started.{Started}
 use Rattle.delivery.specs.Delivered.{Delivered}
 use Rattle.loading.proofs.StartLaws.{limits-are}
 
-module _ (w : List ℕ) (work output limit : ℕ) where
-  abbrev by-reading : Read Input → Eliminated
-  by-reading r = elim r [ good t ↦ delivered (output / 4) t (run-of (limits-of work) limit t) | tables.refused why at ↦ turned-back 0 why at ]
-
-  pub eliminated-refused : {why : Reason} {at : ℕ} → read-table w ≡ tables.refused why at → eliminated w work output limit ≡ turned-back 0 why at
-  unfolding eliminated
-  eliminated-refused e = ap by-reading e
-
-  pub eliminated-accepted : {t : Input} → read-table w ≡ good t → eliminated w work output limit ≡ delivered (output / 4) t (run-of (limits-of work) limit t)
-  unfolding eliminated
-  eliminated-accepted e = ap by-reading e
-
 -- ── the start ──
 not-started : (s : Stepped) (k : State → Ended) (p most : ℕ) {r : Bool} (v : List Rec) (t : Input) (room : ℕ) (out : List ℕ) → Started s p most r v → r ≡ false
     → Delivered (delivered room t (after-step k 0 s)) (record { steps = 0; outcome = Refused Room 0 }) out out
@@ -44,10 +31,10 @@ not-started (next s) k p most v t room out x e =
 not-started (stopped why) k p most v t room out x e =
     record { answer = ap (λ (w : Reason). record { steps = 0; outcome = Refused w 0 }) (sym (x .1)); output = refl }
 
-first-state : (s : Stepped) {p most : ℕ} {r : Bool} {v : List Rec} → Started s p most r v → r ≡ true
+held-first : (s : Stepped) {p most : ℕ} {r : Bool} {v : List Rec} → Started s p most r v → r ≡ true
     → (a : Area) × Held v most a × Ready p a × (s ≡ next (state-of a))
-first-state (next s) x e = let a = x .1 in (a .0, a .1, a .2, ap next (sym (a .3)))
-first-state (stopped why) x e = let y = x .0 in absurd (let z : _≡_ {A = ℕ} 0 1 = cc in omega arith)
+held-first (next s) x e = let a = x .1 in (a .0, a .1, a .2, ap next (sym (a .3)))
+held-first (stopped why) x e = let y = x .0 in absurd (let z : _≡_ {A = ℕ} 0 1 = cc in omega arith)
 
 module _ (t : Input) (most limit : ℕ) {r : Bool} (v : List Rec) (x : Started (start (limits-in most) t) (t .modulus) most r v) where
   pub no-room : (room : ℕ) (out : List ℕ) → r ≡ false
@@ -58,7 +45,7 @@ module _ (t : Input) (most limit : ℕ) {r : Bool} (v : List Rec) (x : Started (
   -- The state that the run begins with, said of the room and the modulus that it is given.
   pub begins : {p most₁ : ℕ} → r ≡ true → t .modulus ≡ p → most₁ ≡ most → (a : Area) × Held v most₁ a × Ready p a
   begins e q m =
-      let a = first-state (start (limits-in most) t) x e in
+      let a = held-first (start (limits-in most) t) x e in
       (a .0, subst (λ (n : ℕ). Held v n (a .0)) (sym m) (a .1), subst (λ (n : ℕ). Ready n (a .0)) q (a .2))
 
   pub run-is : {p most₁ : ℕ} {q : Answer} {u : List Rec} → r ≡ true → t .modulus ≡ p → most₁ ≡ most
@@ -66,7 +53,7 @@ module _ (t : Input) (most limit : ℕ) {r : Bool} (v : List Rec) (x : Started (
       → Ran (run-of (limits-in most) limit t) (t .modulus) (q .steps) (q .outcome) u most
   unfolding run-of
   run-is {p = p} {q = q} {u = u} e same m k =
-      let a = first-state (start (limits-in most) t) x e in
+      let a = held-first (start (limits-in most) t) x e in
       let there = subst (λ (n : ℕ). (a : Area) → Held v n a → Ready p a → Ran (run (limits-in n) p limit 0 (state-of a)) p (q .steps) (q .outcome) u n) m k in
       let here = subst (λ (n : ℕ). (a : Area) → Held v most a → Ready n a → Ran (run (limits-in most) n limit 0 (state-of a)) n (q .steps) (q .outcome) u most) (sym same) there in
       subst (λ (s : Stepped). Ran (after-step (run (limits-in most) (t .modulus) limit 0) 0 s) (t .modulus) (q .steps) (q .outcome) u most) (sym (a .3)) (here (a .0) (a .1) (a .2))

@@ -1,6 +1,6 @@
 -- Demands 1 and 2 as claims about calls of `eliminate`, each known by its contract alone (`Eliminates`): whatever is refused has its cause and
 -- loses nothing, and what is accepted depends on the table alone. They are drawn from the claims on the definitions in rules/specs/Claims.antt.
-use mathlib.Core.Path.{_≡_, refl, sym, _∙_, ap, subst}
+use mathlib.Core.Path.{_≡_, refl, sym, _∙_, ap}
 use mathlib.Core.Logic.{_↔_}
 use mathlib.Core.List.{List, _++_}
 use Prim.Native.Nat.{ℕ, _≤_}
@@ -12,7 +12,6 @@ use Rattle.tables.specs.declared.Reason.{Reason}
 use Rattle.rules.specs.Eliminate.{Eliminated, listed, turned-back, steps-of, eliminated, output-after}
 use Rattle.rules.specs.Cause.{Cause}
 use Rattle.rules.specs.Claims.{steps-within, refused-cause, cause-refuses, accepted-alike}
-use Rattle.run.specs.declared.Outcome.{Outcome}
 use Rattle.run.specs.declared.Outcome.the-variants.{Systems, Refused}
 use Rattle.delivery.specs.declared.Answer.{Answer}
 use Rattle.delivery.specs.Answer.{answer-of}

@@ -137,6 +137,7 @@ fn run_jobs(
     end
 }
 
+// The table's buffer has room for one record more than a table may have, the other two for 64 more.
 fn main() {
     let mut bytes = io::large_buffer();
     let mut text = io::large_buffer();

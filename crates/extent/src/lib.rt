@@ -1,5 +1,5 @@
 // How many records a written list takes. It is told by the list alone: its records stand one behind the other, so that its last one is the last
-// term of the last head of the last system.
+// term of the last head of the last system, or that head, that system or the header where there is none.
 ghost use mathlib.Core.Path.{_≡_};
 ghost use Prim.Native.Nat.{_≤_, _<_};
 ghost use Rattle.tables.specs.Words.{records};

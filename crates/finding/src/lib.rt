@@ -5,7 +5,7 @@ ghost use Rattle.records.specs.Records.{room, view};
 ghost use Rattle.stored.specs.Stored.{size-at, words-at, skip-to, polys-at, same, member, Storable};
 
 // Whether the polynomial at record `at` is f.
-pub fn equal_at(w: &[u32], at: usize, f: &[u64]) -> bool
+fn equal_at(w: &[u32], at: usize, f: &[u64]) -> bool
     requires { ⌜ (at < room (now w)) × (at + 1 + size-at (view (now w)) at ≤ room (now w)) ⌝ }
     requires { ⌜ Storable (now f) ⌝ }
     ensures { λ r. ⌜ r ≡ same (words-at (view (now (w .entry))) at) (now (f .entry)) ⌝ }

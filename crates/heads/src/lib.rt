@@ -29,7 +29,7 @@ pub fn has_zero(w: &[u32], at: usize, k: usize) -> bool
 }
 
 // Whether the polynomial at record i is 1.
-pub fn one_at(w: &[u32], i: usize) -> bool
+fn one_at(w: &[u32], i: usize) -> bool
     requires { ⌜ (i < room (now w)) × (i + 1 + size-at (view (now w)) i ≤ room (now w)) ⌝ }
     ensures { λ r. ⌜ r ≡ is-one (terms (words-at (view (now (w .entry))) i)) ⌝ }
 {

@@ -124,8 +124,8 @@ module _ (i : Input) (b xs : List ℕ) (l : Left i b) {w : Word} {b₁ : List �
     behind-is : j ≡ further 1 i
     behind-is = let q = read in cc
 
-    pub counted-over : {b′ xs′ : List ℕ} → length xs < n → Counted i b xs CutShort b′ xs′
-    counted-over h = record { over = λ o. refl; within = λ o g. absurd (omega (arith, count-is)) }
+    pub counted-over : length xs < n → Counted i b xs CutShort b₁ xs
+    counted-over h = record { over = λ o. (refl, next l .1, refl); within = λ o g. absurd (omega (arith, count-is)) }
 
     -- Then `fill` is lent the first n words of the slice.
     module _ (h : n ≤ length xs) (long : ℕ) (is-long : long ≡ n) {r : Filled} {b₂ ys : List ℕ} (same : length ys ≡ long)
@@ -141,7 +141,7 @@ module _ (i : Input) (b xs : List ℕ) (l : Left i b) {w : Word} {b₁ : List �
       pub counted-short : {xs′ : List ℕ} → r ≡ FilledShort → Counted i b xs CutShort b₂ xs′
       counted-short q =
           record {
-            over = λ o. refl;
+            over = λ o. absurd (omega (arith, count-is));
             within = λ o g. let u = sym q ∙ taken g .full in let z : _≡_ {A = ℕ} 0 1 = cc in absurd (omega arith);
           }
 

@@ -59,7 +59,7 @@ pub record TakenFirst (n : ℕ) (i : Input) (b xs : List ℕ) (r : Words) (b′ 
   pub words : take n xs′ ≡ words-from (drop (i .at) b) 0 n
   pub others : drop n xs′ ≡ drop n xs
 
--- The count stood in the buffer: one over the slice's length is answered so, and the words of one within it are taken where they stood behind it.
+-- The count stood in the buffer: for one over the slice's length nothing is taken, and the words of one within it are taken where they stood behind it.
 pub record Counted (i : Input) (b xs : List ℕ) (r : Words) (b′ xs′ : List ℕ) : Type 0 where
-  pub over : length xs < word-at b (i .at) → r ≡ CutShort
+  pub over : length xs < word-at b (i .at) → (r ≡ CutShort) × (b′ ≡ b) × (xs′ ≡ xs)
   pub within : word-at b (i .at) ≤ length xs → Enough (word-at b (i .at)) (further 1 i) b → TakenFirst (word-at b (i .at)) (further 1 i) b xs r b′ xs′

@@ -1,7 +1,7 @@
 // Words from standard input by way of a buffer. What standard input holds is free: of a word that is read the contracts say where it stands in the
 // buffer, and of words that stood in the buffer already that they are taken in order, none skipped.
 ghost use mathlib.Core.Path.{_≡_};
-ghost use Prim.Native.Nat.{_+_, _-_, _/_};
+ghost use Prim.Native.Nat.{_+_};
 ghost use lib.ListN.{length};
 ghost use Rattle.decoding.specs.Words.{word-at};
 ghost use Rattle.input.specs.Input.{Reached, Enough, Left, Ended, Taken, Within, Counted};

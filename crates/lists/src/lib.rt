@@ -1,4 +1,4 @@
-// A point against a list of systems.
+// A list of systems: read with its refusals, and a point against it.
 ghost use mathlib.Core.Path.{_≡_};
 ghost use mathlib.Core.List.{List};
 ghost use Prim.Native.Nat.{_<_};
@@ -17,7 +17,7 @@ use tables::Placing;
 use tables::Reason;
 
 // How many systems a list holds.
-pub enum Counted {
+enum Counted {
     Systems(u32),
     Refused(Reason, u32),
 }
@@ -109,7 +109,7 @@ fn check_systems(table: &[u32], p: u32, n: u32) -> Counted
 }
 
 // Whether the list is accepted.
-pub fn check_list(table: &[u32]) -> Checked
+fn check_list(table: &[u32]) -> Checked
     ensures { λ r. ⌜ r ≡ checked (read-list (now (table .entry))) ⌝ }
 {
     if let Checked::Refused(why, record) = reading::check_header(table) {

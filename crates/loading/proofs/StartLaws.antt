@@ -12,7 +12,7 @@ use Rattle.tables.specs.declared.Reason.the-variants.{Room}
 use Rattle.rules.specs.Branch.{Branch, put-P, put-Q, put-all}
 use Rattle.rules.specs.Room.{State, branch-size, branches-size, systems-size, live}
 use Rattle.rules.specs.Step.{Stepped, next, stopped, within-room}
-use Rattle.rules.specs.Run.{first-branch, start}
+use Rattle.rules.specs.Run.{first-branch, start, first-state}
 use Rattle.rules.specs.Eliminate.{room-of, limits-of}
 use Rattle.records.specs.Records.{Rec}
 use Rattle.branches.specs.Area.{Held, capacity, with-open, empty}
@@ -38,41 +38,38 @@ unfolding first-branch
 first-is p t e = let q = sym e in λ i. record { P = put-all (put-P (q i)) (t .P) []; Q = put-all (put-Q (q i)) (t .Q) []; T = [] }
 
 -- ── the start ──
-abbrev first-state : Branch → State
-first-state c = record { branches = c ∷ []; systems = [] }
-
 abbrev decided : Bool → State → Stepped
 decided b s = elim b as (λ b. Stepped) [ true ↦ stopped Room | false ↦ next s ]
 
-live-first : (c : Branch) → live (first-state c) ≡ branch-size c
+live-first : (t : Input) → live (first-state t) ≡ branch-size (first-branch t)
 unfolding live branches-size systems-size
-live-first c = omega arith
+live-first t = omega arith
 
 module _ (t : Input) (most : ℕ) (v : List Rec) where
-  start-is : start (limits-in most) t ≡ decided (over (at-most (most - 1)) (live (first-state (first-branch t)))) (first-state (first-branch t))
+  start-is : start (limits-in most) t ≡ decided (over (at-most (most - 1)) (live (first-state t))) (first-state t)
   unfolding start within-room
   start-is = refl
 
-  by-test : (p : ℕ) (r b : Bool) → over (at-most (most - 1)) (live (first-state (first-branch t))) ≡ b
-      → Started (decided b (first-state (first-branch t))) p most r v → Started (start (limits-in most) t) p most r v
+  by-test : (p : ℕ) (r b : Bool) → over (at-most (most - 1)) (live (first-state t)) ≡ b
+      → Started (decided b (first-state t)) p most r v → Started (start (limits-in most) t) p most r v
   by-test p r b e x =
-      subst (λ (s : Stepped). Started s p most r v) (sym (start-is ∙ ap (λ (q : Bool). decided q (first-state (first-branch t))) e)) x
+      subst (λ (s : Stepped). Started s p most r v) (sym (start-is ∙ ap (λ (q : Bool). decided q (first-state t)) e)) x
 
   -- Not even the branch's own record fits.
   pub start-none : (p : ℕ) → most < 2 → Started (start (limits-in most) t) p most false v
   unfolding over branch-size
   start-none p h =
-      by-test p false true (lt-ltb (most - 1) (live (first-state (first-branch t))) (omega (arith, live-first (first-branch t)))) (refl, refl)
+      by-test p false true (lt-ltb (most - 1) (live (first-state t)) (omega (arith, live-first t))) (refl, refl)
 
   started : (p : ℕ) (r : Bool) → 1 ≤ most → Filled p most (first-branch t) r v → Started (start (limits-in most) t) p most r v
-  started p r h x = go (over (at-most (most - 1)) (live (first-state (first-branch t)))) refl
+  started p r h x = go (over (at-most (most - 1)) (live (first-state t))) refl
     where
-      answer : r ≡ not (over (at-most (most - 1)) (live (first-state (first-branch t))))
+      answer : r ≡ not (over (at-most (most - 1)) (live (first-state t)))
       answer =
           x .answer
-          ∙ room-of-count most (live (first-state (first-branch t))) (1 + branch-size (first-branch t)) h (ap (λ (n : ℕ). 1 + n) (sym (live-first (first-branch t))))
+          ∙ room-of-count most (live (first-state t)) (1 + branch-size (first-branch t)) h (ap (λ (n : ℕ). 1 + n) (sym (live-first t)))
 
-      go : (b : Bool) → over (at-most (most - 1)) (live (first-state (first-branch t))) ≡ b → Started (start (limits-in most) t) p most r v
+      go : (b : Bool) → over (at-most (most - 1)) (live (first-state t)) ≡ b → Started (start (limits-in most) t) p most r v
       go true e = by-test p r true e (answer ∙ ap not e, refl)
       go false e =
           let yes = answer ∙ ap not e in

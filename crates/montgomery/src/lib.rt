@@ -13,7 +13,7 @@ pub fn multiply_reduced(p: u64, n: u64, a: u64, u: u64) -> u64
     (x + m * p) / 4294967296
 }
 
-// The n below 2^32 for which p times n leaves -1 modulo 2^32.
+// The n below 2^32 for which p times n leaves -1 modulo 2^32. Modulo 4 it is p + 2.
 pub fn negated_inverse(p: u64) -> u64
     requires { ⌜ (p < 2147483648) × (p % 2 ≡ 1) ⌝ }
     ensures { λ r. ⌜ (r < 4294967296) × NegatedInverse 4294967296 p r ⌝ }

@@ -43,7 +43,7 @@ fn add_term(table: &[u32], p: u32, i: usize, v: u64, point: &[u32]) -> u64
 }
 
 // The value at a point of the polynomial with its head in record `head`.
-pub fn value_at(table: &[u32], p: u32, n: u32, head: usize, point: &[u32]) -> u64
+fn value_at(table: &[u32], p: u32, n: u32, head: usize, point: &[u32]) -> u64
     requires { ⌜ Readable (now table) p n × (head < records (now table)) × ((f : Poly) × (read-head (now table) p n head ≡ good f)) ⌝ }
     requires { ⌜ Point p (now point) ⌝ }
     ensures { λ r. ⌜ ((f : Poly) → read-head (now (table .entry)) p n head ≡ good f → r ≡ value-modulo p f (now (point .entry))) ⌝ }

@@ -34,7 +34,7 @@ fn draw_below_one(state: &mut u64, a: u64, b: u64, c: u64, d: u64) -> u64
     }
 }
 
-// Eight exponents: each turn moves those before down by a byte and puts the next on top.
+// Eight exponents: each turn moves those before down by a byte and puts the next on top, times 2^56.
 fn monomial(j: u64, base: u64, scale: u64) -> u64
     requires { ⌜ (1 ≤ base) × (base ≤ 256) × (scale ≤ 256) ⌝ }
 {

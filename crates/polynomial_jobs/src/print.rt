@@ -1,5 +1,4 @@
 // Lines: a tag, and what is told. A term is its coefficient and, in hexadecimal, its monomial.
-ghost use Prim.Native.Nat.{_<_};
 ghost use Rattle.polynomial_jobs.specs.Answers.{Inside};
 use polynomials::Formed;
 

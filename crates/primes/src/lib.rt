@@ -44,6 +44,7 @@ fn is_prime_by_products(p: u64) -> bool
     let mut d: u64 = 1;
     let mut first: u64 = 1;
     while first * first <= p {
+        // u + 132, u + 180 and u + 192 are (first + 6) (first + 22), (first + 10) (first + 18) and (first + 12) (first + 16).
         let u = first * (first + 28);
         a = montgomery::multiply_reduced(p, n, a, u);
         b = montgomery::multiply_reduced(p, n, b, u + 132);

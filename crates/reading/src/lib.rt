@@ -2,7 +2,7 @@
 ghost use mathlib.Core.Path.{_≡_};
 ghost use Prim.Native.Nat.{_<_};
 ghost use Rattle.tables.specs.Words.{records};
-ghost use Rattle.tables.specs.Read.{first, read-header, read-heads, read-table};
+ghost use Rattle.tables.specs.Read.{read-header, read-heads, read-table};
 ghost use Rattle.tables.specs.Solve.{checked, reading};
 ghost use Rattle.tables.specs.Walk.{Readable, accepted};
 use tables::Checked;
@@ -21,6 +21,7 @@ pub fn check_header(table: &[u32]) -> Checked
     if table.len() == 0 {
         return Checked::Refused(Reason::Shape, 0);
     }
+    // Over 65,536 records.
     if 262144 < table.len() {
         return Checked::Refused(Reason::Shape, 0);
     }

@@ -23,7 +23,7 @@ pub fn round_fits(n: usize, c: usize, m: usize, words: usize) -> bool
 
 // `division::round` in buffers of its own, for one that doesn't fit those at hand (`round_fits`): r need only hold the result. Stack: 32 KiB, cleared at
 // each call, besides that of `product`.
-pub fn round_apart(
+fn round_apart(
     p: u64,
     k: u32,
     d: u64,

@@ -18,7 +18,7 @@ use Rattle.rules.specs.Branch.{Branch, put-all, some-one, some-zero, Cho
 use Rattle.rules.specs.Room.{Limits, State, polynomials-size, branch-size, branches-size, systems-size, live}
 use Rattle.rules.specs.Rule.{split, divide, close, rule-of}
 use Rattle.rules.specs.Step.{next, stopped, remainder-by, split-open, split-aside, divided, closed, with-Q, state, apply, step}
-use Rattle.rules.specs.Run.{first-branch}
+use Rattle.rules.specs.Run.{first-branch, first-state}
 use Rattle.rules.specs.Written.{list-records}
 use Rattle.rules.specs.Eliminate.{room-of, limits-of}
 
@@ -28,10 +28,6 @@ module _ (l : Limits) (p : ℕ) where
   abbrev pub Leads : ℕ → State → State → Type 0
   Leads zero s s′ = s ≡ s′
   Leads (suc n) s s′ = (b : Branch) × (bs : List Branch) × (m : State) × (s .branches ≡ b ∷ bs) × (step l p b bs (s .systems) ≡ next m) × Leads n m s′
-
--- The state that a run starts from: the first branch alone.
-abbrev pub first-state : Input → State
-first-state t = record { branches = first-branch t ∷ []; systems = [] }
 
 -- The table w is read, its first branch has room, and n whole steps lead from there to s.
 pub record Reached (w : List ℕ) (work n : ℕ) (s : State) : Type 0 where

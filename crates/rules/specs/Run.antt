@@ -31,9 +31,13 @@ run l p (suc left) n s = elim (s .branches) [ [] ↦ finished n (s .systems) | b
 unfoldable pub first-branch : Input → Branch
 first-branch t = record { P = put-all (put-P (t .modulus)) (t .P) []; Q = put-all (put-Q (t .modulus)) (t .Q) []; T = [] }
 
+-- The state that a run starts from: the first branch alone.
+abbrev pub first-state : Input → State
+first-state t = record { branches = first-branch t ∷ []; systems = [] }
+
 -- "11 already while the first branch is put."
 unfoldable pub start : Limits → Input → Stepped
-start l t = within-room l (record { branches = first-branch t ∷ []; systems = [] })
+start l t = within-room l (first-state t)
 
 unfoldable pub run-of : Limits → ℕ → Input → Ended
 run-of l limit t = after-step (run l (t .modulus) limit 0) 0 (start l t)

@@ -4,7 +4,7 @@ use mathlib.Core.List.{List, [], map, reverse}
 use Prim.Native.Nat.{ℕ, _-_, _≤_}
 use lib.ListN.{length}
 use Rattle.records.specs.Records.{Rec}
-use Rattle.rules.specs.Run.{Ended, finished, refused, run}
+use Rattle.rules.specs.Run.{Ended, finished, refused, run-steps, run}
 use Rattle.branches.specs.Area.{Stored, Area, Held}
 use Rattle.representation.specs.Represent.{system-of, state-of}
 use Rattle.run.specs.declared.Outcome.{Outcome}
@@ -13,10 +13,6 @@ use Rattle.run.specs.declared.Ending.{Ending}
 use Rattle.run.specs.declared.Ending.the-variants.{Final, Paused}
 use Rattle.run.specs.declared.Stretch.{Stretch}
 use Rattle.representation.specs.Ready.{Ready, limits-in}
-
-abbrev pub steps-of : Ended → ℕ
-steps-of (finished n ss) = n
-steps-of (refused n why) = n
 
 abbrev pub outcome-of : Ended → Outcome
 outcome-of (finished n ss) = Systems (length ss)
@@ -31,7 +27,7 @@ Left (refused n why) p v most = Unit {0}
 
 -- A run that comes to `ended` has done so many steps, has this outcome, and leaves v in the work area.
 pub record Ran (ended : Ended) (p : ℕ) (n : ℕ) (o : Outcome) (v : List Rec) (most : ℕ) : Type 0 where
-  pub steps : n ≡ steps-of ended
+  pub steps : n ≡ run-steps ended
   pub outcome : o ≡ outcome-of ended
   pub left : Left ended p v most
 

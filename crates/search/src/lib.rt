@@ -18,13 +18,13 @@ pub enum Other {
 }
 
 // The rank of the polynomial at record i as a pivot in the variable at position v.
-pub fn rank_at(w: &[u32], i: usize, v: u32) -> u64
+fn rank_at(w: &[u32], i: usize, v: u32) -> u64
     requires { ⌜ (i < room (now w)) × (i + 1 + size-at (view (now w)) i ≤ room (now w)) × (v < 8) ⌝ }
     requires { ⌜ ((p : ℕ) × Holds p (words-at (view (now w)) i)) ⌝ }
     ensures { λ r. ⌜ r ≡ rank v (terms (words-at (view (now (w .entry))) i)) ⌝ }
 {
     if heads::leader_at(w, i) != v + 1 {
-        return 131072;
+        return 131072; // above every rank
     }
     let degree = monomials::exponent(stored::monomial(w, i + 1), v);
     512 * degree + records::get0(w, i) as u64

@@ -1,4 +1,4 @@
--- The pivot and its initial as they are loaded, and the rule that fits them.
+-- The pivot and its initial as they are loaded, the rule that fits them, and what rules 4 and 5 leave to be divided.
 use mathlib.Core.Path.{_≡_, refl, sym, ap, ap₂, subst, _∙_}
 use mathlib.Core.Logic.{_≢_}
 use mathlib.Core.Bool.{Bool, true, false, _||_}

@@ -1,4 +1,4 @@
-// Sums of polynomials, by one merge: f plus a term times g.
+// Sums of polynomials by one merge, f plus a term times g; the difference, the monic polynomial, and words copied.
 ghost use mathlib.Core.Path.{_≡_};
 ghost use Prim.Native.Nat.{_+_, _-_, _≤_, _<_};
 ghost use lib.ListN.{length, drop};

@@ -1,4 +1,4 @@
-// The survey of the open branch: which rule fits, by the heads and first terms of its polynomials.
+// The survey of the open branch by the heads and first terms of its polynomials: rule 1, rule 2 or the pivot, and the other polynomial of rule 4.
 ghost use mathlib.Core.Path.{_≡_};
 ghost use Prim.Native.Nat.{ℕ, _<_};
 ghost use Rattle.rules.specs.Branch.{other};

@@ -72,6 +72,7 @@ fn respond(
     put_answer(text, answer, output)
 }
 
+// One byte more than is accepted is read. The longest text has 4,096 lines of 85 bytes and one of 64; 128 bytes more are free.
 fn main() {
     let mut bytes = [0u8; 65537];
     let mut words = [0u32; 16384];

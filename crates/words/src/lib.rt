@@ -1,6 +1,6 @@
 // The words of a table, and its indices.
 ghost use mathlib.Core.Path.{_≡_};
-ghost use Prim.Native.Nat.{_+_, _*_, _<_};
+ghost use Prim.Native.Nat.{_<_};
 ghost use Rattle.tables.specs.Words.{word, records, follow};
 ghost use Rattle.tables.specs.Walk.{next};
 use tables::Next;

@@ -1,7 +1,7 @@
 -- The list that the systems in the work area make.
 use mathlib.Core.Path.{_≡_}
 use mathlib.Core.List.{List, [], _++_, map, reverse}
-use Prim.Native.Nat.{ℕ, _+_}
+use Prim.Native.Nat.{ℕ}
 use lib.ListN.{length}
 use Rattle.tables.specs.Read.{Listing}
 use Rattle.residues.specs.Each.{Each}

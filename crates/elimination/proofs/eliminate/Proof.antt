@@ -3,6 +3,7 @@ use mathlib.Core.Path.{_≡_, sym, ap, _∙_}
 use Prim.Native.Nat.{ℕ, _/_}
 use borrow.Author.Needs.{needs}
 use lib.ListN.{length, replicate}
+use Rattle.rules.specs.laws.Calls.{call-not-read, call-read}
 use Rattle.tables.specs.Read.{Input, good, read-table}
 use Rattle.tables.specs.Solve.{reading}
 use Rattle.tables.specs.declared.Reading.{Reading}
@@ -10,7 +11,6 @@ use Rattle.rules.specs.Run.{run-of}
 use Rattle.rules.specs.Eliminate.{Eliminated, turned-back, delivered, eliminated, limits-of, output-after}
 use Rattle.delivery.specs.Answer.{answer-of}
 use Rattle.tables.specs.laws.Chains.{reading-good, reading-refused}
-use Rattle.elimination.proofs.WholeLaws.{eliminated-refused, eliminated-accepted}
 use Rattle.elimination.proofs.eliminate.Statement.{statement}
 use Rattle.elimination.proofs.eliminate.Tie as tie
 
@@ -34,7 +34,7 @@ module _ (m : tie.After-outcome) where
   refused : due refused-in ≡ turned-back 0 (m .outcome .given .0 .0) (m .outcome .given .0 .1 .0)
   refused =
       let a = refused-in .args in
-      eliminated-refused (a .table .now) (length (a .work .now)) (length (a .output .now)) (a .limit)
+      call-not-read (a .table .now) (length (a .work .now)) (length (a .output .now)) (a .limit) _ _
       (reading-refused (read-table (a .table .now)) (outcome-read (m .before .before) ∙ m .outcome .given .1))
 
 -- ── it is accepted ──
@@ -50,7 +50,7 @@ module _ (m : tie.After-enum-told) where
       due accepted-in ≡ delivered (length (a .output .now) / 4) (accepted .0) (run-of (limits-of (length (a .work .now))) (a .limit) (accepted .0))
   is-delivered =
       let a = accepted-in .args in
-      eliminated-accepted (a .table .now) (length (a .work .now)) (length (a .output .now)) (a .limit) (accepted .1)
+      call-read (a .table .now) (length (a .work .now)) (length (a .output .now)) (a .limit) (accepted .0) (accepted .1)
 
 -- ── the answers ──
 read-table-requires : tie.Need-read-table-requires

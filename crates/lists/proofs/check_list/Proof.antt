@@ -1,4 +1,4 @@
--- `list::check_list` meets its contract.
+-- `check_list` meets its contract.
 use mathlib.Core.Path.{_≡_, sym, _∙_}
 use mathlib.Core.List.{List}
 use Prim.Native.Nat.{ℕ, _≤_}

@@ -1,4 +1,4 @@
--- `list::check_system` meets its contract.
+-- `check_system` meets its contract.
 use mathlib.Core.Path.{sym, _∙_, ap}
 use native.Mathlib.Omega.{arith}
 use borrow.Author.Needs.{needs}

@@ -1,4 +1,4 @@
--- `list::check_systems` meets its contract. The invariant: the count and what is read from index i on, which record `at` holds, decide the whole
+-- `check_systems` meets its contract. The invariant: the count and what is read from index i on, which record `at` holds, decide the whole
 -- count. The measure is the number of records behind `at`.
 use mathlib.Core.Path.{_≡_, sym, _∙_}
 use mathlib.Core.List.{List}

@@ -1,4 +1,4 @@
--- `list::check_triangle` meets its contract. The invariant: what is read from index i on, which record `at` holds, decides the whole chain. The
+-- `check_triangle` meets its contract. The invariant: what is read from index i on, which record `at` holds, decides the whole chain. The
 -- measure is the number of records behind `at`.
 use mathlib.Core.Path.{_≡_, sym, _∙_, ap}
 use mathlib.Core.List.{List}

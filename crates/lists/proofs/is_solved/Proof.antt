@@ -1,4 +1,4 @@
--- `list::is_solved` meets its contract.
+-- `is_solved` meets its contract.
 use mathlib.Core.Path.{_≡_, sym, _∙_}
 use borrow.Author.Needs.{needs}
 use borrow.Author.Tests.{not-true, not-false}

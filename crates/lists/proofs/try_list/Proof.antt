@@ -1,4 +1,4 @@
--- `list::try_list` meets its contract: an accepted list's first words give p, n and the chain of its systems.
+-- `try_list` meets its contract: an accepted list's first words give p, n and the chain of its systems.
 use mathlib.Core.Path.{_≡_, sym, _∙_, ap}
 use mathlib.Core.Bool.{true}
 use mathlib.Core.List.{List}

@@ -1,4 +1,4 @@
--- `primes::multiply_reduced` meets its contract: the product and the multiple of p are below 2^63 each, so that their sum fits.
+-- `multiply_reduced` meets its contract: the product and the multiple of p are below 2^63 each, so that their sum fits.
 use Prim.Native.Nat.{ℕ, _*_, _%_, _≤_, _<_}
 use native.Mathlib.Nat.{mul-le-mul}
 use native.Mathlib.Omega.{arith}

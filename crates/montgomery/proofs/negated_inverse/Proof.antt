@@ -1,4 +1,4 @@
--- `primes::negated_inverse` meets its contract: p + 2 is the negated inverse modulo 4, and four steps lead to 16, 256, 2^16 and 2^32.
+-- `negated_inverse` meets its contract: p + 2 is the negated inverse modulo 4, and four steps lead to 16, 256, 2^16 and 2^32.
 use mathlib.Core.Path.{_≡_, refl, subst}
 use Prim.Native.Nat.{ℕ, _+_, _*_, _%_, _∣_}
 use native.Mathlib.Nat.{mul-dvd-mul, dvd-of-mod-eq-zero}

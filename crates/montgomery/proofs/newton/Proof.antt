@@ -1,4 +1,4 @@
--- `primes::newton` meets its contract: the last product is just within 64 bits.
+-- `newton` meets its contract: the last product is just within 64 bits.
 use native.Mathlib.Omega.{arith}
 use borrow.Author.Needs.{needs}
 use Rattle.residues.specs.laws.Width.{product-fits}

@@ -1,4 +1,4 @@
--- `point::is_point` meets its contract. The loop's invariant: each number before i is a residue. The measure is the count of numbers left.
+-- `is_point` meets its contract. The loop's invariant: each number before i is a residue. The measure is the count of numbers left.
 use mathlib.Core.Path.{sym}
 use Prim.Native.Nat.{ℕ, _≤_, _<_, _-_}
 use native.Mathlib.Omega.{arith}

@@ -1,4 +1,4 @@
--- `point::try_table` meets its contract: an accepted table's first words give p, n and the two chains that `all_match` tries.
+-- `try_table` meets its contract: an accepted table's first words give p, n and the two chains that `all_match` tries.
 use mathlib.Core.Path.{_≡_}
 use mathlib.Core.List.{List}
 use Prim.Native.Nat.{ℕ, _≤_}

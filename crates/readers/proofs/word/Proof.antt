@@ -1,4 +1,4 @@
--- A walk of the code. The reader is taken apart, and `words::word` is called on its table and its number; all that is known of that function is its
+-- A walk of the code. The reader is taken apart, and `word` is called on its table and its number; all that is known of that function is its
 -- contract. A reader can be copied: one copy stays the parameter's, and of the other what the table owns goes to the call.
 use mathlib.Core.Path.{_≡_, refl}
 use Prim.Native.Nat.{ℕ, _<_, _^_}

@@ -15,9 +15,9 @@ use Rattle.rules.specs.Branch.{Branch}
 use Rattle.rules.specs.Room.{Limits, State, polynomials-size, live}
 use Rattle.rules.specs.Rule.{Rule, drop, list, split, divide, close, rule-of}
 use Rattle.rules.specs.Step.{Stepped, next, stopped, within-room, after-division, remainder-by, split-open, split-aside, divided, closed, with-Q, state, replace, apply, step}
-use Rattle.rules.specs.Run.{Ended, finished, refused, run-steps, run, run-of}
+use Rattle.rules.specs.Run.{Ended, finished, refused, run-steps, run, run-of, first-state}
 use Rattle.rules.specs.Eliminate.{room-of, limits-of, Eliminated, listed, turned-back, steps-of, delivered, eliminated}
-use Rattle.rules.specs.Cause.{Leads, first-state, Reached, Of-step, Cause, in-reading, in-first-branch, at-limit, in-step, at-end}
+use Rattle.rules.specs.Cause.{Leads, Reached, Of-step, Cause, in-reading, in-first-branch, at-limit, in-step, at-end}
 use Rattle.rules.specs.Cause.{Met-replacing, degree-met, terms-met, room-met, met-later, Met, splitting, dividing-degree, dividing-terms, dividing-room, closing}
 use Rattle.rules.specs.laws.Taken.{tested}
 use Rattle.rules.specs.laws.Calls.{delivered-short, delivered-ends, call-read, call-not-read, call-ends}

@@ -15,8 +15,7 @@ use Rattle.tables.specs.Read.{System, Input}
 use Rattle.rules.specs.Branch.{Branch, put-P, put-Q, Chosen}
 use Rattle.rules.specs.Room.{Limits, State}
 use Rattle.rules.specs.Step.{remainder-by}
-use Rattle.rules.specs.Run.{finished, first-branch, run-of}
-use Rattle.rules.specs.Cause.{first-state}
+use Rattle.rules.specs.Run.{finished, first-branch, run-of, first-state}
 use Rattle.rules.specs.laws.Lists.{each-remove}
 use Rattle.rules.specs.laws.Put.{put-P-keeps, put-Q-keeps, put-all-keeps}
 use Rattle.rules.specs.laws.Taken.{Pivot, Replaced, remainder-by-is, Taken, by-drop, by-list, by-split, by-divide, by-close}

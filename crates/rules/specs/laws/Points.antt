@@ -22,8 +22,7 @@ use Rattle.tables.specs.Read.{System, Input}
 use Rattle.rules.specs.Branch.{Branch, put-P, put-Q, member, is-one, some-one, some-zero, Chosen, remove}
 use Rattle.rules.specs.Room.{Limits, State}
 use Rattle.rules.specs.Step.{split-open, split-aside, divided, remainder-by}
-use Rattle.rules.specs.Run.{finished, first-branch, run-of}
-use Rattle.rules.specs.Cause.{first-state}
+use Rattle.rules.specs.Run.{finished, first-branch, run-of, first-state}
 use Rattle.rules.specs.Solutions.{Some, Zero, NonZero, Solves-input, Solves-system, Proper}
 use Rattle.rules.specs.laws.Lists.{At, some-append, each-remove, each-remove-other}
 use Rattle.rules.specs.laws.Put.{each-member, one-is-nonzero, some-one-refutes, some-zero-refutes, put-P-zero, put-Q-nonzero, put-all-P-zero, put-all-Q-nonzero}

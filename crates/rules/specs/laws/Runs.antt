@@ -12,8 +12,8 @@ use Rattle.tables.specs.declared.Reason.the-variants.{Room, Steps}
 use Rattle.rules.specs.Branch.{Branch}
 use Rattle.rules.specs.Room.{Limits, State, live}
 use Rattle.rules.specs.Step.{Stepped, next, stopped, step}
-use Rattle.rules.specs.Run.{Ended, finished, refused, run-steps, after-step, run, start, run-of}
-use Rattle.rules.specs.Cause.{Leads, first-state}
+use Rattle.rules.specs.Run.{Ended, finished, refused, run-steps, after-step, run, start, run-of, first-state}
+use Rattle.rules.specs.Cause.{Leads}
 use Rattle.rules.specs.laws.Taken.{within-room-is, Taken, step-taken}
 
 -- ── a run from a state ──

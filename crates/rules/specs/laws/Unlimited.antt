@@ -13,10 +13,10 @@ use Rattle.rules.specs.Branch.{Branch}
 use Rattle.rules.specs.Room.{Limits, unlimited, State, polynomials-size, live}
 use Rattle.rules.specs.Rule.{Rule, drop, list, split, divide, close, rule-of}
 use Rattle.rules.specs.Step.{next, within-room, after-division, remainder-by, divided, closed, with-Q, state, replace, apply, step}
-use Rattle.rules.specs.Run.{Ended, finished, refused, run-of}
+use Rattle.rules.specs.Run.{Ended, finished, refused, run-of, first-state}
 use Rattle.rules.specs.Written.{list-words}
 use Rattle.rules.specs.Eliminate.{limits-of, listed, eliminated}
-use Rattle.rules.specs.Cause.{Leads, first-state}
+use Rattle.rules.specs.Cause.{Leads}
 use Rattle.rules.specs.laws.Taken.{remainder-by-is, room-next, within-room-next, after-division-next}
 use Rattle.rules.specs.laws.Calls.{listing}
 use Rattle.rules.specs.laws.Runs.{Over-first, run-none, run-of-on, run-of-ends}

@@ -15,8 +15,7 @@ use Rattle.rules.specs.Branch.{Branch, member, is-one, some-one, some-ze
 use Rattle.rules.specs.Room.{Limits, State, polynomials-size, branch-size, branches-size, systems-size, live}
 use Rattle.rules.specs.Rule.{Rule, drop, list, split, divide, close, divide-or-close, rule-with, rule-of-P, rule-of}
 use Rattle.rules.specs.Step.{Stepped, next, within-room, split-open, split-aside, divided, closed, with-Q, state, remainder-by, replace, apply, step}
-use Rattle.rules.specs.Run.{finished, run-of}
-use Rattle.rules.specs.Cause.{first-state}
+use Rattle.rules.specs.Run.{finished, run-of, first-state}
 use Rattle.rules.specs.laws.Lists.{At}
 use Rattle.rules.specs.laws.Pivot.{pivot-stands}
 use Rattle.rules.specs.laws.Taken.{tested, after-division-next}

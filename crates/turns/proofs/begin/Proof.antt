@@ -1,4 +1,4 @@
--- `turn::begin`: `begun` with the words read.
+-- `begin`: `begun` with the words read.
 use mathlib.Core.Path.{ap, _∙_}
 use Prim.Native.Nat.{ℕ}
 use native.Mathlib.Omega.{arith}

@@ -1,4 +1,4 @@
--- `turn::drop`: `dropped` with the words read.
+-- `drop`: `dropped` with the words read.
 use Rattle.branches.proofs.AreaLaws.{lies, first-is, at-is, at-inside, own-read}
 use Rattle.branches.proofs.LengthLaws.{inside-room}
 use Rattle.branches.proofs.ControlLaws.{w2-is, w3-is}

@@ -1,4 +1,4 @@
--- `turn::is_open`: `open-test` of the control record.
+-- `is_open`: `open-test` of the control record.
 use mathlib.Core.Path.{ap, _∙_}
 use mathlib.Core.List.{List}
 use lib.ListN.{getD}

@@ -1,4 +1,4 @@
--- `turn::list` meets its contract: the branch's records are moved up to the systems, and both records are written anew.
+-- `list` meets its contract: the branch's records are moved up to the systems, and both records are written anew.
 use mathlib.Core.Path.{_≡_}
 use mathlib.Core.List.{List}
 use Prim.Native.Nat.{ℕ, _≤_, _<_}

@@ -1,4 +1,4 @@
--- `primes::is_prime_by_wheel` meets its contract. The loop's invariant: a turn begins at d, and no number from 2 up to d divides p.
+-- `is_prime_by_wheel` meets its contract. The loop's invariant: a turn begins at d, and no number from 2 up to d divides p.
 -- The measure is what is left up to 2^16, where the square of d would no longer fit.
 use mathlib.Core.Path.{_≡_}
 use mathlib.Core.Logic.{_≢_}

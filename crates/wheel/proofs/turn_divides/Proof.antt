@@ -1,4 +1,4 @@
--- `primes::turn_divides` meets its contract: the candidate that divides p, or that none of the eight does.
+-- `turn_divides` meets its contract: the candidate that divides p, or that none of the eight does.
 use native.Mathlib.Nat.{add-zero}
 use borrow.Author.Needs.{needs}
 use Rattle.wheel.specs.laws.Wheel.{offsets, turn-divided, turn-passed}

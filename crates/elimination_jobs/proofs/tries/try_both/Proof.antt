@@ -1,4 +1,4 @@
--- Both answers are lines of what `tables` answers.
+-- Both answers are lines of what `points` and `lists` answer.
 use borrow.Author.Needs.{needs}
 use Rattle.elimination_jobs.proofs.TriedLaws.{tried-both}
 use Rattle.elimination_jobs.proofs.tries.try_both.Statement.{statement}

@@ -1,22 +1,23 @@
 -- The parts of a polynomial held in pairs of words: its terms of the highest power come first, and a power is taken out of a monomial by a difference of words.
 use mathlib.Core.Path.{_≡_, refl, sym, _∙_, ap, ap₂, subst}
 use mathlib.Core.Logic.{_≢_}
-use mathlib.Core.List.{List, [], _∷_, _++_, append-nil}
+use mathlib.Core.List.{List, [], _∷_, _++_}
 use Prim.Native.Nat.{ℕ, zero, suc, _+_, _-_, _*_, _/_, _%_, _^_, _≤_, _<_}
-use native.Mathlib.Nat.{pow-succ', mod-eq-of-lt, mul-le-mul, pow-le-pow-right, le-refl, add-zero, zero-add, sub-self}
+use native.Mathlib.Nat.{pow-succ', mod-eq-of-lt, mul-le-mul, pow-le-pow-right, le-refl, sub-self}
 use native.Mathlib.Omega.{arith}
-use lib.ListN.{length, take, drop, getD, set, length-set, take-append-drop, drop-of-length-le}
-use lib.Seq.{set-getD, length-take-le, getD-take, getD-set-other}
-use Rattle.polynomials.specs.Poly.{Exponents, Term, Poly, join}
+use lib.ListN.{length, take, drop, getD, set, take-append-drop, drop-of-length-le}
+use lib.Seq.{set-getD, length-take-le, getD-take}
+use Rattle.residues.specs.laws.Each.{each-append, each-drop}
+use Rattle.polynomials.specs.Poly.{Exponents, Term, Poly}
 use Rattle.polynomials.specs.Canonical.{Canonical, All}
-use Rattle.polynomials.specs.Division.{degree, degrees, highest, leader, coefficient, without, initial, rest, pure-power, shift, factor}
+use Rattle.polynomials.specs.Division.{degree, degrees, highest, leader, coefficient, without, initial, rest}
 use Rattle.polynomials.specs.Packed.{bytes, term, terms}
 use Rattle.polynomials.specs.Working.{Split, Written}
-use Rattle.polynomials.specs.laws.Packed.{byte-power, length-bytes}
+use Rattle.polynomials.specs.laws.Packed.{byte-power}
 use Rattle.polynomials.specs.laws.Terms.{length-terms, terms-append, terms-drop, terms-at, terms-push}
 use Rattle.polynomials.specs.laws.Places.{Places, all-map, places-terms}
 use Rattle.polynomials.specs.laws.Parts.{above-leader, leader-places, leader-first, falling, degree-rest, coefficient-parted}
-use Rattle.polynomials.specs.laws.Parts.{without-parted, length-coefficient, coefficient-append, coefficient-of, coefficient-off, cleared, shift-append}
+use Rattle.polynomials.specs.laws.Parts.{without-parted, length-coefficient, coefficient-append, coefficient-of, cleared}
 use Rattle.polynomials.specs.laws.Degree.{all-degree, degree-at-most}
 use Rattle.polynomials.specs.laws.Product.{canonical-drop}
 use Rattle.polynomials.specs.laws.Free.{Free}
@@ -61,13 +62,6 @@ shifted k d h l = ap (λ z. d * z % 18446744073709551616) (sym (byte-power k)) �
     small : d * 256 ^ k < 18446744073709551616
     small = omega (arith, most)
 
--- That power is joined again.
-join-power : (k m : ℕ) (e : Exponents) → k < length e → join (pure-power k m) (set e k 0) ≡ set e k m
-unfolding join pure-power
-join-power k m [] h = absurd (omega arith)
-join-power zero m (x ∷ e) h = ap (λ z. z ∷ e) (add-zero m)
-join-power (suc k) m (x ∷ e) h = ap₂ _∷_ (zero-add x) (join-power k m e (omega arith))
-
 -- ── parts of pairs ──
 -- One term more is taken.
 pub terms-next : (s : List ℕ) (i : ℕ) → i % 2 ≡ 0 → i + 1 < length s → terms (take (i + 2) s) ≡ terms (take i s) ++ (term (getD s i 0) (getD s (i + 1) 0) ∷ [])
@@ -79,18 +73,9 @@ terms-next s i e h = ap (λ z. terms (take (i + 2) z)) (sym same) ∙ terms-push
 parted : (s : List ℕ) (i : ℕ) → i % 2 ≡ 0 → i ≤ length s → terms s ≡ terms (take i s) ++ terms (drop i s)
 parted s i e h = ap terms (sym (take-append-drop i s)) ∙ terms-append (take i s) (drop i s) (omega (arith, length-take-le i s h))
 
-all-append : (P : Exponents → Type 0) (f g : Poly) → All P f → All P g → All P (f ++ g)
-all-append P [] g u v = v
-all-append P (t ∷ f) g u v = (u .0, all-append P f g (u .1) v)
-
-all-drop : (P : Exponents → Type 0) (n : ℕ) (f : Poly) → All P f → All P (drop n f)
-all-drop P zero f u = u
-all-drop P (suc n) [] u = tt
-all-drop P (suc n) (t ∷ f) u = all-drop P n f (u .1)
-
 -- What holds of all terms holds of the one at word i.
 pub all-at : (P : Exponents → Type 0) (s : List ℕ) (i : ℕ) → i % 2 ≡ 0 → i + 1 < length s → All P (terms s) → P (bytes 8 (getD s (i + 1) 0))
-all-at P s i e h u = subst (All P) (sym (terms-drop i s e) ∙ terms-at s i h) (all-drop P (i / 2) (terms s) u) .0
+all-at P s i e h u = subst (All P) (sym (terms-drop i s e) ∙ terms-at s i h) (each-drop (λ t. P (t .exps)) (i / 2) (terms s) u) .0
 
 pub all-at-taken : (P : Exponents → Type 0) (s : List ℕ) (n i : ℕ) → i % 2 ≡ 0 → i + 1 < n → n ≤ length s → All P (terms (take n s)) → P (bytes 8 (getD s (i + 1) 0))
 all-at-taken P s n i e h l u = subst (λ w. P (bytes 8 w)) (getD-take n s (i + 1) 0 h) (all-at P (take n s) i e (omega (arith, length-take-le n s l)) u)
@@ -149,14 +134,14 @@ module _ (k : ℕ) (s : List ℕ) (L : Led k s) where
   behind i e h =
       falling-from (L .0 .0) k 8 (terms (drop i s)) _ _ (terms-at s i h)
       (subst (Canonical (L .0 .0)) (sym (terms-drop i s e)) (canonical-drop (L .0 .0) (i / 2) (terms s) (L .0 .1))) (places-terms (drop i s))
-      (λ j l. subst (Free j) (sym (terms-drop i s e)) (all-drop (λ a. getD a j 0 ≡ 0) (i / 2) (terms s) (above-leader (terms s) j (omega (arith, L .1)))))
+      (λ j l. subst (Free j) (sym (terms-drop i s e)) (each-drop (λ t. getD (t .exps) j 0 ≡ 0) (i / 2) (terms s) (above-leader (terms s) j (omega (arith, L .1)))))
 
   -- The first term has the highest power.
   pub top-first : power-at k s 0 ≡ top
   top-first = omega (arith, bounded 0 refl (led-long k s L), degree-at-most k (power-at k s 0) (terms s) (behind 0 refl (led-long k s L)))
 
   pub front-next : (i : ℕ) → i % 2 ≡ 0 → i + 1 < length s → power-at k s i ≡ top → Front k s i → Front k s (i + 2)
-  front-next i e h q u = subst (All (λ e. getD e k 0 ≡ top)) (sym (terms-next s i e h)) (all-append (λ e. getD e k 0 ≡ top) (terms (take i s)) _ u (q, tt))
+  front-next i e h q u = subst (All (λ e. getD e k 0 ≡ top)) (sym (terms-next s i e h)) (each-append (λ t. getD (t .exps) k 0 ≡ top) (terms (take i s)) _ .1 (u, (q, tt)))
 
   pub front-first : Front k s 2
   unfolding terms
@@ -206,30 +191,24 @@ module _ (k : ℕ) (s : List ℕ) (L : Led k s) where
   }
 
 -- ── terms with a power taken out, written behind one another ──
-lowered-term : (k a m e d : ℕ) → k < 8 → getD (bytes 8 m) k 0 ≡ e → d ≤ e → term a (m - d * 256 ^ k) ≡ record { coef = a; exps = set (bytes 8 m) k (e - d) }
+pub lowered-term : (k a m e d : ℕ) → k < 8 → getD (bytes 8 m) k 0 ≡ e → d ≤ e → term a (m - d * 256 ^ k) ≡ record { coef = a; exps = set (bytes 8 m) k (e - d) }
 lowered-term k a m e d h q l = ap (λ z. record { coef = a; exps = z }) (lower 8 k m d h (omega arith) .1 ∙ ap (λ z. set (bytes 8 m) k (z - d)) q)
 
 module _ (k : ℕ) (s : List ℕ) (i : ℕ) (even : i % 2 ≡ 0) (inside : i + 1 < length s) where
   abbrev t : Term
   t = term (getD s i 0) (getD s (i + 1) 0)
 
-  coefficient-next : (d : ℕ) → getD (t .exps) k 0 ≡ d → coefficient k d (terms (take (i + 2) s)) ≡ coefficient k d (terms (take i s)) ++ (cleared k t ∷ [])
+  pub coefficient-next : (d : ℕ) → getD (t .exps) k 0 ≡ d → coefficient k d (terms (take (i + 2) s)) ≡ coefficient k d (terms (take i s)) ++ (cleared k t ∷ [])
   unfolding coefficient
   coefficient-next d q = ap (coefficient k d) (terms-next s i even inside) ∙ coefficient-append k d (terms (take i s)) (t ∷ [])
       ∙ ap (λ z. coefficient k d (terms (take i s)) ++ z) (coefficient-of k d t [] q)
-
-  pub coefficient-same : (d : ℕ) → getD (t .exps) k 0 ≢ d → coefficient k d (terms (take (i + 2) s)) ≡ coefficient k d (terms (take i s))
-  unfolding coefficient
-  coefficient-same d n =
-      ap (coefficient k d) (terms-next s i even inside) ∙ coefficient-append k d (terms (take i s)) (t ∷ []) ∙ ap (λ z. coefficient k d (terms (take i s)) ++ z) (coefficient-off k d t [] n)
-      ∙ append-nil (coefficient k d (terms (take i s)))
 
   module _ (out : List ℕ) (l top d : ℕ) (k<8 : k < 8) (pairs : l % 2 ≡ 0) (room : l + 1 < length out) (is-top : top ≡ d * 256 ^ k) where
     -- The pair is written with the power d taken out.
     abbrev written : List ℕ
     written = set (set out l (getD s i 0)) (l + 1) (getD s (i + 1) 0 - top)
 
-    pushed : terms (take (l + 2) written) ≡ terms (take l out) ++ (term (getD s i 0) (getD s (i + 1) 0 - d * 256 ^ k) ∷ [])
+    pub pushed : terms (take (l + 2) written) ≡ terms (take l out) ++ (term (getD s i 0) (getD s (i + 1) 0 - d * 256 ^ k) ∷ [])
     pushed = terms-push out l (getD s i 0) (getD s (i + 1) 0 - top) pairs room ∙ ap (λ z. terms (take l out) ++ (term (getD s i 0) (getD s (i + 1) 0 - z) ∷ [])) is-top
 
     -- From terms of that power.
@@ -238,89 +217,3 @@ module _ (k : ℕ) (s : List ℕ) (i : ℕ) (even : i % 2 ≡ 0) (inside : i + 1
         pushed
         ∙ ap₂ (λ f u. f ++ (u ∷ [])) h (lowered-term k (getD s i 0) (getD s (i + 1) 0) d d k<8 q (le-refl d) ∙ ap (λ z. record { coef = getD s i 0; exps = set (t .exps) k z }) (sub-self d))
         ∙ sym (coefficient-next d q)
-
-    -- From terms of the power e.
-    pub factor-next : (e : ℕ) → d ≤ e → getD (t .exps) k 0 ≡ e → terms (take l out) ≡ shift k (e - d) (coefficient k e (terms (take i s))) →
-        terms (take (l + 2) written) ≡ shift k (e - d) (coefficient k e (terms (take (i + 2) s)))
-    unfolding shift
-    factor-next e h q g =
-        pushed
-        ∙ ap₂ (λ f u. f ++ (u ∷ [])) g
-        (lowered-term k (getD s i 0) (getD s (i + 1) 0) e d k<8 q h
-        ∙ ap (λ z. record { coef = getD s i 0; exps = z }) (sym (join-power k (e - d) (t .exps) (omega (arith, length-bytes 8 (getD s (i + 1) 0))))))
-        ∙ sym (ap (shift k (e - d)) (coefficient-next e q) ∙ shift-append k (e - d) (coefficient k e (terms (take i s))) (cleared k t ∷ []))
-
--- Of the first i words of s, the terms of v(k+1)^e are divided by v(k+1)^d, and stand in the first l words of r; the words behind are those of s.
-pub record Divided (k d e top : ℕ) (s r : List ℕ) (i l : ℕ) : Type 0 where
-  pub even : i % 2 ≡ 0
-  pub pairs : l % 2 ≡ 0
-  pub passed : l ≤ i
-  pub same-length : length r ≡ length s
-  pub is-top : top ≡ d * 256 ^ k
-  pub unread : (j : ℕ) → i ≤ j → getD r j 0 ≡ getD s j 0
-  pub divided : terms (take l r) ≡ shift k (e - d) (coefficient k e (terms (take i s)))
-
-pub divided-as : {k d e top : ℕ} {s r r′ : List ℕ} {i l l′ : ℕ} → r ≡ r′ → l ≡ l′ → Divided k d e top s r′ i l′ → Divided k d e top s r i l
-divided-as {k} {d} {e} {top} {s} {r} {r′} {i} {l} {l′} q z D = subst (λ x. Divided k d e top s x i l) (sym q) (subst (λ x. Divided k d e top s r′ i x) (sym z) D)
-
-module _ (k d e : ℕ) (s : List ℕ) (k<8 : k < 8) (d≤e : d ≤ e) where
-  pub divided-none : e < 256 → Divided k d e (d * 2 ^ (8 * k) % 18446744073709551616) s s 0 0
-  unfolding terms coefficient shift
-  divided-none h = record {
-    even = refl;
-    pairs = refl;
-    passed = omega arith;
-    same-length = refl;
-    is-top = shifted k d k<8 (omega arith);
-    unread = λ j u. refl;
-    divided = refl;
-  }
-
-  module _ (top : ℕ) (r : List ℕ) (i l : ℕ) (D : Divided k d e top s r i l) where
-    read : getD r (i + 1) 0 ≡ getD s (i + 1) 0
-    read = D .unread (i + 1) (omega arith)
-
-    same-power : power-at k r i ≡ power-at k s i
-    same-power = ap (λ m. getD (bytes 8 m) k 0) read
-
-    pub divided-next : i + 1 < length s → power-at k r i ≡ e → Divided k d e top s (set (set r l (getD r i 0)) (l + 1) (getD r (i + 1) 0 - top)) (i + 2) (l + 2)
-    divided-next h q = record {
-      even = omega (arith, D .even);
-      pairs = omega (arith, D .pairs);
-      passed = omega (arith, D .passed);
-      same-length = simp length-set (D .same-length);
-      is-top = D .is-top;
-      unread = λ j m.
-          getD-set-other (set r l (getD r i 0)) (l + 1) j (getD r (i + 1) 0 - top) 0 (λ z. omega (arith, D .passed))
-          ∙ getD-set-other r l j (getD r i 0) 0 (λ z. omega (arith, D .passed)) ∙ D .unread j (omega arith);
-      divided =
-          ap₂ (λ a m. terms (take (l + 2) (set (set r l a) (l + 1) (m - top)))) (D .unread i (le-refl i)) read
-          ∙ factor-next k s i (D .even) h r l top d k<8 (D .pairs) (omega (arith, D .passed, D .same-length)) (D .is-top) e d≤e (sym same-power ∙ q) (D .divided);
-    }
-
-    pub divided-same : i + 1 < length s → power-at k r i ≢ e → Divided k d e top s r (i + 2) l
-    divided-same h n = record {
-      even = omega (arith, D .even);
-      pairs = D .pairs;
-      passed = omega (arith, D .passed);
-      same-length = D .same-length;
-      is-top = D .is-top;
-      unread = λ j m. D .unread j (omega arith);
-      divided = D .divided ∙ ap (shift k (e - d)) (sym (coefficient-same k s i (D .even) h e (λ q. n (same-power ∙ q))));
-    }
-
-    pub divided-all : (n : ℕ) → i ≡ n → n ≤ length s → degree k (terms (take n s)) ≡ e → Written (factor k d (terms (take n s))) l r × (l ≤ n)
-    unfolding factor
-    divided-all n z h q = (
-      record {
-        within = omega (arith, D .passed, D .same-length);
-        pairs = omega (arith, D .pairs, D .passed, D .same-length, ap length holds, length-terms (take l r), length-take-le l r (omega (arith, D .passed, D .same-length)));
-        holds = holds;
-      },
-      omega (arith, D .passed),
-    )
-      where
-        holds : terms (take l r) ≡ shift k (degree k (terms (take n s)) - d) (coefficient k (degree k (terms (take n s))) (terms (take n s)))
-        holds =
-            D .divided ∙ ap (λ j. shift k (e - d) (coefficient k e (terms (take j s)))) z
-            ∙ ap (λ m. shift k (m - d) (coefficient k m (terms (take n s)))) (sym q)

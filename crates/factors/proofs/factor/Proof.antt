@@ -8,7 +8,8 @@ use lib.ListN.{take, getD, length-set}
 use lib.Seq.{length-take-le}
 use Rattle.polynomials.specs.Packed.{bytes}
 use Rattle.polynomials.specs.laws.Bounds.{degree-small}
-use Rattle.terms.proofs.PartLaws.{Divided, divided-none, divided-next, divided-same, divided-as, divided-all, power-within}
+use Rattle.terms.proofs.PartLaws.{power-within}
+use Rattle.factors.proofs.FactorLaws.{Divided, divided-none, divided-next, divided-same, divided-as, divided-all}
 use Rattle.factors.proofs.factor.Statement.{statement}
 use Rattle.factors.proofs.factor.Tie as tie
 

@@ -2,7 +2,7 @@
 use mathlib.Core.Path.{_≡_, refl, sym, ap, ap₂, _∙_}
 use mathlib.Core.Bool.{Bool, true, false, _||_, or-true}
 use mathlib.Core.List.{List, [], _∷_, map}
-use Prim.Native.Nat.{ℕ, suc, _-_, _≤_, _<_}
+use Prim.Native.Nat.{ℕ, _-_, _≤_, _<_}
 use native.Mathlib.Omega.{arith}
 use lib.ListN.{length}
 use Rattle.polynomials.specs.Poly.{Poly}
@@ -42,7 +42,3 @@ pub leaders-at-most-8 : (ss : List (List ℕ)) → highest-leader (map terms ss)
 unfolding highest-leader
 leaders-at-most-8 [] = omega arith
 leaders-at-most-8 (s ∷ ss) = omega (arith, leader-places 8 (terms s) (places-terms s), leaders-at-most-8 ss)
-
-pub length-map-terms : (ss : List (List ℕ)) → length (map terms ss) ≡ length ss
-length-map-terms [] = refl
-length-map-terms (s ∷ ss) = ap suc (length-map-terms ss)

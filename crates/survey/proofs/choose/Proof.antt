@@ -5,7 +5,7 @@ use mathlib.Core.List.{List, map}
 use Prim.Native.Nat.{ℕ, _+_, _-_, _≤_, _<_}
 use native.Mathlib.Omega.{arith}
 use borrow.Author.Needs.{needs}
-use lib.ListN.{getD}
+use lib.ListN.{getD, length-map}
 use Rattle.records.specs.Records.{zero-record, room, view}
 use Rattle.records.proofs.Rows.{length-view}
 use Rattle.stored.specs.Stored.{skip-to, polys-at}
@@ -16,7 +16,7 @@ use Rattle.representation.specs.Represent.{branch-of}
 use Rattle.heads.specs.Heads.{All-hold}
 use Rattle.search.specs.Search.{pivot-place}
 use Rattle.survey.specs.Survey.{choice, choice-of-P}
-use Rattle.survey.proofs.Choices.{choice-one, choice-zero, choice-other, choice-list, choice-pivot, leaders-at-most-8, length-map-terms}
+use Rattle.survey.proofs.Choices.{choice-one, choice-zero, choice-other, choice-list, choice-pivot, leaders-at-most-8}
 use Rattle.survey.proofs.Open.{Lies, lies}
 use Rattle.survey.proofs.choose.Statement.{statement}
 use Rattle.survey.proofs.choose.Tie as tie
@@ -124,7 +124,7 @@ neither c b bs ss H =
 returns-3 : tie.Need-returns-3
 returns-3 c = λ b bs ss H.
     let L = lies-P (c .before .before .before .before .before .before) b bs ss H in
-    sym (neither (c .before) b bs ss H ∙ choice-list (map terms (b .P)) (omega (arith, length-map-terms (b .P), L .count, c .if3 .taken)))
+    sym (neither (c .before) b bs ss H ∙ choice-list (map terms (b .P)) (omega (arith, length-map (b .P) terms, L .count, c .if3 .taken)))
 
 add-highest-leader : tie.Need-add-highest-leader
 add-highest-leader c = search needs
@@ -155,7 +155,7 @@ returns-4 c = λ b bs ss H.
     c .before .before .highest-leader .ensures ∙ ap (λ (fs : List (List ℕ)). highest-leader (map terms fs)) (L .P-is) in
     let k = c .before .if4 .k in
     sym (neither (test .before) b bs ss H
-    ∙ choice-pivot (map terms (b .P)) k (c .pivot-place .result) (omega (arith, length-map-terms (b .P), L .count, test .if3 .left))
+    ∙ choice-pivot (map terms (b .P)) k (c .pivot-place .result) (omega (arith, length-map (b .P) terms, L .count, test .if3 .left))
     (position (c .before) ∙ ap (λ (n : ℕ). n - 1) h) (c .pivot-place .ensures ∙ ap (λ (fs : List (List ℕ)). pivot-place k (map terms fs)) (L .P-is)))
 
 pub choose-spec : {M : Type 1} → statement M

@@ -17,38 +17,34 @@ use Rattle.polynomials.specs.Working.{Pairs, Holds}
 use Rattle.polynomials.specs.laws.Degree.{all-degree}
 use Rattle.polynomials.specs.laws.Free.{Free}
 use Rattle.polynomials.specs.laws.Places.{Places, places-terms, all-map}
-use Rattle.polynomials.specs.laws.Parts.{canonical-rest, above-leader, falling, coefficient-of, coefficient-none, without-of, without-none}
+use Rattle.polynomials.specs.laws.Parts.{canonical-rest, length-initial, above-leader, falling, coefficient-of, coefficient-none, without-of, without-none}
 use Rattle.polynomials.specs.laws.Terms.{terms-drop, words-of-terms}
 
 module _ (p k d : ℕ) where
   abbrev Behind : Poly → Type 0
-  Behind f = (drop (length (coefficient k d f)) f ≡ without k d f) × (length (coefficient k d f) ≤ length f)
+  Behind f = drop (length (coefficient k d f)) f ≡ without k d f
 
   -- The terms of the highest power come first.
   behind : (f : Poly) → Canonical p f → Places 8 f → ((j : ℕ) → k < j → Free j f) → All (λ e. getD e k 0 ≤ d) f → Behind f
   unfolding coefficient without
-  behind [] c u h m = (refl, omega arith)
+  behind [] c u h m = refl
   behind (t ∷ f) c u h m = go (behind f (c .3) (u .1) (λ j l. h j l .1) (m .1)) (eqb (getD (t .exps) k 0) d) refl
     where
       go : Behind f → (o : Bool) → eqb (getD (t .exps) k 0) d ≡ o → Behind (t ∷ f)
       go ih true e =
           let q = eqb-true (getD (t .exps) k 0) d e in
           let s = ap length (coefficient-of k d t f q) in
-          (ap (λ (n : ℕ). drop n (t ∷ f)) s ∙ ih .0 ∙ sym (without-of k d t f q), omega (arith, s, ih .1))
+          ap (λ (n : ℕ). drop n (t ∷ f)) s ∙ ih ∙ sym (without-of k d t f q)
       go ih false e =
           let q : getD (t .exps) k 0 ≢ d = eqb-false (getD (t .exps) k 0) d e in
           let low = falling p k 8 t f c u h in
           let a : All (λ e. getD e k 0 ≢ d) (t ∷ f) = all-map (λ e. getD e k 0 ≤ getD (t .exps) k 0) (λ e. getD e k 0 ≢ d) (t ∷ f) (λ e l z. q (omega (arith, m .0))) low in
           let s = ap length (coefficient-none k d (t ∷ f) a) in
-          (ap (λ (n : ℕ). drop n (t ∷ f)) s ∙ sym (without-none k d (t ∷ f) a), omega (arith, s))
+          ap (λ (n : ℕ). drop n (t ∷ f)) s ∙ sym (without-none k d (t ∷ f) a)
 
 initial-first : (p k : ℕ) (f : Poly) → Canonical p f → Places 8 f → leader f ≡ k + 1 → Behind p k (degree k f) f
 initial-first p k f c u led =
     behind p k (degree k f) f c u (λ j l. above-leader f j (omega (arith, led))) (all-degree k (degree k f) f (omega arith))
-
-pub initial-few : (p k : ℕ) (f : Poly) → Canonical p f → Places 8 f → leader f ≡ k + 1 → length (initial k f) ≤ length f
-unfolding initial
-initial-few p k f c u led = initial-first p k f c u led .1
 
 -- The first n words of y are the rest of t.
 pub record Rest-in (p k : ℕ) (t y : List ℕ) (n : ℕ) : Type 0 where
@@ -67,13 +63,13 @@ module _ (p k : ℕ) (t i : List ℕ) (c : Canonical p (terms t)) (led : leader 
   long = words-of-terms i v ∙ ap (λ (f : Poly). 2 * length f) e
 
   pub initial-inside : length i ≤ length t
-  initial-inside = omega (arith, long, both .1, words-of-terms t u)
+  initial-inside = omega (arith, words-of-terms i v, ap length e, length-initial k (terms t), words-of-terms t u)
 
   pub rest-behind : terms (drop (length i) t) ≡ rest k (terms t)
   unfolding rest
   rest-behind =
       let h : length i / 2 ≡ length (coefficient k (degree k (terms t)) (terms t)) = omega (arith, long) in
-      terms-drop (length i) t v ∙ ap (λ (n : ℕ). drop n (terms t)) h ∙ both .0
+      terms-drop (length i) t v ∙ ap (λ (n : ℕ). drop n (terms t)) h ∙ both
 
   -- The words behind the initial's were copied to the first of r, which are y then.
   module _ (few : length t ≤ 512) (r y : List ℕ) (room : 512 ≤ length r) (copied : y ≡ paste r 0 (drop (length i) t) (length t - length i)) where

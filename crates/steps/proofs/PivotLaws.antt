@@ -13,8 +13,7 @@ use Rattle.polynomials.specs.Division.{leader, initial, degree}
 use Rattle.polynomials.specs.Packed.{terms}
 use Rattle.polynomials.specs.Working.{Written}
 use Rattle.polynomials.specs.laws.Answers.{written-holds}
-use Rattle.polynomials.specs.laws.Parts.{canonical-initial, at-leader}
-use Rattle.polynomials.specs.laws.Places.{places-terms}
+use Rattle.polynomials.specs.laws.Parts.{canonical-initial, at-leader, length-initial}
 use Rattle.polynomials.specs.laws.Terms.{length-terms}
 use Rattle.stored.specs.Stored.{member}
 use Rattle.rules.specs.Branch as rules
@@ -39,7 +38,6 @@ use Rattle.representation.specs.Ready.{Ready}
 use Rattle.members.specs.Members.{rest-of-step}
 use Rattle.steps.specs.Pending.{Leads, Pivoted, Comes}
 use Rattle.members.proofs.MadeLaws.{small-take}
-use Rattle.pivots.proofs.RestLaws.{initial-few}
 use Rattle.steps.proofs.ChoiceLaws.{at-inside}
 
 -- ── loading ──
@@ -71,12 +69,11 @@ pub initial-in : (p k : ℕ) (f i : List ℕ) (m : ℕ) → Sound p f → leader
     → ((j : ℕ) → getD i j 0 < 18446744073709551616) → Initial-in p k f i m
 initial-in p k f i m s led W small =
     let c = s .holds .canonical in
-    let few = initial-few p k (terms f) c (places-terms f) led in
     record {
       inside = W .within;
       is = W .holds;
       sound = record {
-        holds = written-holds p (initial k (terms f)) m i W (omega (arith, W .pairs, few, length-terms f, s .holds .few)) (canonical-initial p k (terms f) c);
+        holds = written-holds p (initial k (terms f)) m i W (omega (arith, W .pairs, length-initial k (terms f), length-terms f, s .holds .few)) (canonical-initial p k (terms f) c);
         small = small-take m i 18446744073709551616 (omega arith) small;
       };
     }

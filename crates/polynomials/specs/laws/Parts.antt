@@ -149,6 +149,32 @@ pub canonical-rest : (p k : ℕ) (f : Poly) → Canonical p f → Canonical p (r
 unfolding rest
 canonical-rest p k f c = canonical-without p k (degree k f) f c
 
+-- A part has no more terms than f.
+pub length-initial : (k : ℕ) (f : Poly) → length (initial k f) ≤ length f
+unfolding initial coefficient
+length-initial k f = of (degree k f) f
+  where
+    of : (d : ℕ) (f : Poly) → length (coefficient k d f) ≤ length f
+    of d [] = omega arith
+    of d (t ∷ f) = go (eqb (getD (t .exps) k 0) d) (of d f)
+      where
+        go : (b : Bool) → length (coefficient k d f) ≤ length f →
+            length {A = Term} (elim b [ true ↦ record { coef = t .coef; exps = set (t .exps) k 0 } ∷ coefficient k d f | false ↦ coefficient k d f ]) ≤ suc (length f)
+        go true ih = omega arith
+        go false ih = omega arith
+
+pub length-rest : (k : ℕ) (f : Poly) → length (rest k f) ≤ length f
+unfolding rest without
+length-rest k f = of (degree k f) f
+  where
+    of : (d : ℕ) (f : Poly) → length (without k d f) ≤ length f
+    of d [] = omega arith
+    of d (t ∷ f) = go (eqb (getD (t .exps) k 0) d) (of d f)
+      where
+        go : (b : Bool) → length (without k d f) ≤ length f → length {A = Term} (elim b [ true ↦ without k d f | false ↦ t ∷ without k d f ]) ≤ suc (length f)
+        go true ih = omega arith
+        go false ih = omega arith
+
 -- No degree of a part is above that of f.
 clear-le : (j k : ℕ) (e : Exponents) → getD (set e k 0) j 0 ≤ getD e j 0
 clear-le j k [] = le-refl 0

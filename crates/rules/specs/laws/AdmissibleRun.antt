@@ -5,22 +5,22 @@ use mathlib.Core.List.{List, [], _∷_}
 use mathlib.Core.Bool.{Bool, true, false}
 use Prim.Native.Nat.{ℕ, zero, suc, _-_, _≤_}
 use native.Mathlib.Omega.{arith}
-use lib.Dec.{eqb, leb}
-use lib.ListN.{length, getD, set}
+use lib.Dec.{leb}
+use lib.ListN.{length, getD}
 use Rattle.residues.specs.Each.{Each}
 use Rattle.residues.specs.Prime.{Prime}
 use Rattle.residues.specs.Residue.{inverse}
 use Rattle.residues.specs.laws.Residues.{one≤}
-use Rattle.polynomials.specs.Poly.{Exponents, Term, Poly, join, add-multiple, difference, product, monic}
+use Rattle.polynomials.specs.Poly.{Exponents, Poly, join, add-multiple, difference, product, monic}
 use Rattle.polynomials.specs.Canonical.{Canonical, All}
-use Rattle.polynomials.specs.Division.{degree, leader, coefficient, without, initial, rest, factor}
+use Rattle.polynomials.specs.Division.{degree, leader, coefficient, initial, rest, factor}
 use Rattle.polynomials.specs.Bounds.{Bounds, at-most, standard, Bounded, within, degree-passed, and-then, degrees-over, tested, bounded-product, bounded-difference, bounded-round, bounded-remainder}
 use Rattle.polynomials.specs.laws.Degree.{all-degree, all-add-multiple, degree-product, degree-at-most}
 use Rattle.polynomials.specs.laws.Bounds.{degrees-over-none}
 use Rattle.polynomials.specs.laws.Bounded.{formed-first, tested-formed, over-at-most}
 use Rattle.polynomials.specs.laws.Product.{add-multiple-length}
 use Rattle.polynomials.specs.laws.Free.{Free, free-monic, free-remainder}
-use Rattle.polynomials.specs.laws.Parts.{leader-at-most, degree-initial-le, degree-rest-le, free-initial, free-rest}
+use Rattle.polynomials.specs.laws.Parts.{leader-at-most, length-initial, length-rest, degree-initial-le, degree-rest-le, free-initial, free-rest}
 use Rattle.tables.specs.Read.{System, Input}
 use Rattle.rules.specs.Room.{Limits}
 use Rattle.rules.specs.Step.{remainder-by}
@@ -36,31 +36,6 @@ Low f = (k : ℕ) → degree k f ≤ 255
 
 abbrev Small : Poly → Type 0
 Small f = (length f ≤ 256) × Low f
-
-length-initial : (k : ℕ) (f : Poly) → length (initial k f) ≤ length f
-unfolding initial coefficient
-length-initial k f = of (degree k f) f
-  where
-    of : (d : ℕ) (f : Poly) → length (coefficient k d f) ≤ length f
-    of d [] = omega arith
-    of d (t ∷ f) = go (eqb (getD (t .exps) k 0) d) (of d f)
-      where
-        go : (b : Bool) → length (coefficient k d f) ≤ length f →
-            length {A = Term} (elim b [ true ↦ record { coef = t .coef; exps = set (t .exps) k 0 } ∷ coefficient k d f | false ↦ coefficient k d f ]) ≤ suc (length f)
-        go true ih = omega arith
-        go false ih = omega arith
-
-length-rest : (k : ℕ) (f : Poly) → length (rest k f) ≤ length f
-unfolding rest without
-length-rest k f = of (degree k f) f
-  where
-    of : (d : ℕ) (f : Poly) → length (without k d f) ≤ length f
-    of d [] = omega arith
-    of d (t ∷ f) = go (eqb (getD (t .exps) k 0) d) (of d f)
-      where
-        go : (b : Bool) → length (without k d f) ≤ length f → length {A = Term} (elim b [ true ↦ without k d f | false ↦ t ∷ without k d f ]) ≤ suc (length f)
-        go true ih = omega arith
-        go false ih = omega arith
 
 length-monic : (p : ℕ) (f : Poly) → length (monic p f) ≤ length f
 unfolding monic

@@ -42,8 +42,8 @@ module _ (p k d : ℕ) where
           let s = ap length (coefficient-none k d (t ∷ f) a) in
           ap (λ (n : ℕ). drop n (t ∷ f)) s ∙ sym (without-none k d (t ∷ f) a)
 
-initial-first : (p k : ℕ) (f : Poly) → Canonical p f → Places 8 f → leader f ≡ k + 1 → Behind p k (degree k f) f
-initial-first p k f c u led =
+behind-initial : (p k : ℕ) (f : Poly) → Canonical p f → Places 8 f → leader f ≡ k + 1 → Behind p k (degree k f) f
+behind-initial p k f c u led =
     behind p k (degree k f) f c u (λ j l. above-leader f j (omega (arith, led))) (all-degree k (degree k f) f (omega arith))
 
 -- The first n words of y are the rest of t.
@@ -56,7 +56,7 @@ pub record Rest-in (p k : ℕ) (t y : List ℕ) (n : ℕ) : Type 0 where
 module _ (p k : ℕ) (t i : List ℕ) (c : Canonical p (terms t)) (led : leader (terms t) ≡ k + 1) (u : Pairs t) (v : Pairs i)
     (e : terms i ≡ initial k (terms t)) where
   both : Behind p k (degree k (terms t)) (terms t)
-  both = initial-first p k (terms t) c (places-terms t) led
+  both = behind-initial p k (terms t) c (places-terms t) led
 
   long : length i ≡ 2 * length (coefficient k (degree k (terms t)) (terms t))
   unfolding initial

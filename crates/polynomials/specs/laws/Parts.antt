@@ -12,16 +12,13 @@ use borrow.Author.Tests.{eq-eqb, ne-eqb}
 use lib.Dec.{T, eqb, eqb→eq, eqb-refl}
 use lib.ListN.{length, getD, set, List·getD-eq-default}
 use lib.Seq.{ext-getD}
-use Rattle.residues.specs.Field.{CommRing, pow}
 use Rattle.polynomials.specs.Poly.{Exponents, Term, Poly, order, join}
 use Rattle.polynomials.specs.Canonical.{Under, Canonical, All}
 use Rattle.polynomials.specs.Division.{degree, degrees, highest, leader, coefficient, without, initial, rest, pure-power, shift}
-use Rattle.polynomials.specs.Value.{value}
 use Rattle.polynomials.specs.laws.Order.{Says, says, then-lt, order-eq, order-refl}
 use Rattle.polynomials.specs.laws.Canonical.{canonical-coefficient, canonical-without}
 use Rattle.polynomials.specs.laws.Degree.{all-degree, degree-at-most, degree-without}
 use Rattle.polynomials.specs.laws.Bounds.{at-degrees}
-use Rattle.polynomials.specs.laws.Division.{value-split}
 use Rattle.polynomials.specs.laws.Free.{Free}
 use Rattle.polynomials.specs.laws.Places.{all-map, coefficient-all, without-all, Places}
 
@@ -200,12 +197,6 @@ free-initial j k f u = free-degree j (initial k f) (omega (arith, degree-initial
 pub free-rest : (j k : ℕ) (f : Poly) → Free j f → Free j (rest k f)
 unfolding rest
 free-rest j k f u = without-all (λ e. getD e j 0 ≡ 0) k (degree k f) f u
-
--- f is its initial times the highest power of v(k+1), plus the rest.
-pub value-parts {ℓ} : {K : Type ℓ} (𝓡 : CommRing K) (k : ℕ) (f : Poly) (x : List K) →
-    value 𝓡 f x ≡ 𝓡 .add (𝓡 .mul (pow 𝓡 (getD x k (𝓡 .one)) (degree k f)) (value 𝓡 (initial k f) x)) (value 𝓡 (rest k f) x)
-unfolding initial rest
-value-parts 𝓡 k f x = value-split 𝓡 k (degree k f) f x
 
 module _ (k : ℕ) (f : Poly) (led : leader f ≡ k + 1) where
   pub degree-rest : degree k (rest k f) < degree k f

@@ -12,10 +12,10 @@ use Rattle.residues.specs.laws.Inverse.{inverse-ok}
 use Rattle.polynomials.specs.Poly.{Poly, add-multiple, monic}
 use Rattle.polynomials.specs.Canonical.{Canonical}
 use Rattle.polynomials.specs.Packed.{terms}
-use Rattle.polynomials.specs.Division.{degree, leader, initial, coefficient}
+use Rattle.polynomials.specs.Division.{leader, initial, coefficient}
 use Rattle.polynomials.specs.laws.Merge.{scaled, multiple-scaled, monic-scaled}
 use Rattle.polynomials.specs.laws.Places.{Places, places-terms}
-use Rattle.polynomials.specs.laws.Parts.{above-leader, degree-first, canonical-initial, coefficient-of}
+use Rattle.polynomials.specs.laws.Parts.{canonical-initial, initial-first}
 use Rattle.branches.specs.Words.{put-P, remove}
 use Rattle.representation.specs.Represent.{Monic, All-monic, Sound}
 use Rattle.representation.specs.laws.Lists.{each-put-P, each-at}
@@ -55,9 +55,7 @@ module _ (p k n : ℕ) (f : Poly) (c : Canonical p f) (u : Places n f) (led : le
     where
       go : (f : Poly) → Canonical p f → Places n f → leader f ≡ k + 1 → Monic f → Monic (initial k f)
       go [] c u led m = tt
-      go (t ∷ f) c u led m =
-          let top : degree k (t ∷ f) ≡ getD (t .exps) k 0 = degree-first p k n t f c u (λ j l. above-leader (t ∷ f) j (omega arith)) in
-          subst Monic (sym (coefficient-of k (degree k (t ∷ f)) t f (sym top))) m
+      go (t ∷ f) c u led m = subst Monic (sym (initial-first p k n t f c u led)) m
 
   pub initial-own : monic p (initial k f) ≡ initial k f
   initial-own = monic-own p (initial k f) (canonical-initial p k f c) initial-monic

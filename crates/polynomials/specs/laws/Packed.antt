@@ -6,6 +6,7 @@ use native.Mathlib.Nat.{pow-suc, pow-succ', div-lt-iff-lt-mul, div-one, div-div-
 use native.Mathlib.Omega.{arith}
 use lib.Pow.{pow-add}
 use lib.ListN.{length, getD}
+use Rattle.residues.specs.Each.{Each}
 use Rattle.polynomials.specs.Poly.{Exponents, order, join, andThen}
 use Rattle.polynomials.specs.Packed.{bytes, exponents, Fits, word}
 use Rattle.polynomials.specs.laws.Order.{Says, says, compare-is}
@@ -56,11 +57,10 @@ unfolding word bytes
 word-bytes zero w h = omega arith
 word-bytes (suc n) w h = ap (λ z. w % 256 + 256 * z) (word-bytes n (w / 256) (fewer-bytes n w h)) ∙ omega arith
 
-abbrev pub Small : Exponents → Type 0
-Small [] = Unit {0}
-Small (b ∷ e) = (b < 256) × Small e
+abbrev pub All-bytes : Exponents → Type 0
+All-bytes e = Each (λ b. b < 256) e
 
-pub bytes-word : (e : Exponents) → Small e → bytes (length e) (word e) ≡ e
+pub bytes-word : (e : Exponents) → All-bytes e → bytes (length e) (word e) ≡ e
 unfolding word bytes
 bytes-word [] s = refl
 bytes-word (b ∷ e) s = ap₂ _∷_ low (ap (bytes (length e)) high ∙ bytes-word e (s .1))

@@ -2,37 +2,32 @@
 use mathlib.Core.Path.{_≡_, refl, _∙_, ap, ap₂, subst}
 use mathlib.Core.Bool.{Bool, true, false}
 use mathlib.Core.List.{[], _∷_, _++_}
-use Prim.Native.Nat.{ℕ, zero, suc, _+_, _≤_}
+use Prim.Native.Nat.{ℕ, suc, _+_, _≤_, _<_}
 use native.Mathlib.Omega.{arith}
 use borrow.Author.Tests.{eq-eqb}
 use lib.ListN.{length, take, drop, getD, length-take, length-drop, take-append-drop}
 use lib.Seq.{getD-drop}
+use Rattle.residues.specs.laws.Each.{each-take, each-drop}
 use Rattle.polynomials.specs.Poly.{Exponents, Poly}
 use Rattle.polynomials.specs.Canonical.{All}
 use Rattle.polynomials.specs.Packed.{bytes, word, exponents}
-use Rattle.polynomials.specs.laws.Packed.{Small, bytes-word}
+use Rattle.polynomials.specs.laws.Packed.{All-bytes, bytes-word}
 use Rattle.tables.specs.Read.{not-zero, has-above}
 use Rattle.tables.specs.Admissible.{Admissible}
 
-small-take : (n : ℕ) (e : Exponents) → ((k : ℕ) → getD e k 0 ≤ 255) → Small (take n e)
-small-take zero e s = tt
-small-take (suc n) [] s = tt
-small-take (suc n) (b ∷ e) s = (omega (arith, s 0), small-take n e (λ k. s (suc k)))
+all-bytes : (e : Exponents) → ((k : ℕ) → getD e k 0 ≤ 255) → All-bytes e
+all-bytes [] s = tt
+all-bytes (b ∷ e) s = (omega (arith, s 0), all-bytes e (λ k. s (suc k)))
 
-small-drop : (n : ℕ) (e : Exponents) → ((k : ℕ) → getD e k 0 ≤ 255) → Small (drop n e)
-small-drop zero [] s = tt
-small-drop zero (b ∷ e) s = (omega (arith, s 0), small-drop zero e (λ k. s (suc k)))
-small-drop (suc n) [] s = tt
-small-drop (suc n) (b ∷ e) s = small-drop n e (λ k. s (suc k))
-
-bytes-back : (e : Exponents) → length e ≡ 4 → Small e → bytes 4 (word e) ≡ e
+bytes-back : (e : Exponents) → length e ≡ 4 → All-bytes e → bytes 4 (word e) ≡ e
 bytes-back e l s = subst (λ m. bytes m (word e) ≡ e) l (bytes-word e s)
 
 -- A term's two words hold its eight exponents.
 exponents-back : (e : Exponents) → length e ≡ 8 → ((k : ℕ) → getD e k 0 ≤ 255) → exponents (word (drop 4 e)) (word (take 4 e)) ≡ e
 unfolding exponents
 exponents-back e l s =
-    ap₂ _++_ (bytes-back (take 4 e) (omega (arith, length-take 4 e)) (small-take 4 e s)) (bytes-back (drop 4 e) (omega (arith, length-drop 4 e)) (small-drop 4 e s))
+    ap₂ _++_ (bytes-back (take 4 e) (omega (arith, length-take 4 e)) (each-take (λ b. b < 256) 4 e (all-bytes e s)))
+    (bytes-back (drop 4 e) (omega (arith, length-drop 4 e)) (each-drop (λ b. b < 256) 4 e (all-bytes e s)))
     ∙ take-append-drop 4 e
 
 all-nought : (e : Exponents) → ((k : ℕ) → getD e k 0 ≡ 0) → not-zero e ≡ false

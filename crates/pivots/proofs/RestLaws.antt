@@ -16,7 +16,8 @@ use Rattle.polynomials.specs.Packed.{terms}
 use Rattle.polynomials.specs.Working.{Pairs, Holds}
 use Rattle.polynomials.specs.laws.Degree.{all-degree}
 use Rattle.polynomials.specs.laws.Free.{Free}
-use Rattle.polynomials.specs.laws.Places.{Places, places-terms, all-map}
+use Rattle.polynomials.specs.laws.All.{all-map}
+use Rattle.polynomials.specs.laws.Places.{Places, places-terms}
 use Rattle.polynomials.specs.laws.Parts.{canonical-rest, length-initial, above-leader, falling, coefficient-of, coefficient-none, without-of, without-none}
 use Rattle.polynomials.specs.laws.Terms.{terms-drop, words-of-terms}
 

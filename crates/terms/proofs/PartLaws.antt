@@ -15,7 +15,8 @@ use Rattle.polynomials.specs.Packed.{bytes, term, terms}
 use Rattle.polynomials.specs.Working.{Split, Written}
 use Rattle.polynomials.specs.laws.Packed.{byte-power}
 use Rattle.polynomials.specs.laws.Terms.{length-terms, terms-append, terms-drop, terms-at, terms-push}
-use Rattle.polynomials.specs.laws.Places.{Places, all-map, places-terms}
+use Rattle.polynomials.specs.laws.All.{all-map}
+use Rattle.polynomials.specs.laws.Places.{Places, places-terms}
 use Rattle.polynomials.specs.laws.Parts.{above-leader, leader-places, leader-first, falling, degree-rest, coefficient-parted}
 use Rattle.polynomials.specs.laws.Parts.{without-parted, length-coefficient, coefficient-append, coefficient-of, cleared}
 use Rattle.polynomials.specs.laws.Degree.{all-degree, degree-at-most}

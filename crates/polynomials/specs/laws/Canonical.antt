@@ -15,19 +15,11 @@ use Rattle.polynomials.specs.Poly.{Exponents, Term, Poly, order, join, k
 use Rattle.polynomials.specs.Canonical.{Under, Canonical}
 use Rattle.polynomials.specs.Division.{coefficient, without}
 use Rattle.polynomials.specs.Value.{weigh}
+use Rattle.polynomials.specs.laws.All.{all-map, all-insert, without-all}
 use Rattle.polynomials.specs.laws.Order.{order-eq, order-refl, order-trans, order-flip, flip, compare-is}
 
 pub under-trans : (a b : Exponents) → order a b ≡ Ordering·lt → (f : Poly) → Under a f → Under b f
-under-trans a b h [] u = tt
-under-trans a b h (t ∷ f) u = (order-trans (t .exps) a b (u .0) h, under-trans a b h f (u .1))
-
-under-keep : (b e : Exponents) (c : ℕ) (f : Poly) → order e b ≡ Ordering·lt → Under b f → Under b (keep c e f)
-unfolding keep
-under-keep b e c f h u = go (eqb c 0)
-  where
-    go : (x : Bool) → Under b (elim x [ true ↦ f | false ↦ record { coef = c; exps = e } ∷ f ])
-    go true = u
-    go false = (h, u)
+under-trans a b h f u = all-map (λ e. order e a ≡ Ordering·lt) (λ e. order e b ≡ Ordering·lt) f (λ e l. order-trans e a b l h) u
 
 canonical-keep : (p : ℕ) (e : Exponents) (c : ℕ) (f : Poly) → c < p → Under e f → Canonical p f → Canonical p (keep c e f)
 unfolding keep
@@ -37,17 +29,6 @@ canonical-keep p e c f h u n = go (eqb c 0) (λ (z : c ≡ 0). subst (λ x. T (e
     go true z = n
     go false z = let c≢ : c ≢ 0 = z in (omega arith, h, u, n)
 
-pub under-insert : (p c : ℕ) (b e : Exponents) (f : Poly) → order e b ≡ Ordering·lt → Under b f → Under b (insert p c e f)
-unfolding insert
-under-insert p c b e [] h u = under-keep b e c [] h tt
-under-insert p c b e (t ∷ f) h u = go (under-insert p c b e f h (u .1)) (order e (t .exps))
-  where
-    go : Under b (insert p c e f) → (o : Ordering) →
-        Under b (elim o [ Ordering·lt ↦ t ∷ insert p c e f | Ordering·eq ↦ keep ((c + t .coef) % p) e f | Ordering·gt ↦ keep c e (t ∷ f) ])
-    go ih Ordering·lt = (u .0, ih)
-    go ih Ordering·eq = under-keep b e ((c + t .coef) % p) f h (u .1)
-    go ih Ordering·gt = under-keep b e c (t ∷ f) h u
-
 pub canonical-insert : (p c : ℕ) (e : Exponents) (f : Poly) → c < p → Canonical p f → Canonical p (insert p c e f)
 unfolding insert
 canonical-insert p c e [] h n = canonical-keep p e c [] h tt tt
@@ -55,7 +36,7 @@ canonical-insert p c e (t ∷ f) h n = go (canonical-insert p c e f h (n .3)) (o
   where
     go : Canonical p (insert p c e f) → (o : Ordering) → order e (t .exps) ≡ o →
         Canonical p (elim o [ Ordering·lt ↦ t ∷ insert p c e f | Ordering·eq ↦ keep ((c + t .coef) % p) e f | Ordering·gt ↦ keep c e (t ∷ f) ])
-    go ih Ordering·lt q = (n .0, n .1, under-insert p c (t .exps) e f q (n .2), ih)
+    go ih Ordering·lt q = (n .0, n .1, all-insert (λ a. order a (t .exps) ≡ Ordering·lt) p c e f q (n .2), ih)
     go ih Ordering·eq q = canonical-keep p e ((c + t .coef) % p) f (mod-lt (c + t .coef) (omega arith)) (subst (λ s. Under s f) (sym (order-eq e (t .exps) q)) (n .2)) (n .3)
     go ih Ordering·gt q =
         let below : order (t .exps) e ≡ Ordering·lt = order-flip e (t .exps) ∙ ap flip q in
@@ -177,15 +158,6 @@ canonical-coefficient p k d (t ∷ f) c = go (canonical-coefficient p k d f (c .
     go ih true h = (c .0, c .1, under-coefficient k d (t .exps) f (h tt) (c .2), ih)
     go ih false h = ih
 
-under-without : (k d : ℕ) (e : Exponents) (f : Poly) → Under e f → Under e (without k d f)
-unfolding without
-under-without k d e [] u = tt
-under-without k d e (t ∷ f) u = go (under-without k d e f (u .1)) (eqb (getD (t .exps) k 0) d)
-  where
-    go : Under e (without k d f) → (b : Bool) → Under e (elim b [ true ↦ without k d f | false ↦ t ∷ without k d f ])
-    go ih true = ih
-    go ih false = (u .0, ih)
-
 pub canonical-without : (p k d : ℕ) (f : Poly) → Canonical p f → Canonical p (without k d f)
 unfolding without
 canonical-without p k d [] c = tt
@@ -193,7 +165,7 @@ canonical-without p k d (t ∷ f) c = go (canonical-without p k d f (c .3)) (eqb
   where
     go : Canonical p (without k d f) → (b : Bool) → Canonical p (elim b [ true ↦ without k d f | false ↦ t ∷ without k d f ])
     go ih true = ih
-    go ih false = (c .0, c .1, under-without k d (t .exps) f (c .2), ih)
+    go ih false = (c .0, c .1, without-all (λ a. order a (t .exps) ≡ Ordering·lt) k d f (c .2), ih)
 
 pub canonical-monic : (p : ℕ) (f : Poly) → 1 ≤ p → Canonical p (monic p f)
 unfolding monic

@@ -3,7 +3,7 @@ use mathlib.Core.Path.{_≡_, refl, sym, _∙_, ap, ap₂, subst, fun-ext}
 use mathlib.Core.Logic.{_≢_}
 use mathlib.Core.List.{[], _∷_}
 use mathlib.Core.Bool.{Bool, true, false, not}
-use Prim.Native.Nat.{ℕ, zero, suc, _+_, _-_, _*_, _%_, _≤_, _<_, Ordering, Ordering·lt, Ordering·eq, Ordering·gt, Fin}
+use Prim.Native.Nat.{ℕ, zero, suc, _+_, _-_, _≤_, _<_, Ordering, Ordering·lt, Ordering·eq, Ordering·gt, Fin}
 use native.Mathlib.Nat.{zero-add, add-zero, le-max-left, le-max-right, sub-add-cancel, le-refl}
 use native.Mathlib.Decide.{decLt}
 use native.Mathlib.Omega.{arith}
@@ -12,11 +12,12 @@ use lib.ListN.{getD, set}
 use Rattle.residues.specs.Field.{CommRing, cast}
 use Rattle.residues.specs.laws.Ring.{ring-laws, add-nil, nil-add, add-left-comm, mul-nil, add-neg}
 use Rattle.residues.specs.laws.Residues.{Residues, char}
-use Rattle.polynomials.specs.Poly.{Exponents, Poly, order, join, keep, insert, add-multiple, product}
+use Rattle.polynomials.specs.Poly.{Exponents, Poly, order, join, product}
 use Rattle.polynomials.specs.Canonical.{Canonical, All}
 use Rattle.polynomials.specs.Division.{degree, coefficient, without, pure-power, shift, factor, round, remainder}
 use Rattle.polynomials.specs.Value.{weigh}
 use Rattle.polynomials.specs.laws.Order.{order-eq, join-comm, join-assoc}
+use Rattle.polynomials.specs.laws.All.{all-product}
 use Rattle.polynomials.specs.laws.Weigh.{weigh-difference, weigh-product, weigh-swap}
 use Rattle.polynomials.specs.laws.Canonical.{canonical-difference, canonical-product, only, leading, not-zero}
 
@@ -223,35 +224,6 @@ module _ (p : ℕ) (h : 1 ≤ p) (k : ℕ) where
       go false x y ih = y tt
 
 -- ── degrees of a product ──
-all-keep : (P : Exponents → Type 0) (c : ℕ) (e : Exponents) (f : Poly) → P e → All P f → All P (keep c e f)
-unfolding keep
-all-keep P c e f h u = go (eqb c 0)
-  where
-    go : (b : Bool) → All P (elim b [ true ↦ f | false ↦ record { coef = c; exps = e } ∷ f ])
-    go true = u
-    go false = (h, u)
-
-all-insert : (P : Exponents → Type 0) (p c : ℕ) (e : Exponents) (f : Poly) → P e → All P f → All P (insert p c e f)
-unfolding insert
-all-insert P p c e [] h u = all-keep P c e [] h tt
-all-insert P p c e (t ∷ f) h u = go (order e (t .exps)) (all-insert P p c e f h (u .1))
-  where
-    go : (o : Ordering) → All P (insert p c e f) → All P (elim o [ Ordering·lt ↦ t ∷ insert p c e f | Ordering·eq ↦ keep ((c + t .coef) % p) e f | Ordering·gt ↦ keep c e (t ∷ f) ])
-    go Ordering·lt ih = (u .0, ih)
-    go Ordering·eq ih = all-keep P ((c + t .coef) % p) e f h (u .1)
-    go Ordering·gt ih = all-keep P c e (t ∷ f) h u
-
-pub all-add-multiple : (P Q : Exponents → Type 0) (p c : ℕ) (e : Exponents) (g f : Poly) → ((b : Exponents) → P b → Q (join e b)) → All P g → All Q f → All Q (add-multiple p c e g f)
-unfolding add-multiple
-all-add-multiple P Q p c e [] f h u v = v
-all-add-multiple P Q p c e (t ∷ g) f h u v = all-insert Q p (c * t .coef % p) (join e (t .exps)) (add-multiple p c e g f) (h (t .exps) (u .0)) (all-add-multiple P Q p c e g f h (u .1) v)
-
--- Whatever holds of all joined exponents holds of the product's.
-pub all-product : (P Q S : Exponents → Type 0) (p : ℕ) (f g : Poly) → ((a b : Exponents) → P a → Q b → S (join a b)) → All P f → All Q g → All S (product p f g)
-unfolding product
-all-product P Q S p [] g h u v = tt
-all-product P Q S p (t ∷ f) g h u v = all-add-multiple Q S p (t .coef) (t .exps) g (product p f g) (λ b. h (t .exps) b (u .0)) v (all-product P Q S p f g h (u .1) v)
-
 pub degree-at-most : (k m : ℕ) (f : Poly) → All (λ a. getD a k 0 ≤ m) f → degree k f ≤ m
 unfolding degree
 degree-at-most k m [] u = omega arith

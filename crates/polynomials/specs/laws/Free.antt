@@ -5,13 +5,14 @@ use mathlib.Core.List.{[], _∷_}
 use mathlib.Core.Bool.{Bool, true, false}
 use Prim.Native.Nat.{ℕ, zero, suc, _-_}
 use native.Mathlib.Omega.{arith}
-use lib.Dec.{eqb, leb}
+use lib.Dec.{leb}
 use lib.ListN.{getD, set}
 use Rattle.residues.specs.Residue.{inverse}
 use Rattle.polynomials.specs.Poly.{Exponents, Poly, join, add-multiple, difference, product, monic}
 use Rattle.polynomials.specs.Canonical.{All}
 use Rattle.polynomials.specs.Division.{degree, coefficient, pure-power, shift, factor, round, remainder}
-use Rattle.polynomials.specs.laws.Degree.{at-join, all-add-multiple, all-product}
+use Rattle.polynomials.specs.laws.All.{coefficient-all, shift-all, all-add-multiple, all-product}
+use Rattle.polynomials.specs.laws.Degree.{at-join}
 
 -- v(j+1) does not stand in f.
 abbrev pub Free : ℕ → Poly → Type 0
@@ -32,19 +33,12 @@ at-pure-power-free zero (suc k) m n = refl
 at-pure-power-free (suc j) (suc k) m n = at-pure-power-free j k m (λ e. n (ap suc e))
 
 free-coefficient : (j k d : ℕ) (f : Poly) → Free j f → Free j (coefficient k d f)
-unfolding coefficient
-free-coefficient j k d [] u = tt
-free-coefficient j k d (t ∷ f) u = go (eqb (getD (t .exps) k 0) d) (free-coefficient j k d f (u .1))
-  where
-    go : (b : Bool) → Free j (coefficient k d f) →
-        Free j (elim b [ true ↦ record { coef = t .coef; exps = set (t .exps) k 0 } ∷ coefficient k d f | false ↦ coefficient k d f ])
-    go true ih = (at-set-free j k (t .exps) (u .0), ih)
-    go false ih = ih
+free-coefficient j k d f u = coefficient-all (λ a. getD a j 0 ≡ 0) (λ a. getD a j 0 ≡ 0) k d f (at-set-free j k) u
 
 free-shift : (j k m : ℕ) (f : Poly) → j ≢ k → Free j f → Free j (shift k m f)
-unfolding shift
-free-shift j k m [] n u = tt
-free-shift j k m (t ∷ f) n u = (omega (arith, at-join j (pure-power k m) (t .exps), at-pure-power-free j k m n, u .0), free-shift j k m f n (u .1))
+free-shift j k m f n u =
+    shift-all (λ a. getD a j 0 ≡ 0) (λ a. getD a j 0 ≡ 0) k m f
+    (λ (a : Exponents) (h : getD a j 0 ≡ 0). omega (arith, at-join j (pure-power k m) a, at-pure-power-free j k m n)) u
 
 pub free-product : (j p : ℕ) (f g : Poly) → Free j f → Free j g → Free j (product p f g)
 free-product j p f g u v = all-product (λ a. getD a j 0 ≡ 0) (λ a. getD a j 0 ≡ 0) (λ a. getD a j 0 ≡ 0) p f g (λ a b x y. omega (arith, at-join j a b)) u v

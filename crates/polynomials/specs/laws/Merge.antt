@@ -15,7 +15,7 @@ use Rattle.polynomials.specs.Poly.{Exponents, Term, Poly, order, join, k
 use Rattle.polynomials.specs.Canonical.{Under, Canonical, All}
 use Rattle.polynomials.specs.Packed.{bytes}
 use Rattle.polynomials.specs.laws.Order.{order-refl, order-flip, order-trans, order-join, flip}
-use Rattle.polynomials.specs.laws.Canonical.{under-insert}
+use Rattle.polynomials.specs.laws.All.{all-map, all-add-multiple}
 
 choose : Ordering → Poly → Poly → Poly → Poly
 choose o a b c = elim o [ Ordering·lt ↦ a | Ordering·eq ↦ b | Ordering·gt ↦ c ]
@@ -45,13 +45,7 @@ below-first e b [] l u = tt
 below-first e b (t ∷ g) l u = (order-join e (t .exps) b (l .0) ∙ u .0, below-first e b g (l .1) (u .1))
 
 pub below-trans : (a b e : Exponents) → order a b ≡ Ordering·lt → (g : Poly) → Below a e g → Below b e g
-below-trans a b e h [] u = tt
-below-trans a b e h (t ∷ g) u = (order-trans (join e (t .exps)) a b (u .0) h, below-trans a b e h g (u .1))
-
-pub under-multiple : (p c : ℕ) (b e : Exponents) (g f : Poly) → Below b e g → Under b f → Under b (add-multiple p c e g f)
-unfolding add-multiple
-under-multiple p c b e [] f u v = v
-under-multiple p c b e (t ∷ g) f u v = under-insert p (c * t .coef % p) b (join e (t .exps)) (add-multiple p c e g f) (u .0) (under-multiple p c b e g f (u .1) v)
+below-trans a b e h g u = all-map (λ x. order (join e x) a ≡ Ordering·lt) (λ x. order (join e x) b ≡ Ordering·lt) g (λ x l. order-trans (join e x) a b l h) u
 
 -- The first term of f above all of e times g.
 pub multiple-left : (p c : ℕ) (e : Exponents) (t : Term) (f g : Poly) → Below (t .exps) e g → add-multiple p c e g (t ∷ f) ≡ t ∷ add-multiple p c e g f
@@ -64,7 +58,9 @@ multiple-left p c e t f (s ∷ g) u =
 pub multiple-right : (p c : ℕ) (e : Exponents) (s : Term) (f g : Poly) → Under (join e (s .exps)) f → Below (join e (s .exps)) e g →
     add-multiple p c e (s ∷ g) f ≡ keep (c * s .coef % p) (join e (s .exps)) (add-multiple p c e g f)
 unfolding add-multiple
-multiple-right p c e s f g u v = insert-top p (c * s .coef % p) (join e (s .exps)) (add-multiple p c e g f) (under-multiple p c (join e (s .exps)) e g f v u)
+multiple-right p c e s f g u v =
+    let b = join e (s .exps) in
+    insert-top p (c * s .coef % p) b (add-multiple p c e g f) (all-add-multiple (λ a. order (join e a) b ≡ Ordering·lt) (λ a. order a b ≡ Ordering·lt) p c e g f (λ a l. l) v u)
 
 -- both first terms alike
 pub multiple-both : (p c : ℕ) (e : Exponents) (t s : Term) (f g : Poly) → t .exps ≡ join e (s .exps) → Below (join e (s .exps)) e g →

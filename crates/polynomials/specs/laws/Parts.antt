@@ -15,12 +15,13 @@ use lib.Seq.{ext-getD}
 use Rattle.polynomials.specs.Poly.{Exponents, Term, Poly, order, join}
 use Rattle.polynomials.specs.Canonical.{Under, Canonical, All}
 use Rattle.polynomials.specs.Division.{degree, degrees, highest, leader, coefficient, without, initial, rest, pure-power, shift}
+use Rattle.polynomials.specs.laws.All.{all-map, coefficient-all, without-all}
 use Rattle.polynomials.specs.laws.Order.{Says, says, then-lt, order-eq, order-refl}
 use Rattle.polynomials.specs.laws.Canonical.{canonical-coefficient, canonical-without}
 use Rattle.polynomials.specs.laws.Degree.{all-degree, degree-at-most, degree-without}
 use Rattle.polynomials.specs.laws.Bounds.{at-degrees}
 use Rattle.polynomials.specs.laws.Free.{Free}
-use Rattle.polynomials.specs.laws.Places.{all-map, coefficient-all, without-all, Places}
+use Rattle.polynomials.specs.laws.Places.{Places}
 
 -- ── the highest exponent other than 0 ──
 pub above-highest : (e : Exponents) (j : ℕ) → highest e ≤ j → getD e j 0 ≡ 0

@@ -1,49 +1,19 @@
--- What holds of the exponents of all terms of the parts; and exponents of one length, which the operations keep.
+-- Exponents of one length: the operations keep it.
 use mathlib.Core.Path.{_≡_, refl, _∙_, ap}
 use mathlib.Core.List.{List, [], _∷_}
 use mathlib.Core.Bool.{Bool, true, false}
 use Prim.Native.Nat.{ℕ, zero, suc, _-_, _≤_, _<_, max}
 use native.Mathlib.Omega.{arith}
-use lib.Dec.{eqb, leb}
-use lib.ListN.{length, getD, set, length-set}
+use lib.Dec.{leb}
+use lib.ListN.{length, length-set}
 use Rattle.residues.specs.Residue.{inverse}
-use Rattle.residues.specs.laws.Each.{each-map}
-use Rattle.polynomials.specs.Poly.{Exponents, Term, Poly, join, add-multiple, difference, product, monic}
+use Rattle.polynomials.specs.Poly.{Exponents, Poly, join, add-multiple, difference, product, monic}
 use Rattle.polynomials.specs.Canonical.{All}
 use Rattle.polynomials.specs.Division.{degree, coefficient, without, initial, rest, pure-power, shift, factor, round, remainder}
 use Rattle.polynomials.specs.Packed.{terms}
 use Rattle.polynomials.specs.laws.Packed.{length-bytes}
-use Rattle.polynomials.specs.laws.Degree.{all-add-multiple, all-product}
+use Rattle.polynomials.specs.laws.All.{coefficient-all, without-all, shift-all, all-add-multiple, all-product}
 
--- ── all terms of the parts ──
-pub all-map : (P Q : Exponents → Type 0) (f : Poly) → ((e : Exponents) → P e → Q e) → All P f → All Q f
-all-map P Q f h u = each-map (λ (t : Term). P (t .exps)) (λ (t : Term). Q (t .exps)) (λ t. h (t .exps)) f u
-
-pub coefficient-all : (P Q : Exponents → Type 0) (k d : ℕ) (f : Poly) → ((e : Exponents) → P e → Q (set e k 0)) → All P f → All Q (coefficient k d f)
-unfolding coefficient
-coefficient-all P Q k d [] h u = tt
-coefficient-all P Q k d (t ∷ f) h u = go (eqb (getD (t .exps) k 0) d) (coefficient-all P Q k d f h (u .1))
-  where
-    go : (b : Bool) → All Q (coefficient k d f) →
-        All Q (elim b [ true ↦ record { coef = t .coef; exps = set (t .exps) k 0 } ∷ coefficient k d f | false ↦ coefficient k d f ])
-    go true ih = (h (t .exps) (u .0), ih)
-    go false ih = ih
-
-pub without-all : (P : Exponents → Type 0) (k d : ℕ) (f : Poly) → All P f → All P (without k d f)
-unfolding without
-without-all P k d [] u = tt
-without-all P k d (t ∷ f) u = go (eqb (getD (t .exps) k 0) d) (without-all P k d f (u .1))
-  where
-    go : (b : Bool) → All P (without k d f) → All P (elim b [ true ↦ without k d f | false ↦ t ∷ without k d f ])
-    go true ih = ih
-    go false ih = (u .0, ih)
-
-pub shift-all : (P Q : Exponents → Type 0) (k m : ℕ) (f : Poly) → ((e : Exponents) → P e → Q (join (pure-power k m) e)) → All P f → All Q (shift k m f)
-unfolding shift
-shift-all P Q k m [] h u = tt
-shift-all P Q k m (t ∷ f) h u = (h (t .exps) (u .0), shift-all P Q k m f h (u .1))
-
--- ── exponents of one length: the operations keep it ──
 abbrev pub Places : ℕ → Poly → Type 0
 Places n f = All (λ e. length e ≡ n) f
 

@@ -15,7 +15,8 @@ use Rattle.polynomials.specs.Poly.{Exponents, Poly, join, add-multiple, differe
 use Rattle.polynomials.specs.Canonical.{Canonical, All}
 use Rattle.polynomials.specs.Division.{degree, leader, coefficient, initial, rest, factor}
 use Rattle.polynomials.specs.Bounds.{Bounds, at-most, standard, Bounded, within, degree-passed, and-then, degrees-over, tested, bounded-product, bounded-difference, bounded-round, bounded-remainder}
-use Rattle.polynomials.specs.laws.Degree.{all-degree, all-add-multiple, degree-product, degree-at-most}
+use Rattle.polynomials.specs.laws.All.{all-add-multiple}
+use Rattle.polynomials.specs.laws.Degree.{all-degree, degree-product, degree-at-most}
 use Rattle.polynomials.specs.laws.Bounds.{degrees-over-none}
 use Rattle.polynomials.specs.laws.Bounded.{formed-first, tested-formed, over-at-most}
 use Rattle.polynomials.specs.laws.Product.{add-multiple-length}

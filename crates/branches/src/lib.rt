@@ -3,7 +3,7 @@
 ghost use mathlib.Core.Path.{_≡_};
 ghost use mathlib.Core.List.{[]};
 ghost use Prim.Native.Nat.{_≤_, _<_};
-ghost use lib.ListN.{length, getD, take};
+ghost use lib.ListN.{length, getD, take, drop};
 ghost use Rattle.stored.specs.Stored.{member, Storable};
 ghost use Rattle.branches.specs.Area.{Opened, When-open, capacity};
 
@@ -48,7 +48,8 @@ pub fn load_p(w: &[u32], i: usize, out: &mut [u64]) -> usize
     requires { ⌜ When-open (now w) (λ b bs ss. i < length (b .P)) ⌝ }
     requires { ⌜ When-open (now w) (λ b bs ss. length (getD (b .P) i []) ≤ length (now out)) ⌝ }
     ensures { λ r. ⌜ When-open (now (w .entry)) (λ b bs ss.
-        (r ≡ length (getD (b .P) i [])) × (take r (now (out .exit)) ≡ getD (b .P) i [])) ⌝ }
+        (r ≡ length (getD (b .P) i [])) × (take r (now (out .exit)) ≡ getD (b .P) i [])
+        × (drop r (now (out .exit)) ≡ drop r (now (out .entry)))) ⌝ }
 {
     let at = records::get0(w, 0) as usize;
     let from = stored::skip(w, at + 1, i);
@@ -61,7 +62,8 @@ pub fn load_q(w: &[u32], i: usize, out: &mut [u64]) -> usize
     requires { ⌜ When-open (now w) (λ b bs ss. i < length (b .Q)) ⌝ }
     requires { ⌜ 512 ≤ length (now out) ⌝ }
     ensures { λ r. ⌜ When-open (now (w .entry)) (λ b bs ss.
-        (r ≡ length (getD (b .Q) i [])) × (take r (now (out .exit)) ≡ getD (b .Q) i [])) ⌝ }
+        (r ≡ length (getD (b .Q) i [])) × (take r (now (out .exit)) ≡ getD (b .Q) i [])
+        × (drop r (now (out .exit)) ≡ drop r (now (out .entry)))) ⌝ }
 {
     let at = records::get0(w, 0) as usize;
     let p = records::get0(w, at) as usize;

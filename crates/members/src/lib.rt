@@ -2,7 +2,7 @@
 ghost use mathlib.Core.Path.{_≡_};
 ghost use mathlib.Core.List.{List};
 ghost use Prim.Native.Nat.{ℕ, _≤_};
-ghost use lib.ListN.{length, take};
+ghost use lib.ListN.{length, take, drop};
 ghost use Rattle.polynomials.specs.Poly.{monic};
 ghost use Rattle.polynomials.specs.Packed.{terms};
 ghost use Rattle.polynomials.specs.Working.{Holds};
@@ -29,6 +29,7 @@ pub fn take(w: &mut [u32], closing: bool, place: usize, left: usize, r: &mut [u6
     ensures { λ n. ⌜ When-open (now (w .entry)) (λ b bs ss.
         (n ≡ length (next-member closing place left b)) × (take n (now (r .exit)) ≡ next-member closing place left b)
         × Held (view (now (w .exit))) (capacity (now (w .entry))) (with-open (taken-out closing place left b) bs ss)) ⌝ }
+    ensures { λ n. ⌜ drop n (now (r .exit)) ≡ drop n (now (r .entry)) ⌝ }
 {
     if closing {
         let j = count_q(w) - left;

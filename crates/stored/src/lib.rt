@@ -1,7 +1,7 @@
 // Polynomials stored as consecutive records of the work area, and read.
 ghost use mathlib.Core.Path.{_≡_};
 ghost use Prim.Native.Nat.{_+_, _*_, _≤_, _<_};
-ghost use lib.ListN.{length, take, getD};
+ghost use lib.ListN.{length, take, drop, getD};
 ghost use Rattle.records.specs.Records.{room, view, zero-record};
 ghost use Rattle.stored.specs.Stored.{size-at, words-at, skip-to};
 
@@ -17,7 +17,8 @@ pub fn monomial(w: &[u32], i: usize) -> u64
 pub fn load(w: &[u32], at: usize, out: &mut [u64]) -> usize
     requires { ⌜ (at < room (now w)) × (at + 1 + size-at (view (now w)) at ≤ room (now w)) ⌝ }
     requires { ⌜ 2 * size-at (view (now w)) at ≤ length (now out) ⌝ }
-    ensures { λ r. ⌜ (r ≡ 2 * size-at (view (now (w .entry))) at) × (take r (now (out .exit)) ≡ words-at (view (now (w .entry))) at) ⌝ }
+    ensures { λ r. ⌜ (r ≡ 2 * size-at (view (now (w .entry))) at) × (take r (now (out .exit)) ≡ words-at (view (now (w .entry))) at)
+        × (drop r (now (out .exit)) ≡ drop r (now (out .entry))) ⌝ }
 {
     let n = records::get0(w, at) as usize;
     let mut i = 0;

@@ -75,7 +75,8 @@ same-length c = search needs
 returns : tie.Need-returns
 returns c b bs ss H =
     let F = there (c .before .before .before .before) H in
-    (c .before .before .load .ensures .0 ∙ F .size, c .before .before .load .ensures .1 ∙ F .words)
+    let l = c .before .before .load .ensures in
+    (l .0 ∙ F .size, l .1 ∙ F .words, l .2)
 
 pub load-q-spec : {M : Type 1} → statement M
 load-q-spec =

@@ -71,13 +71,18 @@ same-length-2 : tie.Need-same-length-2
 same-length-2 c = search needs
 
 returns : tie.Need-returns
-returns c = λ b bs ss H.
+returns c =
     let d = c .before .before .before .before .before .before in
     let a = counted d in
     let e = to-Q a in
     let s = entry-Q e in
-    took-Q (s .args .place) (s .args .left) b bs ss _ _ _ _ (e .if1 .taken) (a .count-q .result) (a .count-q .ensures b bs ss H)
-    (d .load-q .ensures b bs ss H) (c .before .before .remove-q .ensures b bs ss H)
+    let o = s .pre .0 in (
+      (λ b bs ss H.
+          let l = d .load-q .ensures b bs ss H in
+          took-Q (s .args .place) (s .args .left) b bs ss _ _ _ _ (e .if1 .taken) (a .count-q .result) (a .count-q .ensures b bs ss H)
+          (l .0, l .1) (c .before .before .remove-q .ensures b bs ss H)),
+      d .load-q .ensures (o .0) (o .1) (o .2) (o .3) .2,
+    )
 
 load-p-requires : tie.Need-load-p-requires
 load-p-requires c κs =
@@ -100,11 +105,16 @@ same-length-4 : tie.Need-same-length-4
 same-length-4 c = search needs
 
 returns-2 : tie.Need-returns-2
-returns-2 c = λ b bs ss H.
+returns-2 c =
     let d = c .before .before .before .before .before .before in
     let e = to-P d in
     let s = entry-P e in
-    took-P (s .args .place) (s .args .left) b bs ss _ _ _ _ (e .if1 .left) (d .load-p .ensures b bs ss H) (c .before .before .remove-p .ensures b bs ss H)
+    let o = s .pre .0 in (
+      (λ b bs ss H.
+          let l = d .load-p .ensures b bs ss H in
+          took-P (s .args .place) (s .args .left) b bs ss _ _ _ _ (e .if1 .left) (l .0, l .1) (c .before .before .remove-p .ensures b bs ss H)),
+      d .load-p .ensures (o .0) (o .1) (o .2) (o .3) .2,
+    )
 
 pub take-spec : {M : Type 1} → statement M
 take-spec =

@@ -92,7 +92,7 @@ module _ (c : Loaded) where
 
   pivot : (b : Stored) (bs ss : List Stored) → Entry (start c) b bs ss → Ready p (with-open b bs ss) → Leads k place b
       → Pivot-in p k place b T n
-  pivot b bs ss H R L = pivot-in p k place b bs ss T n R L (has-room b bs ss H) (c .before .before .load-p .ensures b bs ss H)
+  pivot b bs ss H R L = let l = c .before .before .load-p .ensures b bs ss H in pivot-in p k place b bs ss T n R L (has-room b bs ss H) (l .0, l .1)
 
   -- In the branch of which the contract speaks.
   abbrev some : Pivot-in p k place (start c .pre .0 .1 .0) T n

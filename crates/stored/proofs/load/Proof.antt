@@ -1,9 +1,10 @@
--- `load` meets its contract. The invariant: the first 2 i words hold the first i terms.
+-- `load` meets its contract. The invariant: the first 2 i words hold the first i terms, and the words behind all terms stay.
 use mathlib.Core.Path.{_≡_, refl, sym, ap, _∙_}
 use mathlib.Core.List.{_++_, _∷_, []}
 use Prim.Native.Nat.{ℕ, _+_, _*_, _-_, _≤_}
 use native.Mathlib.Omega.{arith}
-use lib.ListN.{length, take, drop, length-set}
+use lib.ListN.{length, take, drop, set, length-set}
+use lib.Seq.{drop-set-lt}
 use Rattle.records.specs.Records.{view}
 use Rattle.records.proofs.Rows.{length-view}
 use Rattle.stored.specs.Stored.{size-at, pairs-of, words-at}
@@ -13,6 +14,7 @@ use Rattle.stored.proofs.load.Tie as tie
 
 abbrev Inv-loop : tie.InvT-loop
 Inv-loop w at out₀ n i₀ out i = (i ≤ n) × (length out ≡ length out₀) × (take (2 * i) out ≡ pairs-of (take i (drop (at + 1) (view w))))
+    × (drop (2 * n) out ≡ drop (2 * n) out₀)
 
 abbrev μ-loop : tie.MeasureT-loop
 μ-loop w at out₀ n i₀ out i = n - i
@@ -25,7 +27,7 @@ cast-n c = omega arith
 
 loop-holds : tie.Need-loop-holds Inv-loop μ-loop
 unfolding pairs-of
-loop-holds c = (omega arith, refl, refl)
+loop-holds c = (omega arith, refl, refl, refl)
 
 add-get0 : tie.Need-add-get0 Inv-loop μ-loop
 add-get0 c = omega arith
@@ -81,12 +83,16 @@ loop-again c =
     let a = turn .before .before .before .before .args in
     let v = view (a .w .now) in
     let i = turn .loop .i in
-    let out = turn .loop .out in (
+    let out = turn .loop .out in
+    let n = turn .before .get0 .result in
+    let x = c .before .get02 .result in
+    let y = c .monomial .result in (
       omega arith,
       simp length-set (turn .loop .inv .1),
-      take-set-pair out i (c .before .get02 .result) (c .monomial .result) (omega arith)
+      take-set-pair out i x y (omega arith)
           ∙ (λ t. turn .loop .inv .2 t ++ (c .before .get02 .ensures t ∷ c .monomial .ensures t ∷ []))
           ∙ sym (pairs-of-take v (a .at + 1) i (omega (arith, length-view (a .w .now)))),
+      drop-set-lt (2 * n) (set out (2 * i) x) (2 * i + 1) y (omega arith) ∙ drop-set-lt (2 * n) out (2 * i) x (omega arith) ∙ turn .loop .inv .3,
     )
 
 mul-result : tie.Need-mul-result Inv-loop μ-loop
@@ -106,6 +112,7 @@ returns c =
       omega arith,
       ap (λ (k : ℕ). take (2 * k) (c .before .loop .out)) done ∙ c .before .loop .inv .2
           ∙ ap (λ (k : ℕ). pairs-of (take k (drop (a .at + 1) v))) (sym done ∙ is),
+      c .before .loop .inv .3,
     )
 
 pub load-spec : {M : Type 1} → statement M

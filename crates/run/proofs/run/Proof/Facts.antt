@@ -199,7 +199,7 @@ module _ (m : MemberTaken) where
   crowds-taken = to-members m .members .inv .2
 
   pub member-out : Out (found-of m) (at-taken m .w) (to-members m .members .left) (take-call m .take .result) (at-taken m .r)
-  member-out = member-taken (members-invariant (to-members m)) one-left _ _ _ (take-keeps .w) (take-call m .take .ensures)
+  member-out = member-taken (members-invariant (to-members m)) one-left _ _ _ (take-keeps .w) (take-call m .take .ensures .0)
 
   -- The rounds from the first n words of r form what all rounds do.
   abbrev Rounds : List ℕ → ℕ → Type 0

@@ -4,11 +4,8 @@ use mathlib.Core.Bool.{Bool, true, false}
 use mathlib.Core.List.{List, []}
 use Prim.Native.Nat.{ℕ, _-_, _≤_}
 use lib.ListN.{length, getD, take}
-use Rattle.polynomials.specs.Poly.{monic}
-use Rattle.polynomials.specs.Packed.{terms}
 use Rattle.records.specs.Records.{Rec}
-use Rattle.branches.specs.Area.{Stored, Held, Leaves, with-open, put-into-P, put-into-Q, without-P, without-Q}
-use Rattle.representation.specs.Represent.{Sound}
+use Rattle.branches.specs.Area.{Stored, Held, Leaves, with-open, without-P, without-Q}
 use Rattle.members.specs.Members.{Has-left, Has-behind, next-member, taken-out, put-in}
 
 -- n words of r are the next member, which is out of the area.
@@ -36,18 +33,13 @@ module _ {closing : Bool} (place left : ℕ) (b : Stored) where
     took-P e l h = subst (λ q. Took q place left b bs ss n r v most) (sym e) (l .0, l .1, h)
 
 -- ── what is put ──
--- What was put is the monic polynomial of the first n words of r.
-abbrev pub Put : ℕ → Bool → ℕ → List ℕ → Stored → List Stored → List Stored → Bool → List Rec → ℕ → Type 0
-Put p closing left s b bs ss k v most =
-    (f : List ℕ) × Sound p f × (terms f ≡ monic p (terms s)) × Leaves most (with-open (put-in closing left f b) bs ss) k v
+pub behind : {closing : Bool} (left : ℕ) (b : Stored) → closing ≡ true → Has-behind closing left b → left ≤ length (b .Q)
+behind left b e h = subst (λ q. Has-behind q left b) e h
 
-module _ {closing : Bool} (left : ℕ) (b : Stored) where
-  pub behind : closing ≡ true → Has-behind closing left b → left ≤ length (b .Q)
-  behind e h = subst (λ q. Has-behind q left b) e h
+module _ (left : ℕ) (b : Stored) (bs ss : List Stored) (k : Bool) (v : List Rec) (most : ℕ) (f : List ℕ) where
+  -- The words f are put into P or Q.
+  abbrev Put : Bool → Type 0
+  Put closing = Leaves most (with-open (put-in closing left f b) bs ss) k v
 
-  module _ (p : ℕ) (s : List ℕ) (bs ss : List Stored) (k : Bool) (v : List Rec) (most : ℕ) (f : List ℕ) (h : Sound p f) (e : terms f ≡ monic p (terms s)) where
-    pub put-Q : closing ≡ true → Leaves most (with-open (put-into-Q left f b) bs ss) k v → Put p closing left s b bs ss k v most
-    put-Q q u = (f, h, e, subst (λ q. Leaves most (with-open (put-in q left f b) bs ss) k v) (sym q) u)
-
-    pub put-P : closing ≡ false → Leaves most (with-open (put-into-P f b) bs ss) k v → Put p closing left s b bs ss k v most
-    put-P q u = (f, h, e, subst (λ q. Leaves most (with-open (put-in q left f b) bs ss) k v) (sym q) u)
+  pub put-by : {closing o : Bool} → closing ≡ o → Put o → Put closing
+  put-by e u = subst Put (sym e) u

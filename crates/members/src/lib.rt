@@ -1,7 +1,6 @@
 // A member to be divided by the pivot is taken out of the work area and loaded; its remainder is made monic and put back.
 ghost use mathlib.Core.Path.{_≡_};
-ghost use mathlib.Core.List.{List};
-ghost use Prim.Native.Nat.{ℕ, _≤_};
+ghost use Prim.Native.Nat.{_≤_};
 ghost use lib.ListN.{length, take, drop};
 ghost use Rattle.polynomials.specs.Poly.{monic};
 ghost use Rattle.polynomials.specs.Packed.{terms};
@@ -47,9 +46,9 @@ pub fn put_back(w: &mut [u32], p: u64, closing: bool, left: usize, r: &mut [u64]
     requires { ⌜ Opened (now w) × Modulus p ⌝ }
     requires { ⌜ When-open (now w) (λ b bs ss. Has-behind closing left b) ⌝ }
     requires { ⌜ (n ≤ length (now r)) × Holds p (take n (now r)) ⌝ }
+    ensures { λ _. ⌜ Sound p (take n (now (r .exit))) × (terms (take n (now (r .exit))) ≡ monic p (terms (take n (now (r .entry))))) ⌝ }
     ensures { λ k. ⌜ When-open (now (w .entry)) (λ b bs ss.
-        (f : List ℕ) × Sound p f × (terms f ≡ monic p (terms (take n (now (r .entry)))))
-        × Leaves (capacity (now (w .entry))) (with-open (put-in closing left f b) bs ss) k (view (now (w .exit)))) ⌝ }
+        Leaves (capacity (now (w .entry))) (with-open (put-in closing left (take n (now (r .exit))) b) bs ss) k (view (now (w .exit)))) ⌝ }
 {
     sums::monic(p, &mut r[..n]);
     if closing {

@@ -1,10 +1,15 @@
--- What rules 4 and 5 come to.
+-- What rules 3 to 5 come to.
 use mathlib.Core.Bool.{true, false}
-use Prim.Native.Nat.{ℕ}
-use lib.ListN.{length}
+use mathlib.Core.List.{List}
+use Prim.Native.Nat.{ℕ, _-_}
+use lib.ListN.{length, take}
 use Rattle.rules.specs.Branch.{Found, none, found}
 use Rattle.branches.specs.Area.{Stored, closed}
 use Rattle.pivots.specs.declared.Division.{Division}
+
+-- Where rule 3 forms the rest of the pivot t, made monic: the first words of r, as many as t has behind its initial i.
+abbrev pub rest-words : List ℕ → List ℕ → List ℕ → List ℕ
+rest-words t i r = take (length t - length i) r
 
 -- What rule 4 or 5 leaves to be divided, by the other polynomial that the pivot's variable leads; and the branch then.
 abbrev pub division-of : Found → ℕ → ℕ → ℕ → ℕ → Stored → Division

@@ -1,7 +1,7 @@
 // Rules 3 to 5 in the work area, once the pivot and its initial are loaded: whether rule 3 fits, the split, and what rule 4 or 5 leaves to be divided.
 ghost use mathlib.Core.Path.{_≡_};
 ghost use mathlib.Core.Bool.{false, _||_};
-ghost use mathlib.Core.List.{List, []};
+ghost use mathlib.Core.List.{[]};
 ghost use Prim.Native.Nat.{ℕ, _+_, _≤_, _<_};
 ghost use lib.ListN.{length, getD};
 ghost use Rattle.polynomials.specs.Poly.{monic};
@@ -15,7 +15,7 @@ ghost use Rattle.rules.specs.Branch.{other};
 ghost use Rattle.heads.specs.Heads.{All-hold};
 ghost use Rattle.representation.specs.Represent.{Sound, branch-of};
 ghost use Rattle.representation.specs.Ready.{Modulus};
-ghost use Rattle.pivots.specs.Aimed.{division-of, aimed};
+ghost use Rattle.pivots.specs.Aimed.{rest-words, division-of, aimed};
 use search::Other;
 
 // What a rule leaves to be divided by the pivot, whose words and whose initial's are so many: at rule 5 the last `left` members of Q, and at rule 4
@@ -97,9 +97,11 @@ pub fn apply_split(
     requires { ⌜ Sound p (now i) × (terms (now i) ≡ initial k (terms (now t))) ⌝ }
     requires { ⌜ When-open (now w) (λ b bs ss.
         (place < length (b .P)) × (getD (b .P) place [] ≡ now t) × (is-one (now i) ≡ false) × (member (now i) (b .Q) ≡ false)) ⌝ }
+    ensures { λ _. ⌜ Sound p (rest-words (now (t .entry)) (now (i .entry)) (now (r .exit)))
+        × (terms (rest-words (now (t .entry)) (now (i .entry)) (now (r .exit))) ≡ monic p (rest k (terms (now (t .entry))))) ⌝ }
     ensures { λ q. ⌜ When-open (now (w .entry)) (λ b bs ss.
-        (f : List ℕ) × Sound p f × (terms f ≡ monic p (rest k (terms (now (t .entry)))))
-        × Leaves (capacity (now (w .entry))) (split-area place (now (i .entry)) f b bs ss) q (view (now (w .exit)))) ⌝ }
+        Leaves (capacity (now (w .entry))) (split-area place (now (i .entry)) (rest-words (now (t .entry)) (now (i .entry)) (now (r .exit))) b bs ss)
+        q (view (now (w .exit)))) ⌝ }
 {
     let m = i.len();
     let l = t.len() - m;

@@ -19,7 +19,7 @@ use Rattle.rules.specs.Room.{Limits}
 use Rattle.rules.specs.Step.{Stepped, next, stopped, after-division, remainder-by, state, replace}
 use Rattle.records.specs.Records.{view}
 use Rattle.branches.specs.Words.{put-Q, put-Q-before, remove}
-use Rattle.branches.specs.Area.{Stored, Held, Opened, with-open, without-P, without-Q, capacity, Held-in}
+use Rattle.branches.specs.Area.{Stored, Held, Leaves, Opened, with-open, without-P, without-Q, capacity, Held-in}
 use Rattle.branches.proofs.LengthLaws.{same-capacity}
 use Rattle.branches.specs.laws.Words.{length-remove, each-remove}
 use Rattle.representation.specs.Represent.{Sound, branch-of, system-of, state-of, with-new, Monic}
@@ -30,7 +30,7 @@ use Rattle.representation.specs.laws.Steps.{if-fits}
 use Rattle.representation.specs.Ready.{Ready, limits-in}
 use Rattle.members.specs.Members.{Has-left, Has-members, Has-behind, next-member, taken-out, put-in, rest-of-step}
 use Rattle.representation.specs.laws.Lists.{put-P-nonzero}
-use Rattle.members.proofs.TakeLaws.{Took, Put}
+use Rattle.members.proofs.TakeLaws.{Took}
 use Rattle.members.proofs.MemberLaws.{takes, onward, step-put}
 use Rattle.branches.proofs.Unique.{of-every}
 use Rattle.run.proofs.Invariants.{rest-in, AtMembers}
@@ -101,10 +101,14 @@ pub record AtMember (p k : ℕ) (f : Poly) (closing : Bool) (place left₀ : ℕ
       → (b : Stored) × Took closing place left b bs ss n r (view w) (capacity w₀) × Ready p (with-open b bs ss) × Has-members closing place left b
       × (rest-in (capacity w₀) p closing place left k f b bs ss ≡ rest-in (capacity w₀) p closing place left₀ k f b₀ bs ss)
 
--- The words s were put into the area w. Whether they fitted is q, and v is the area then.
-pub record PutBack (p : ℕ) (closing : Bool) (left : ℕ) (s w : List ℕ) (q : Bool) (v : List ℕ) : Type 0 where
+-- The words s were made monic, as the words u, and put into the area w. Whether they fitted is q, and v is the area then.
+pub record PutBack (p : ℕ) (closing : Bool) (left : ℕ) (s u w : List ℕ) (q : Bool) (v : List ℕ) : Type 0 where
   pub same : length v ≡ length w
-  pub puts : (b : Stored) (bs ss : List Stored) → Held-in w (with-open b bs ss) → Put p closing left s b bs ss q (view v) (capacity w)
+  pub sound : Sound p u
+  pub monic-of : terms u ≡ monic p (terms s)
+  pub puts :
+      (b : Stored) (bs ss : List Stored) → Held-in w (with-open b bs ss)
+      → Leaves (capacity w) (with-open (put-in closing left u b) bs ss) q (view v)
 
 -- What is left of the step comes to S, from whatever state was held where the loop began.
 abbrev pub Comes-to : ℕ → ℕ → Poly → Bool → ℕ → ℕ → List ℕ → Stepped → Type 0
@@ -197,34 +201,33 @@ module _ {p k : ℕ} {f : Poly} {closing : Bool} {place left₀ : ℕ} {w₀ w :
     member-terms = member-stops Terms terms-passed (λ k. refl)
 
     -- The remainder is in the words s, and it was put back.
-    module _ (prime : Prime p) {s : List ℕ} (holds : Holds p s) (e : remainder ≡ within (terms s)) {v : List ℕ} {q : Bool}
-        (B : PutBack p closing (left - 1) s w q v) where
+    module _ (prime : Prime p) {s u : List ℕ} (holds : Holds p s) (e : remainder ≡ within (terms s)) {v : List ℕ} {q : Bool}
+        (B : PutBack p closing (left - 1) s u w q v) where
       -- b is the branch where the member was taken.
       module _ (b : Stored) (bs ss : List Stored) (T : Took closing place left b bs ss n r (view w) (capacity w₀)) (R : Ready p (with-open b bs ss))
           (M : Has-members closing place left b) where
-        was-put : Put p closing (left - 1) s (taken-out closing place left b) bs ss q (view v) (capacity w₀)
+        abbrev after : Stored
+        after = put-in closing (left - 1) u (taken-out closing place left b)
+
+        was-put : Leaves (capacity w₀) (with-open after bs ss) q (view v)
         was-put =
             let c = taken-out closing place left b in
-            subst (λ (m : ℕ). Put p closing (left - 1) s c bs ss q (view v) m) member-cap
+            subst (λ (m : ℕ). Leaves m (with-open after bs ss) q (view v)) member-cap
             (B .puts c bs ss (subst (λ (m : ℕ). Held (view w) m (with-open c bs ss)) (sym member-cap) (T .2)))
-
-        abbrev after : Stored
-        after = put-in closing (left - 1) (was-put .0) (taken-out closing place left b)
 
         ready-after : Ready p (with-open after bs ss)
         ready-after =
-            ready-put p place left b bs ss closing R (was-put .0) (was-put .1)
-            (stored-monic p (was-put .0) (terms s) prime (holds .canonical) (was-put .2))
+            ready-put p place left b bs ss closing R u (B .sound) (stored-monic p u (terms s) prime (holds .canonical) (B .monic-of))
 
         has-after : Has-members closing place (left - 1) after
-        has-after = has-put p place left b bs ss (A .one) closing (was-put .0) M
+        has-after = has-put p place left b bs ss (A .one) closing u M
 
         goes-on : rest-in (capacity w₀) p closing place left k f b bs ss ≡ if-fits q (rest-in (capacity w₀) p closing place (left - 1) k f after bs ss)
         goes-on =
             let l = limits-in (capacity w₀) in
-            step-put l p k f b bs ss place left (was-put .0) (terms s) (was-put .1) (was-put .2) (R .sound .branches .0) (capacity w₀) refl
+            step-put l p k f b bs ss place left u (terms s) (B .sound) (B .monic-of) (R .sound .branches .0) (capacity w₀) refl
             (omega (arith, T .2 .fits)) (R .listed) (A .one) closing M (ap (λ (g : List ℕ). remainder-by l p k f (terms g)) (sym (T .1)) ∙ e)
-            ∙ ap (λ (o : Bool). if-fits o (rest-of-step l p closing place (left - 1) k f after bs ss)) (sym (was-put .3 .answer))
+            ∙ ap (λ (o : Bool). if-fits o (rest-of-step l p closing place (left - 1) k f after bs ss)) (sym (was-put .answer))
 
         goes-as : (o : Bool) → q ≡ o
             → rest-in (capacity w₀) p closing place left k f b bs ss ≡ if-fits o (rest-in (capacity w₀) p closing place (left - 1) k f after bs ss)
@@ -241,7 +244,7 @@ module _ {p k : ℕ} {f : Poly} {closing : Bool} {place left₀ : ℕ} {w₀ w :
               after b bs ss (s .3) (s .4) (s .5),
               bs,
               ss,
-              was-put b bs ss (s .3) (s .4) (s .5) .3 .held t,
+              was-put b bs ss (s .3) (s .4) (s .5) .held t,
               ready-after b bs ss (s .3) (s .4) (s .5),
               has-after b bs ss (s .3) (s .4) (s .5),
             );
@@ -249,7 +252,7 @@ module _ {p k : ℕ} {f : Poly} {closing : Bool} {place left₀ : ℕ} {w₀ w :
             let s = A .all b₀ bs ss H R M in
             let b = s .0 in (
               after b bs ss (s .1) (s .2) (s .3),
-              was-put b bs ss (s .1) (s .2) (s .3) .3 .held t,
+              was-put b bs ss (s .1) (s .2) (s .3) .held t,
               ready-after b bs ss (s .1) (s .2) (s .3),
               has-after b bs ss (s .1) (s .2) (s .3),
               sym (goes-as b bs ss (s .1) (s .2) (s .3) true t) ∙ s .4,

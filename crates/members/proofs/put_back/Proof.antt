@@ -12,7 +12,7 @@ use Rattle.stored.specs.Stored.{Storable}
 use Rattle.representation.specs.Represent.{Sound}
 use Rattle.representation.specs.laws.Sounds.{sound-storable}
 use Rattle.members.proofs.MadeLaws.{Made, made-length, made-monic, made-sound}
-use Rattle.members.proofs.TakeLaws.{behind, put-Q, put-P}
+use Rattle.members.proofs.TakeLaws.{behind, put-by}
 use Rattle.members.proofs.put_back.Statement.{statement}
 use Rattle.members.proofs.put_back.Tie as tie
 
@@ -80,11 +80,12 @@ same-length-2 : tie.Need-same-length-2
 same-length-2 c = search needs
 
 returns : tie.Need-returns
-returns c = λ b bs ss H.
+returns c =
     let e = c .before .before .before .before .before in
-    let a = e .before in
-    let s = start a in
-    put-Q (s .args .left) b (s .args .p) (given a) bs ss _ _ _ (words a) (sound-of a) (monic-of a) (e .if1 .taken) (c .before .before .put-q .ensures b bs ss H)
+    let a = e .before in (
+      (sound-of a, monic-of a),
+      (λ b bs ss H. put-by (start a .args .left) b bs ss _ _ _ (words a) (e .if1 .taken) (c .before .before .put-q .ensures b bs ss H)),
+    )
 
 slice-reshare-prefix-put-p : tie.Need-slice-reshare-prefix-put-p
 slice-reshare-prefix-put-p c = search needs
@@ -103,11 +104,12 @@ same-length-4 : tie.Need-same-length-4
 same-length-4 c = search needs
 
 returns-2 : tie.Need-returns-2
-returns-2 c = λ b bs ss H.
+returns-2 c =
     let e = c .before .before .before .before .before in
-    let a = e .before in
-    let s = start a in
-    put-P (s .args .left) b (s .args .p) (given a) bs ss _ _ _ (words a) (sound-of a) (monic-of a) (e .if1 .left) (c .before .before .put-p .ensures b bs ss H)
+    let a = e .before in (
+      (sound-of a, monic-of a),
+      (λ b bs ss H. put-by (start a .args .left) b bs ss _ _ _ (words a) (e .if1 .left) (c .before .before .put-p .ensures b bs ss H)),
+    )
 
 pub put-back-spec : {M : Type 1} → statement M
 put-back-spec =

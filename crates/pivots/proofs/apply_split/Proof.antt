@@ -115,7 +115,7 @@ same-length-2 : tie.Need-same-length-2
 same-length-2 c = search needs
 
 returns : tie.Need-returns
-returns c = λ b bs ss H. let a = c .before .before .before .before .before in (words a, is-sound a, is-monic a, c .before .before .split .ensures b bs ss H)
+returns c = let a = c .before .before .before .before .before in ((is-sound a, is-monic a), c .before .before .split .ensures)
 
 pub apply-split-spec : {M : Type 1} → statement M
 apply-split-spec =

@@ -303,9 +303,9 @@ returns-3 c = (
       let v = to-split d .before in
       let g = formed v in
       let a = loaded g in
-      let e = d .apply-split .ensures b bs ss H in
-      split-next (p a) (k a) (place a) (start a .pre .0 .0 .prime) b bs ss R L (ini g) (e .0) (first g .sound) (of-chosen v b bs ss H R L) (e .1)
-      (e .2 ∙ rest-of-pivot v b bs ss H R L) _ _ H _ _ (e .3) (rule v b bs ss H R L false (to-split d .if2 .left)) (c .if3 .taken)),
+      let e = d .apply-split .ensures in
+      split-next (p a) (k a) (place a) (start a .pre .0 .0 .prime) b bs ss R L (ini g) _ (first g .sound) (of-chosen v b bs ss H R L) (e .0 .0)
+      (e .0 .1 ∙ rest-of-pivot v b bs ss H R L) _ _ H _ _ (e .1 b bs ss H) (rule v b bs ss H R L false (to-split d .if2 .left)) (c .if3 .taken)),
   begun _ tt,
 )
 
@@ -328,9 +328,9 @@ returns-4 c = (
       let v = to-split d .before in
       let g = formed v in
       let a = loaded g in
-      let e = d .apply-split .ensures b bs ss H in
-      split-stop (p a) (k a) (place a) (start a .pre .0 .0 .prime) b bs ss R L (ini g) (e .0) (first g .sound) (of-chosen v b bs ss H R L) (e .1)
-      (e .2 ∙ rest-of-pivot v b bs ss H R L) _ _ H _ _ (e .3) (rule v b bs ss H R L false (to-split d .if2 .left)) (c .if3 .left)),
+      let e = d .apply-split .ensures in
+      split-stop (p a) (k a) (place a) (start a .pre .0 .0 .prime) b bs ss R L (ini g) _ (first g .sound) (of-chosen v b bs ss H R L) (e .0 .0)
+      (e .0 .1 ∙ rest-of-pivot v b bs ss H R L) _ _ H _ _ (e .1 b bs ss H) (rule v b bs ss H R L false (to-split d .if2 .left)) (c .if3 .left)),
   begun _ tt,
 )
 

@@ -351,8 +351,10 @@ module _ (m : MemberPut) where
 
   put-back :
       let f = division-of (put-of m) in
-      PutBack (modulo f) (found f .closing) left-then (divided (put-of m)) (at-division (put-of m) .w) fits (at-put m .w)
-  put-back = record { same = put-back-keeps .w; puts = put-call m .put-back .ensures }
+      PutBack (modulo f) (found f .closing) left-then (divided (put-of m)) (take (put-of m .division .n) (at-put m .r)) (at-division (put-of m) .w) fits (at-put m .w)
+  put-back =
+      let e = put-call m .put-back .ensures in
+      record { same = put-back-keeps .w; sound = e .0 .0; monic-of = e .0 .1; puts = e .1 }
 
   pub member-goes : (fits ≡ true → Left (division-of (put-of m)) (at-put m .w) left-then) × (fits ≡ false → Left-comes-to (division-of (put-of m)) (stopped Room))
   member-goes =

@@ -60,7 +60,7 @@ module _ (table work output : List ℕ) (limit : ℕ) (a : Answer) (work-after o
     call-refused-keeps-output e = C .output-is ∙ ap (λ (E : Eliminated). output-after E output) (turned e)
 
 -- ── two calls ──
--- "Lists from several primes and several machines are compared place by place": calls with the same table that are accepted answer the same and
+-- "Lists from several primes and machines are compared place by place": calls with the same table that are accepted answer the same and
 -- write the same words to the start of their outputs, whatever the limit, the work area, the output and what stood in them.
 module _ (table : List ℕ) where
   pub calls-alike : (work work′ output output′ : List ℕ) (limit limit′ : ℕ) (a a′ : Answer) (w w′ o o′ : List ℕ)

@@ -44,15 +44,15 @@ unfoldable pub some-over : Bound → Exponents → Bool
 some-over b [] = false
 some-over b (n ∷ e) = over b n || some-over b e
 
--- "If for some variable the two degrees sum to over 255."
+-- "if for some variable the two degrees sum to over 255, refusal 10"
 unfoldable pub degrees-over : Bound → Poly → Poly → Bool
 degrees-over b f g = some-over b (join (degrees f) (degrees g))
 
--- "If the product has over 256 terms." "A difference is tested for 9 only."
+-- "if the product has over 256 terms, refusal 9"; "A difference is tested for 9 only."
 unfoldable pub tested : Bounds → Poly → Bounded
 tested b f = elim (over (b .of-terms) (length f)) [ true ↦ terms-passed | false ↦ within f ]
 
--- "A zero factor gives zero, untested. Else refusal 10; then refusal 9."
+-- "Product: a zero factor gives zero, untested. Else, .. refusal 10; then, .. refusal 9."
 unfoldable pub bounded-product : Bounds → ℕ → Poly → Poly → Bounded
 bounded-product b p [] g = within []
 bounded-product b p (t ∷ f) [] = within []
@@ -67,7 +67,7 @@ unfoldable pub bounded-round : Bounds → ℕ → ℕ → ℕ → Poly → Poly 
 bounded-round b p k d T R =
     and-then (bounded-product b p (coefficient k d T) R) (λ x. and-then (bounded-product b p (factor k d R) T) (λ y. bounded-difference b p x y))
 
--- "While the degree of R in vk is at least d", in at most n rounds.
+-- "while the degree e of R in vk (0 for zero) is at least d", in at most n rounds.
 unfoldable pub bounded-remainder : Bounds → ℕ → ℕ → ℕ → Poly → ℕ → Poly → Bounded
 bounded-remainder b p k d T zero R = within R
 bounded-remainder b p k d T (suc n) R =

@@ -1,5 +1,5 @@
--- Terms and polynomials over the residues modulo p: "a list of terms with nonzero coefficients, strictly falling", unbounded
--- here (the bounds stand in Bounds.antt). Sum, difference, product and monic are all made of one operation, the insertion of a term.
+-- Terms and polynomials over the residues modulo p: "a list of at most 256 terms with nonzero coefficients, strictly falling",
+-- unbounded here (the bounds stand in Bounds.antt). Sum, difference, product and monic are all made of one operation, the insertion of a term.
 use mathlib.Core.List.{List, [], _∷_}
 use mathlib.Core.Bool.{Bool, true, false, _&&_}
 use Prim.Native.Nat.{ℕ, _+_, _-_, _*_, _%_, compare, Ordering, Ordering·lt, Ordering·eq, Ordering·gt}

@@ -70,7 +70,7 @@ pub record Chosen : Type 0 where
   pub place : ℕ
   pub poly : Poly
 
--- Whether g is a better pivot than f, which stands before it: "led by vk, of least degree in vk, then fewest terms, then earliest", with
+-- Whether g is a better pivot than f, which stands before it: "led by vk of least degree in vk, then fewest terms, then earliest", with
 -- v(k+1) for vk.
 unfoldable pub better : ℕ → Poly → Poly → Bool
 better k g f =

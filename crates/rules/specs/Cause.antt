@@ -59,8 +59,8 @@ module _ (work p : ℕ) (waiting : List Branch) (listed : List System) where
   abbrev l : Limits
   l = limits-of work
 
-  -- "Each member of Q in turn is replaced by its remainder by the pivot f in v(k+1)": what is met at the first of the members left, or at a
-  -- later one. The branch holds the new Q so far; the members still to be replaced are live.
+  -- "Each member of Q in turn is replaced by its remainder by the pivot in vk", with v(k+1) for vk and pivot f: what is met at the first of
+  -- the members left, or at a later one. The branch holds the new Q so far; the members still to be replaced are live.
   pub data Met-replacing (k : ℕ) (f : Poly) : List Poly → Branch → Reason → Type 0 where
     degree-met : (g : Poly) (gs : List Poly) (b : Branch) → remainder-by l p k f g ≡ degree-passed → Met-replacing k f (g ∷ gs) b Degree
     terms-met : (g : Poly) (gs : List Poly) (b : Branch) → remainder-by l p k f g ≡ terms-passed → Met-replacing k f (g ∷ gs) b Terms
@@ -100,7 +100,7 @@ no-room : Cause empty 4 8 1 0 Room 0
 unfolding first-branch put-all live branches-size branch-size polynomials-size systems-size room-of
 no-room = in-first-branch t empty-is-read (omega arith)
 
--- "The same, limit 0: refusal 12, 0 steps."
+-- "the same, limit 0": "refusal 12, 0 steps".
 no-step : Cause empty 8 8 0 0 Steps 0
 unfolding first-branch put-all live branches-size branch-size polynomials-size systems-size room-of
 no-step = at-limit 0 (first-state t) (first-branch t) [] (record { input = t; accepted = empty-is-read; has-room = omega arith; by-steps = refl }) refl refl

@@ -61,7 +61,7 @@ unfoldable pub eliminated : List ℕ → ℕ → ℕ → ℕ → Eliminated
 eliminated w work output limit =
     elim (read-table w) [ good t ↦ delivered (output / 4) t (run-of (limits-of work) limit t) | tables.refused why at ↦ turned-back 0 why at ]
 
--- "The list stands in the first words of the output and the others are unchanged. Refused: the output is unchanged."
+-- "Accepted: the list stands in the first words of the output and the others are unchanged; .. Refused: the output is unchanged."
 abbrev pub output-after : Eliminated → List ℕ → List ℕ
 output-after (listed n ss words) out = words ++ drop (length words) out
 output-after (turned-back n why at) out = out

@@ -26,7 +26,7 @@ module _ {ℓ} {K : Type ℓ} (F : Field K) (x : List K) where
   NonZero f = value (F .ring) f x ≢ F .ring .nil
 
   -- "A point solves an input if every polynomial of its P has value 0 there and none of its Q has. It solves a system if every
-  -- polynomial of T has value 0 there and none of U has."
+  -- polynomial of T, the triangular list, has value 0 there and none of U, its companion set, has."
   abbrev pub Solves-input : Input → Type ℓ
   Solves-input t = Each Zero (t .P) × Each NonZero (t .Q)
 

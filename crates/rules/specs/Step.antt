@@ -57,7 +57,7 @@ module _ (l : Limits) (p : ℕ) where
     state b = record { branches = b ∷ waiting; systems = listed }
 
     -- "Each member of Q in turn is replaced by its remainder by the pivot in vk: the new Q is built by putting them." The members still to
-    -- be replaced are live; "a member replaced is freed before the new one is put".
+    -- be replaced are live: "A member replaced or removed is freed before the new one is put."
     unfoldable pub replace : ℕ → Poly → List Poly → Branch → Stepped
     replace k f [] b = next (state b)
     replace k f (g ∷ gs) b =

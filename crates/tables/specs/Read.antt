@@ -62,7 +62,7 @@ not-below e first = false
 not-below e (after b) = elim (order e b) [ Ordering·lt ↦ false | Ordering·eq ↦ true | Ordering·gt ↦ true ]
 
 module _ (w : List ℕ) (p n : ℕ) where
-  -- "At each term: 9 if it is the 257th; 6 if the coefficient is 0 or at least p; 7; 8." Term number m of its polynomial, from 0, in record i.
+  -- "At each term: 9 if it is the 257th; 6 if the coefficient is 0 or at least p; 7 ..; 8 .." Term number m of its polynomial, from 0, in record i.
   unfoldable pub read-term : ℕ → Before → ℕ → Read Term
   read-term m b i =
       unless (leb 256 m) Terms i

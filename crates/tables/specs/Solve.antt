@@ -18,7 +18,7 @@ use Rattle.tables.specs.declared.Placing.{Placing}
 use Rattle.tables.specs.declared.PlaceOutcome.the-variants.{Place, Refused as PlaceRefused}
 use Rattle.tables.specs.Read.{Read, good, refused, then, unless, Input, System, read-table, read-list}
 
--- "14 if the point has not n numbers or one is at least p."
+-- "14 if the point, v1's number first, has not n numbers or one is at least p."
 unfoldable pub all-below : ℕ → List ℕ → Bool
 all-below p [] = true
 all-below p (x ∷ xs) = ltb x p && all-below p xs
@@ -39,7 +39,7 @@ module _ (p : ℕ) (x : List ℕ) where
   none-zero (f ∷ fs) = not (is-root f) && none-zero fs
 
   -- "A point solves an input if every polynomial of its P has value 0 there and none of its Q has. It solves a system if every
-  -- polynomial of T has value 0 there and none of U has."
+  -- polynomial of T, the triangular list, has value 0 there and none of U, its companion set, has."
   unfoldable pub solves : List Poly → List Poly → Bool
   solves zeros nonzeros = all-zero zeros && none-zero nonzeros
 
@@ -48,12 +48,12 @@ module _ (p : ℕ) (x : List ℕ) where
   first-solved k [] = 0
   first-solved k (s ∷ ss) = elim (solves (s .T) (s .U)) [ true ↦ k | false ↦ first-solved (suc k) ss ]
 
--- "The refusals of reading, then 14. Answer: yes or no."
+-- "The refusals of reading, then 14 .. Answer: yes or no."
 unfoldable pub try-input : List ℕ → List ℕ → Read Bool
 try-input w x =
     then (read-table w) (λ t. unless (not (is-point (t .modulus) (t .variables) x)) Point 0 (good (solves (t .modulus) x (t .P) (t .Q))))
 
--- "The place of the first system solved, from 1, or 0."
+-- "Answer: the place of the first system solved, from 1, or 0."
 unfoldable pub try-systems : List ℕ → List ℕ → Read ℕ
 try-systems w x =
     then (read-list w) (λ l. unless (not (is-point (l .modulus) (l .variables) x)) Point 0 (good (first-solved (l .modulus) x 1 (l .systems))))

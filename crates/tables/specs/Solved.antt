@@ -14,7 +14,7 @@ abbrev pub PointOf : ℕ → ℕ → List ℕ → Type 0
 PointOf p n x = (length x ≡ n) × Point p x
 
 module _ (p : ℕ) (x : List ℕ) where
-  -- "Every polynomial of the one has value 0 there and none of the other has."
+  -- Every polynomial of the one has value 0 there and none of the other has.
   abbrev pub Solves : List Poly → List Poly → Type 0
   Solves zeros nonzeros = Each (λ f. value-modulo p f x ≡ 0) zeros × Each (λ f. value-modulo p f x ≢ 0) nonzeros
 

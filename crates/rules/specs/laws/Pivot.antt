@@ -1,4 +1,4 @@
--- The pivot stands in P and is led by the highest leading variable there; what "another polynomial led by it" finds.
+-- The pivot stands in P and is led by the highest leading variable there; what the search for another polynomial led by it finds.
 use mathlib.Core.Path.{_≡_, refl, sym, _∙_, ap, ap₂}
 use mathlib.Core.Logic.{_≢_, _⊎_, inl, inr}
 use mathlib.Core.List.{List, [], _∷_}

@@ -15,7 +15,7 @@ use lib.Dec.{eqb, leb, ltb}
 use lib.ListN.{drop}
 use Rattle.polynomials.specs.Poly.{Term, order}
 use Rattle.polynomials.specs.Packed.{bytes, exponents}
-use Rattle.polynomials.specs.laws.Order.{Says, says}
+use Rattle.polynomials.specs.laws.Order.{Says, compare-says}
 use Rattle.polynomials.specs.laws.Packed.{fewer-bytes, order-bytes, byte-power}
 use Rattle.tables.specs.declared.Reason.the-variants.{Head, Coefficient, Exponent, Order, Terms}
 use Rattle.tables.specs.declared.Checked.{Checked}
@@ -70,7 +70,7 @@ above-all n m e = rw e
 pub falls-before : (m e last : ℕ) → e < 2 ^ 64 → last < 2 ^ 64 → not-below (bytes 8 e) (before m last) ≡ ltb 0 m && leb last e
 unfolding not-below
 falls-before zero e last h k = refl
-falls-before (suc m) e last h k = go (order (bytes 8 e) (bytes 8 last)) (subst (λ (o : Ordering). Says o e last) (sym (order-bytes 8 e last h k)) (says e last))
+falls-before (suc m) e last h k = go (order (bytes 8 e) (bytes 8 last)) (subst (λ (o : Ordering). Says o e last) (sym (order-bytes 8 e last h k)) (compare-says e last))
   where
     go : (o : Ordering) → Says o e last → _≡_ {A = Bool} (elim o [ Ordering·lt ↦ false | Ordering·eq ↦ true | Ordering·gt ↦ true ]) (ltb 0 (suc m) && leb last e)
     go Ordering·lt l = rw (lt-ltb 0 (suc m) (omega arith), lt-leb last e l)

@@ -10,7 +10,7 @@ use lib.ListN.{length, take, drop, getD}
 use lib.Seq.{length-take-le, take-all, getD-take, paste, take-paste, length-paste}
 use Rattle.residues.specs.Field.{CommRing, cast}
 use Rattle.residues.specs.laws.Ring.{ring-laws, cast-add, neg-unique}
-use Rattle.residues.specs.laws.Residues.{Residues, char}
+use Rattle.residues.specs.laws.Residues.{Residues, cast-modulus}
 use Rattle.polynomials.specs.Poly.{Exponents, Term, Poly, join, add-multiple, sum, difference, product}
 use Rattle.polynomials.specs.Canonical.{Under, Canonical}
 use Rattle.polynomials.specs.Division.{degree, coefficient, pure-power, shift, factor}
@@ -46,7 +46,7 @@ use Rattle.polynomials.specs.laws.Bounds.{no-degrees-over, degree-small}
 use Rattle.polynomials.specs.laws.Product.{product-length, row-fits}
 use Rattle.polynomials.specs.laws.Bounded.{at-most-over, product-within, product-formed}
 use Rattle.polynomials.specs.laws.Answers.{Answered, then-formed, then-degree, then-terms}
-use Rattle.sums.proofs.MergeLaws.{formed, refused}
+use Rattle.sums.proofs.MergeLaws.{within-terms-formed, over-terms-refused}
 use Rattle.products.specs.Lent.{lent-for-product}
 use Rattle.division.specs.Lent.{lent-for-difference, lent-for-round}
 
@@ -106,16 +106,16 @@ module _ (p : ℕ) (h : 1 ≤ p) where
   one-times s c = multiple-zeros p 1 8 (terms s) [] (places-terms s) ∙ ap (λ (f : Canon p h). f .0) (canon-is p h (terms s, c))
 
   cast-negative : (c : ℕ) → c < p → cast 𝓕 (p - c) ≡ ⊖ cast 𝓕 c
-  cast-negative c l = neg-unique 𝓕 (cast 𝓕 c) (cast 𝓕 (p - c)) (sym (cast-add 𝓕 c (p - c)) ∙ ap (cast 𝓕) (add-sub-of-le (le-of-lt l)) ∙ char p h)
+  cast-negative c l = neg-unique 𝓕 (cast 𝓕 c) (cast 𝓕 (p - c)) (sym (cast-add 𝓕 c (p - c)) ∙ ap (cast 𝓕) (add-sub-of-le (le-of-lt l)) ∙ cast-modulus p h)
 
   difference-row : (t : Term) (g f : Poly) → t .coef < p → Canonical p f → difference p f (product p (t ∷ []) g) ≡ add-multiple p (p - t .coef) (t .exps) g f
   unfolding product weigh
   difference-row t g f l c = canonical-ext p h _ _ (canonical-difference p f _ h c) (canonical-add-multiple p (p - t .coef) (t .exps) g f h c) (λ w.
-      weigh-difference 𝓕 p (char p h) h w f (product p (t ∷ []) g)
-      ∙ ap (λ z. weigh 𝓕 w f ⊕ ⊖ z) (weigh-add-multiple 𝓕 p (char p h) w (t .coef) (t .exps) g [])
+      weigh-difference 𝓕 p (cast-modulus p h) h w f (product p (t ∷ []) g)
+      ∙ ap (λ z. weigh 𝓕 w f ⊕ ⊖ z) (weigh-add-multiple 𝓕 p (cast-modulus p h) w (t .coef) (t .exps) g [])
       ∙ law (weigh 𝓕 w f) (cast 𝓕 (t .coef)) (weigh 𝓕 (λ e. w (join (t .exps) e)) g)
       ∙ ap (λ z. z ⊗ weigh 𝓕 (λ e. w (join (t .exps) e)) g ⊕ weigh 𝓕 w f) (sym (cast-negative (t .coef) l))
-      ∙ sym (weigh-add-multiple 𝓕 p (char p h) w (p - t .coef) (t .exps) g f))
+      ∙ sym (weigh-add-multiple 𝓕 p (cast-modulus p h) w (p - t .coef) (t .exps) g f))
     where
       law : (a c x : Fin p) → a ⊕ ⊖ (c ⊗ x ⊕ 𝟘) ≡ (⊖ c) ⊗ x ⊕ a
       law a c x = simp ring-laws
@@ -231,10 +231,10 @@ module _ (p : ℕ) (h : 1 ≤ p) (r t : List ℕ) (room : 2 ≤ length r) (K : H
         ∙ row-tested p h c m t a (factor-coefficient .1) H (A .canonical) (ap (λ f. degrees-over (at-most 255) f (terms t)) (sym factor-term) ∙ d))
 
     pub row-formed : n ≤ 512 → Forms (subtracted p (terms (take 2 r)) (terms t) (terms a)) (Words n) s
-    row-formed few = subst (λ B. Forms B (Words n) s) same (formed _ n s W few)
+    row-formed few = subst (λ B. Forms B (Words n) s) same (within-terms-formed _ n s W few)
 
     pub row-too-long : 512 < n → Forms (subtracted p (terms (take 2 r)) (terms t) (terms a)) OverTerms s
-    row-too-long many = subst (λ B. Forms B OverTerms s) same (refused _ s (omega (arith, W .pairs)))
+    row-too-long many = subst (λ B. Forms B OverTerms s) same (over-terms-refused _ s (omega (arith, W .pairs)))
 
 -- ── a round, from what its calls answered: I is the initial and L the factor ──
 module _ (p k d : ℕ) (G R I : Poly) (initial : I ≡ coefficient k d G) (s : List ℕ) where

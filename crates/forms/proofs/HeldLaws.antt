@@ -11,7 +11,7 @@ use lib.ListN.{length, drop, getD, drop-of-length-le}
 use Rattle.polynomials.specs.Poly.{order}
 use Rattle.polynomials.specs.Packed.{bytes, terms}
 use Rattle.polynomials.specs.Working.{falls, is-canonical, is-held}
-use Rattle.polynomials.specs.laws.Order.{Says, says, compare-is}
+use Rattle.polynomials.specs.laws.Order.{Says, compare-says, compare-is}
 use Rattle.polynomials.specs.laws.Packed.{order-bytes}
 use Rattle.polynomials.specs.laws.Terms.{terms-at}
 
@@ -75,7 +75,7 @@ module _ (p : ℕ) (s : List ℕ) (i : ℕ) (inside : i + 1 < length s) where
 
       none : falls (bytes 8 (getD s (i + 1) 0)) (terms (drop (i + 2) s)) ≡ false
       none =
-          let q = says (getD s (i + 3) 0) (getD s (i + 1) 0) in
+          let q = compare-says (getD s (i + 3) 0) (getD s (i + 1) 0) in
           falls-by l u v (compare (getD s (i + 3) 0) (getD s (i + 1) 0)) q ∙ by (compare (getD s (i + 3) 0) (getD s (i + 1) 0)) q
 
   passed : getD s i 0 ≢ 0 → getD s i 0 < p → falls (bytes 8 (getD s (i + 1) 0)) (terms (drop (i + 2) s)) ≡ true →

@@ -14,7 +14,7 @@ use Rattle.polynomials.specs.Packed.{bytes, terms, AllFit}
 use Rattle.polynomials.specs.Working.{Pairs, Holds, Written, Forms}
 use Rattle.polynomials.specs.declared.Formed.the-variants.{Words, OverTerms}
 use Rattle.gathering.specs.Gathers.{room-for}
-use Rattle.sums.proofs.MergeLaws.{formed, refused}
+use Rattle.sums.proofs.MergeLaws.{within-terms-formed, over-terms-refused}
 use Rattle.polynomials.specs.laws.Terms.{terms-drop, words-of-terms}
 use Rattle.polynomials.specs.laws.Canonical.{canonical-product}
 use Rattle.polynomials.specs.laws.Product.{add-multiple-length, rows-left, row-added, coefficient-below, row-fits}
@@ -122,8 +122,8 @@ module _ (p : ℕ) (f g : List ℕ) {D : Type 0} (asked : Factors p f g D) where
       pub rows-with : RowsFrom p f g i m z
       rows-with = row-gathered p f g right-pairs i j k at n x so-far m z w
 
-  pub empty : RowsFrom p f g (length f) 0 f
-  empty = none-gathered p f g right-pairs f
+  pub rows-none : RowsFrom p f g (length f) 0 f
+  rows-none = none-gathered p f g right-pairs f
 
   last-place : length f % 4 ≡ 2 → Place f (length f - 2) (length f - 2 + 1) (length f)
   last-place q = record { even = omega arith; inside = omega arith; second = refl; next = omega arith }
@@ -131,15 +131,15 @@ module _ (p : ℕ) (f g : List ℕ) {D : Type 0} (asked : Factors p f g D) where
   -- Before the loop: the last row where the number of rows is odd, else nothing.
   pub first-asks : length f % 4 ≡ 2 → (r : ℕ) → length g ≤ r →
       Adds p (getD f (length f - 2) 0) (getD f (length f - 2 + 1) 0) g [] r
-  first-asks q r h = asks-row (last-place q) empty r (omega arith)
+  first-asks q r h = asks-row (last-place q) rows-none r (omega arith)
 
   pub first-gathering : (x z : List ℕ) (n : ℕ) → length f % 4 ≡ 2 → Written (row p f g (length f - 2) (length f - 2 + 1) []) n x
       → Gathering p f g x z x z (length f - 2) n
   first-gathering x z n q w = record {
     four = omega arith;
     inside = omega arith;
-    rows = rows-with (last-place q) empty w;
-    few = omega (arith, asked .1 .1 .0 .0 .few, few-with (last-place q) empty w);
+    rows = rows-with (last-place q) rows-none w;
+    few = omega (arith, asked .1 .1 .0 .0 .few, few-with (last-place q) rows-none w);
     same-x = refl;
     same-z = refl;
   }
@@ -200,10 +200,10 @@ module _ (p : ℕ) (f g : List ℕ) {D : Type 0} (asked : Factors p f g D) where
         }
 
         pub stopped : 512 + (i - 4) / 2 * length g < n′ → Forms (tested standard (product p (terms f) (terms g))) OverTerms x′
-        stopped many = refused (product p (terms f) (terms g)) x′ (cannot-return p f g right-pairs (i - 4) n′ x′ (omega (arith, even, full)) lower-gathered many)
+        stopped many = over-terms-refused (product p (terms f) (terms g)) x′ (cannot-return p f g right-pairs (i - 4) n′ x′ (omega (arith, even, full)) lower-gathered many)
 
   pub gathered : (x₀ z₀ x z : List ℕ) (i n : ℕ) → Gathering p f g x₀ z₀ x z i n → i ≤ 0 → Forms (tested standard (product p (terms f) (terms g))) (Words n) x
-  gathered x₀ z₀ x z i n v none = formed (product p (terms f) (terms g)) n x whole (omega (arith, v .few, ap (λ (i : ℕ). i / 2 * length g) none′))
+  gathered x₀ z₀ x z i n v none = within-terms-formed (product p (terms f) (terms g)) n x whole (omega (arith, v .few, ap (λ (i : ℕ). i / 2 * length g) none′))
     where
       none′ : i ≡ 0
       none′ = omega arith
@@ -212,5 +212,5 @@ module _ (p : ℕ) (f g : List ℕ) {D : Type 0} (asked : Factors p f g D) where
       whole = subst (λ (i : ℕ). Written (product p (terms (drop i f)) (terms g)) n x) none′ (v .rows .written)
 
 -- Numbers of words of two factors: their product is small.
-pub small : (a b : ℕ) → a ≤ 512 → b ≤ 512 → a * b ≤ 262144
-small a b h k = mul-le-mul h k
+pub product-of-words-small : (a b : ℕ) → a ≤ 512 → b ≤ 512 → a * b ≤ 262144
+product-of-words-small a b h k = mul-le-mul h k

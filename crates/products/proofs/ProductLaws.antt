@@ -20,8 +20,8 @@ use Rattle.gathering.specs.Gathers.{room-for, Gathers}
 use Rattle.gathering.specs.declared.Gathered.{Gathered}
 use Rattle.gathering.specs.declared.Gathered.the-variants as ended
 use Rattle.products.specs.Lent.{lent-for-product}
-pub use Rattle.sums.proofs.MergeLaws.{formed}
-use Rattle.gathering.proofs.GatherLaws.{Factors, Place, Adds, row, asks-row, empty, rows-with, few-with, small}
+pub use Rattle.sums.proofs.MergeLaws.{within-terms-formed}
+use Rattle.gathering.proofs.GatherLaws.{Factors, Place, Adds, row, asks-row, rows-none, rows-with, few-with, product-of-words-small}
 use Rattle.polynomials.specs.laws.Terms.{words-of-terms}
 use Rattle.polynomials.specs.laws.Product.{product-comm}
 
@@ -95,17 +95,17 @@ module _ (p : ℕ) (f g : List ℕ) {D : Type 0} (asked : Factors p f g D) (sing
   only-place = record { even = refl; inside = omega arith; second = refl; next = single }
 
   pub single-asks : (r : ℕ) → length g ≤ r → Adds p (getD f 0 0) (getD f 1 0) g [] r
-  single-asks r h = asks-row p f g asked only-place (empty p f g asked) r (omega arith)
+  single-asks r h = asks-row p f g asked only-place (rows-none p f g asked) r (omega arith)
 
   pub single-formed : (x : List ℕ) (n : ℕ) → Written (row p f g 0 1 []) n x → Forms (tested standard (product p (terms f) (terms g))) (Words n) x
   single-formed x n w =
-      formed (product p (terms f) (terms g)) n x (rows-with p f g asked only-place (empty p f g asked) w .written)
-      (omega (arith, asked .1 .1 .0 .0 .few, few-with p f g asked only-place (empty p f g asked) w))
+      within-terms-formed (product p (terms f) (terms g)) n x (rows-with p f g asked only-place (rows-none p f g asked) w .written)
+      (omega (arith, asked .1 .1 .0 .0 .few, few-with p f g asked only-place (rows-none p f g asked) w))
 
 -- ── the buffers, and the factors ──
 
 pub buffers-suffice : (f g : ℕ) → f ≤ 512 → g ≤ 512 → room-for f g ≤ 66816
-buffers-suffice f g h k = omega (arith, small f g h k)
+buffers-suffice f g h k = omega (arith, product-of-words-small f g h k)
 
 -- The factors may change places.
 pub exchanged : (p : ℕ) → 1 ≤ p → (f g : Poly) (r : Formed) (x : List ℕ) → Forms (tested standard (product p g f)) r x → Forms (tested standard (product p f g)) r x

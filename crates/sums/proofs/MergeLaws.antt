@@ -274,17 +274,17 @@ unfolding difference
 difference-written p n f g s = subst (λ d. Written d n s) (multiple-zeros p (p - 1) 8 (terms g) (terms f) (places-terms g))
 
 -- What was formed is tested.
-pub formed : (f : Poly) (n : ℕ) (x : List ℕ) → Written f n x → n ≤ 512 → Forms (tested standard f) (Words n) x
+pub within-terms-formed : (f : Poly) (n : ℕ) (x : List ℕ) → Written f n x → n ≤ 512 → Forms (tested standard f) (Words n) x
 unfolding tested over
-formed f n x w few = go (ltb 256 (length f)) (ltb-true 256 (length f))
+within-terms-formed f n x w few = go (ltb 256 (length f)) (ltb-true 256 (length f))
   where
     go : (b : Bool) → (b ≡ true → 256 < length f) → Forms (elim b [ true ↦ terms-passed | false ↦ within f ]) (Words n) x
     go true h = absurd (omega (arith, h refl, w .pairs))
     go false h = (ap Words (w .pairs), subst (λ k. Written f k x) (w .pairs) w)
 
-pub refused : (f : Poly) (x : List ℕ) → 256 < length f → Forms (tested standard f) OverTerms x
+pub over-terms-refused : (f : Poly) (x : List ℕ) → 256 < length f → Forms (tested standard f) OverTerms x
 unfolding tested over
-refused f x many = go (ltb 256 (length f)) (ltb-false 256 (length f))
+over-terms-refused f x many = go (ltb 256 (length f)) (ltb-false 256 (length f))
   where
     go : (b : Bool) → (b ≡ false → length f ≤ 256) → Forms (elim b [ true ↦ terms-passed | false ↦ within f ]) OverTerms x
     go true h = refl

@@ -7,7 +7,7 @@ use mathlib.Core.Logic.{⊎-elim, inl, inr}
 use Prim.Native.Nat.{ℕ, _+_, _-_, _*_, _/_, _≤_}
 use lib.ListN.{length}
 use lib.Seq.{length-take-le}
-use Rattle.gathering.proofs.GatherLaws.{Gathering, small, first-asks, first-gathering, none-gathering, no-room, upper-asks, upper-words, lower-asks, again, stopped, gathered}
+use Rattle.gathering.proofs.GatherLaws.{Gathering, product-of-words-small, first-asks, first-gathering, none-gathering, no-room, upper-asks, upper-words, lower-asks, again, stopped, gathered}
 use Rattle.gathering.proofs.gather.Statement.{statement}
 use Rattle.gathering.proofs.gather.Tie as tie
 
@@ -53,14 +53,14 @@ rows-small : (t : Turn) → (t .before .loop .i - 4) / 2 * g t ≤ 262144
 rows-small t =
     let s = entry t in
     let l = t .before .loop in
-    small ((l .i - 4) / 2) (g t) (omega (arith, l .inv .inside, s .pre .1 .0 .0 .few)) (s .pre .1 .1 .0 .0 .few)
+    product-of-words-small ((l .i - 4) / 2) (g t) (omega (arith, l .inv .inside, s .pre .1 .0 .0 .few)) (s .pre .1 .1 .0 .0 .few)
 
 words-small : (t : Turn) → t .before .loop .n + 2 * g t ≤ 263680
 words-small t =
     let s = entry t in
     let l = t .before .loop in
     let few = s .pre .1 .1 .0 .0 .few in
-    let all = small (l .i / 2) (g t) (omega (arith, l .inv .inside, s .pre .1 .0 .0 .few)) few in
+    let all = product-of-words-small (l .i / 2) (g t) (omega (arith, l .inv .inside, s .pre .1 .0 .0 .few)) few in
     omega (arith, all, few, l .inv .few)
 
 -- The upper row brings at most the words of g.

@@ -11,7 +11,7 @@ use lib.Dec.{T, eqb, leb, eqb→eq, eqb-refl, leb→le, nleb→lt}
 use lib.ListN.{getD, set}
 use Rattle.residues.specs.Field.{CommRing, cast}
 use Rattle.residues.specs.laws.Ring.{ring-laws, add-nil, nil-add, add-left-comm, mul-nil, add-neg}
-use Rattle.residues.specs.laws.Residues.{Residues, char}
+use Rattle.residues.specs.laws.Residues.{Residues, cast-modulus}
 use Rattle.polynomials.specs.Poly.{Exponents, Poly, order, join, product}
 use Rattle.polynomials.specs.Canonical.{Canonical, All}
 use Rattle.polynomials.specs.Division.{degree, coefficient, without, pure-power, shift, factor, round, remainder}
@@ -175,7 +175,7 @@ module _ (p : ℕ) (h : 1 ≤ p) (k : ℕ) where
     I = coefficient k d G
 
     top-left : weigh 𝓕 w (product p I R) ≡ weigh 𝓕 (λ a. weigh 𝓕 (λ c. w (join a (join (pure-power k e) c))) L) I
-    top-left = weigh-product 𝓕 p (char p h) w I R ∙ weigh-agree 𝓕 (λ a. getD a k 0 ≡ 0) _ _ I (all-coefficient k d G) inner
+    top-left = weigh-product 𝓕 p (cast-modulus p h) w I R ∙ weigh-agree 𝓕 (λ a. getD a k 0 ≡ 0) _ _ I (all-coefficient k d G) inner
       where
         inner : (a : Exponents) → getD a k 0 ≡ 0 → weigh 𝓕 (λ b. w (join a b)) R ≡ weigh 𝓕 (λ c. w (join a (join (pure-power k e) c))) L
         inner a z =
@@ -186,7 +186,7 @@ module _ (p : ℕ) (h : 1 ≤ p) (k : ℕ) where
 
     top-right : weigh 𝓕 w (product p (shift k (e - d) L) G) ≡ weigh 𝓕 (λ c. weigh 𝓕 (λ a. w (join a (join (pure-power k e) c))) I) L
     top-right =
-        weigh-product 𝓕 p (char p h) w (shift k (e - d) L) G ∙ weigh-shift 𝓕 (λ a. weigh 𝓕 (λ b. w (join a b)) G) k (e - d) L
+        weigh-product 𝓕 p (cast-modulus p h) w (shift k (e - d) L) G ∙ weigh-shift 𝓕 (λ a. weigh 𝓕 (λ b. w (join a b)) G) k (e - d) L
         ∙ weigh-agree 𝓕 (λ a. getD a k 0 ≡ 0) _ _ L (all-coefficient k e R) inner
       where
         same-place : (c a : Exponents) → join (join (pure-power k (e - d)) c) (join (pure-power k d) a) ≡ join a (join (pure-power k e) c)
@@ -209,7 +209,7 @@ module _ (p : ℕ) (h : 1 ≤ p) (k : ℕ) where
   round-lowers d G R 1≤d dG dR =
       low-degree (degree k R) (round p k d G R) (omega arith)
       (low (degree k R) (round p k d G R) (canonical-difference p _ _ h (canonical-product p _ R h))
-      (λ w u. weigh-difference 𝓕 p (char p h) h w _ _ ∙ ap (λ y. y ⊕ ⊖ weigh 𝓕 w (product p (factor k d R) G)) (top-cancels d (degree k R) 1≤d dR G R dG (le-refl (degree k R)) w u) ∙ add-neg 𝓕 _))
+      (λ w u. weigh-difference 𝓕 p (cast-modulus p h) h w _ _ ∙ ap (λ y. y ⊕ ⊖ weigh 𝓕 w (product p (factor k d R) G)) (top-cancels d (degree k R) 1≤d dR G R dG (le-refl (degree k R)) w u) ∙ add-neg 𝓕 _))
 
   -- With as many rounds allowed as the degree, and one more, the remainder is below d.
   pub remainder-low : (d : ℕ) (G : Poly) → 1 ≤ d → degree k G ≤ d → (n : ℕ) (R : Poly) → degree k R < n → degree k (remainder p k d G n R) < d

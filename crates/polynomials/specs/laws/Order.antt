@@ -17,8 +17,8 @@ Says Ordering·lt m n = m < n
 Says Ordering·eq m n = m ≡ n
 Says Ordering·gt m n = n < m
 
-pub says : (m n : ℕ) → Says (compare m n) m n
-says m n = go (compare m n) refl
+pub compare-says : (m n : ℕ) → Says (compare m n) m n
+compare-says m n = go (compare m n) refl
   where
     le : (o : Ordering) → compare m n ≡ o → T (isLe o) → m ≤ n
     le o e t = leb→le m n (subst (λ o. T (isLe o)) (sym e) t)
@@ -44,7 +44,7 @@ says-only m n Ordering·gt Ordering·eq h k = absurd (omega arith)
 says-only m n Ordering·gt Ordering·gt h k = refl
 
 pub compare-is : (m n : ℕ) (o : Ordering) → Says o m n → compare m n ≡ o
-compare-is m n o h = says-only m n (compare m n) o (says m n) h
+compare-is m n o h = says-only m n (compare m n) o (compare-says m n) h
 
 pub then-eq : (o c : Ordering) → andThen o c ≡ Ordering·eq → (o ≡ Ordering·eq) × (c ≡ Ordering·eq)
 then-eq Ordering·lt c e = (e, cc)
@@ -58,7 +58,7 @@ order-eq [] (y ∷ ys) e = cc
 order-eq (x ∷ xs) [] e = cc
 order-eq (x ∷ xs) (y ∷ ys) e =
     let h = then-eq (order xs ys) (compare x y) e in
-    ap₂ _∷_ (subst (λ o. Says o x y) (h .1) (says x y)) (order-eq xs ys (h .0))
+    ap₂ _∷_ (subst (λ o. Says o x y) (h .1) (compare-says x y)) (order-eq xs ys (h .0))
 
 pub order-refl : (a : Exponents) → order a a ≡ Ordering·eq
 unfolding order
@@ -85,7 +85,7 @@ unfolding order
 order-flip [] [] = refl
 order-flip [] (y ∷ b) = refl
 order-flip (x ∷ a) [] = refl
-order-flip (x ∷ a) (y ∷ b) = ap₂ andThen (order-flip a b) (compare-is y x (flip (compare x y)) (says-flip x y (compare x y) (says x y))) ∙ then-flip (order a b) (compare x y)
+order-flip (x ∷ a) (y ∷ b) = ap₂ andThen (order-flip a b) (compare-is y x (flip (compare x y)) (says-flip x y (compare x y) (compare-says x y))) ∙ then-flip (order a b) (compare x y)
 
 pub then-lt : (o c : Ordering) → andThen o c ≡ Ordering·lt → (o ≡ Ordering·lt) ⊎ ((o ≡ Ordering·eq) × (c ≡ Ordering·lt))
 then-lt Ordering·lt c e = inl refl
@@ -93,7 +93,7 @@ then-lt Ordering·eq c e = inr (refl, e)
 then-lt Ordering·gt c e = inl e
 
 compare-lt : (m n : ℕ) → compare m n ≡ Ordering·lt → m < n
-compare-lt m n e = subst (λ o. Says o m n) e (says m n)
+compare-lt m n e = subst (λ o. Says o m n) e (compare-says m n)
 
 pub order-trans : (a b c : Exponents) → order a b ≡ Ordering·lt → order b c ≡ Ordering·lt → order a c ≡ Ordering·lt
 unfolding order
@@ -136,7 +136,7 @@ join-assoc (x ∷ a) (y ∷ b) (z ∷ c) = ap₂ _∷_ (add-assoc x y z) (join-a
 
 -- A common factor keeps the order.
 compare-plus : (x a b : ℕ) → compare (x + a) (x + b) ≡ compare a b
-compare-plus x a b = compare-is (x + a) (x + b) (compare a b) (moved (compare a b) (says a b))
+compare-plus x a b = compare-is (x + a) (x + b) (compare a b) (moved (compare a b) (compare-says a b))
   where
     moved : (o : Ordering) → Says o a b → Says o (x + a) (x + b)
     moved Ordering·lt h = omega arith

@@ -9,7 +9,7 @@ use lib.ListN.{length, getD}
 use Rattle.residues.specs.Each.{Each}
 use Rattle.polynomials.specs.Poly.{Exponents, order, join, andThen}
 use Rattle.polynomials.specs.Packed.{bytes, exponents, Fits, word}
-use Rattle.polynomials.specs.laws.Order.{Says, says, compare-is}
+use Rattle.polynomials.specs.laws.Order.{Says, compare-says, compare-is}
 
 -- One byte more decides where the higher ones agree.
 says-bytes : (w v : ℕ) (o o′ : Ordering) → Says o (w / 256) (v / 256) → Says o′ (w % 256) (v % 256) → Says (andThen o o′) w v
@@ -29,7 +29,7 @@ unfolding order bytes
 order-bytes zero w v h k = sym (compare-is w v Ordering·eq (omega arith))
 order-bytes (suc n) w v h k =
     ap (λ o. andThen o (compare (w % 256) (v % 256))) (order-bytes n (w / 256) (v / 256) (fewer-bytes n w h) (fewer-bytes n v k))
-    ∙ sym (compare-is w v _ (says-bytes w v (compare (w / 256) (v / 256)) (compare (w % 256) (v % 256)) (says (w / 256) (v / 256)) (says (w % 256) (v % 256))))
+    ∙ sym (compare-is w v _ (says-bytes w v (compare (w / 256) (v / 256)) (compare (w % 256) (v % 256)) (compare-says (w / 256) (v / 256)) (compare-says (w % 256) (v % 256))))
 
 -- Then the sum of the numbers has the sums of the bytes.
 pub join-bytes : (n w v : ℕ) → Fits n w v → bytes n (w + v) ≡ join (bytes n w) (bytes n v)

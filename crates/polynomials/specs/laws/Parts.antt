@@ -16,7 +16,7 @@ use Rattle.polynomials.specs.Poly.{Exponents, Term, Poly, order, join}
 use Rattle.polynomials.specs.Canonical.{Under, Canonical, All}
 use Rattle.polynomials.specs.Division.{degree, degrees, highest, leader, coefficient, without, initial, rest, pure-power, shift}
 use Rattle.polynomials.specs.laws.All.{all-map, coefficient-all, without-all}
-use Rattle.polynomials.specs.laws.Order.{Says, says, then-lt, order-eq, order-refl}
+use Rattle.polynomials.specs.laws.Order.{Says, compare-says, then-lt, order-eq, order-refl}
 use Rattle.polynomials.specs.laws.Canonical.{canonical-coefficient, canonical-without}
 use Rattle.polynomials.specs.laws.Degree.{all-degree, degree-at-most, degree-without}
 use Rattle.polynomials.specs.laws.Bounds.{at-degrees}
@@ -103,7 +103,7 @@ order-at zero (x ∷ a) (y ∷ b) h q o = go (then-lt (order a b) (compare x y) 
 
     go : (order a b ≡ Ordering·lt) ⊎ ((order a b ≡ Ordering·eq) × (compare x y ≡ Ordering·lt)) → x ≤ y
     go (inl l) = let e : order a b ≡ Ordering·eq = subst (λ s. order a s ≡ Ordering·eq) same (order-refl a) in let z : _≡_ {A = ℕ} 0 1 = cc in absurd (omega arith)
-    go (inr e) = let l : x < y = subst (λ o. Says o x y) (e .1) (says x y) in omega arith
+    go (inr e) = let l : x < y = subst (λ o. Says o x y) (e .1) (compare-says x y) in omega arith
 order-at (suc k) (x ∷ a) (y ∷ b) h q o = go (order-at k a b (omega arith) (λ j l. q (suc j) (omega arith))) (then-lt (order a b) (compare x y) o)
   where
     go : (order a b ≡ Ordering·lt → getD a k 0 ≤ getD b k 0) →

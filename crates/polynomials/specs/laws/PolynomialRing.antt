@@ -9,7 +9,7 @@ use native.Mathlib.Decide.{map-dec, ℕ-discrete}
 use lib.Dec.{leb}
 use Rattle.residues.specs.Field.{CommRing}
 use Rattle.residues.specs.laws.Ring.{cast-one, add-nil, nil-add, mul-one, one-mul, add-neg}
-use Rattle.residues.specs.laws.Residues.{Residues, char}
+use Rattle.residues.specs.laws.Residues.{Residues, cast-modulus}
 use Rattle.polynomials.specs.Poly.{Exponents, Poly, order, join, sum, difference, product}
 use Rattle.polynomials.specs.Canonical.{Canonical, Under}
 use Rattle.polynomials.specs.Division.{constant-one, power, coefficient, round, remainder, rounds, multiple, degree}
@@ -60,7 +60,7 @@ module _ (p : ℕ) (h : 1 ≤ p) where
 
   pub weigh-canon : (w : Exponents → Fin p) (f : Poly) → weigh 𝓕 w (canon f .0) ≡ weigh 𝓕 w f
   unfolding weigh
-  weigh-canon w f = weigh-sum 𝓕 p (char p h) w f [] ∙ add-nil 𝓕 (weigh 𝓕 w f)
+  weigh-canon w f = weigh-sum 𝓕 p (cast-modulus p h) w f [] ∙ add-nil 𝓕 (weigh 𝓕 w f)
 
   -- Equal where all weighings are.
   pub same : (f g : Canon) → ((w : Exponents → Fin p) → weigh 𝓕 w (f .0) ≡ weigh 𝓕 w (g .0)) → f ≡ g
@@ -71,7 +71,7 @@ module _ (p : ℕ) (h : 1 ≤ p) where
 
   pub zero-difference : (w : Exponents → Fin p) (f : Poly) → weigh 𝓕 w (difference p [] f) ≡ 𝓕 .neg (weigh 𝓕 w f)
   unfolding weigh
-  zero-difference w f = weigh-difference 𝓕 p (char p h) h w [] f ∙ nil-add 𝓕 (𝓕 .neg (weigh 𝓕 w f))
+  zero-difference w f = weigh-difference 𝓕 p (cast-modulus p h) h w [] f ∙ nil-add 𝓕 (𝓕 .neg (weigh 𝓕 w f))
 
   pub weigh-one : (w : Exponents → Fin p) → weigh 𝓕 w constant-one ≡ w []
   unfolding weigh constant-one
@@ -87,7 +87,7 @@ module _ (p : ℕ) (h : 1 ≤ p) where
     W f = weigh 𝓕 w f
 
     abbrev S : (f g : Poly) → W (sum p f g) ≡ W f ⊕ W g
-    S f g = weigh-sum 𝓕 p (char p h) w f g
+    S f g = weigh-sum 𝓕 p (cast-modulus p h) w f g
 
     pub w-sum-assoc : (f g k : Poly) → W (sum p (sum p f g) k) ≡ W (sum p f (sum p g k))
     w-sum-assoc f g k = S (sum p f g) k ∙ ap (λ z. z ⊕ W k) (S f g) ∙ 𝓕 .add-assoc (W f) (W g) (W k) ∙ ap (λ z. W f ⊕ z) (sym (S g k)) ∙ sym (S f (sum p g k))
@@ -105,33 +105,33 @@ module _ (p : ℕ) (h : 1 ≤ p) where
 
     pub w-product-comm : (f g : Poly) → W (product p f g) ≡ W (product p g f)
     w-product-comm f g =
-        weigh-product 𝓕 p (char p h) w f g ∙ weigh-swap 𝓕 (λ a b. w (join a b)) f g
-        ∙ ap (λ u. weigh 𝓕 u g) (fun-ext (λ b. ap (λ u. weigh 𝓕 u f) (fun-ext (λ a. ap w (join-comm a b))))) ∙ sym (weigh-product 𝓕 p (char p h) w g f)
+        weigh-product 𝓕 p (cast-modulus p h) w f g ∙ weigh-swap 𝓕 (λ a b. w (join a b)) f g
+        ∙ ap (λ u. weigh 𝓕 u g) (fun-ext (λ b. ap (λ u. weigh 𝓕 u f) (fun-ext (λ a. ap w (join-comm a b))))) ∙ sym (weigh-product 𝓕 p (cast-modulus p h) w g f)
 
     pub w-product-assoc : (f g k : Poly) → W (product p (product p f g) k) ≡ W (product p f (product p g k))
     w-product-assoc f g k =
-        weigh-product 𝓕 p (char p h) w (product p f g) k ∙ weigh-product 𝓕 p (char p h) (λ a. weigh 𝓕 (λ b. w (join a b)) k) f g
+        weigh-product 𝓕 p (cast-modulus p h) w (product p f g) k ∙ weigh-product 𝓕 p (cast-modulus p h) (λ a. weigh 𝓕 (λ b. w (join a b)) k) f g
         ∙ ap (λ u. weigh 𝓕 u f) (fun-ext (λ a. ap (λ u. weigh 𝓕 u g) (fun-ext (λ b. ap (λ u. weigh 𝓕 u k) (fun-ext (λ c. ap w (join-assoc a b c)))))
-        ∙ sym (weigh-product 𝓕 p (char p h) (λ m. w (join a m)) g k)))
-        ∙ sym (weigh-product 𝓕 p (char p h) w f (product p g k))
+        ∙ sym (weigh-product 𝓕 p (cast-modulus p h) (λ m. w (join a m)) g k)))
+        ∙ sym (weigh-product 𝓕 p (cast-modulus p h) w f (product p g k))
 
     pub w-product-one : (f : Poly) → W (product p f (canon constant-one .0)) ≡ W f
-    w-product-one f = weigh-product 𝓕 p (char p h) w f (canon constant-one .0)
+    w-product-one f = weigh-product 𝓕 p (cast-modulus p h) w f (canon constant-one .0)
         ∙ ap (λ u. weigh 𝓕 u f) (fun-ext (λ a. weigh-canon (λ b. w (join a b)) constant-one ∙ weigh-one (λ b. w (join a b)) ∙ ap w (join-nil a)))
 
     pub w-product-sum : (f g k : Poly) → W (product p f (sum p g k)) ≡ W (sum p (product p f g) (product p f k))
     w-product-sum f g k =
-        weigh-product 𝓕 p (char p h) w f (sum p g k) ∙ ap (λ u. weigh 𝓕 u f) (fun-ext (λ a. weigh-sum 𝓕 p (char p h) (λ b. w (join a b)) g k))
+        weigh-product 𝓕 p (cast-modulus p h) w f (sum p g k) ∙ ap (λ u. weigh 𝓕 u f) (fun-ext (λ a. weigh-sum 𝓕 p (cast-modulus p h) (λ b. w (join a b)) g k))
         ∙ weigh-add 𝓕 (λ a. weigh 𝓕 (λ b. w (join a b)) g) (λ a. weigh 𝓕 (λ b. w (join a b)) k) f
-        ∙ ap₂ _⊕_ (sym (weigh-product 𝓕 p (char p h) w f g)) (sym (weigh-product 𝓕 p (char p h) w f k)) ∙ sym (S (product p f g) (product p f k))
+        ∙ ap₂ _⊕_ (sym (weigh-product 𝓕 p (cast-modulus p h) w f g)) (sym (weigh-product 𝓕 p (cast-modulus p h) w f k)) ∙ sym (S (product p f g) (product p f k))
 
   -- canonical parts may be put in or left out under an operation
   pub w-sum-canon : (w : Exponents → Fin p) (f g : Poly) → weigh 𝓕 w (sum p (canon f .0) (canon g .0)) ≡ weigh 𝓕 w (sum p f g)
-  w-sum-canon w f g = weigh-sum 𝓕 p (char p h) w _ _ ∙ ap₂ (𝓕 .add) (weigh-canon w f) (weigh-canon w g) ∙ sym (weigh-sum 𝓕 p (char p h) w f g)
+  w-sum-canon w f g = weigh-sum 𝓕 p (cast-modulus p h) w _ _ ∙ ap₂ (𝓕 .add) (weigh-canon w f) (weigh-canon w g) ∙ sym (weigh-sum 𝓕 p (cast-modulus p h) w f g)
 
   pub w-product-canon : (w : Exponents → Fin p) (f g : Poly) → weigh 𝓕 w (product p (canon f .0) (canon g .0)) ≡ weigh 𝓕 w (product p f g)
   w-product-canon w f g =
-      weigh-product 𝓕 p (char p h) w _ _ ∙ ap (λ u. weigh 𝓕 u (canon f .0)) (fun-ext (λ a. weigh-canon (λ b. w (join a b)) g)) ∙ weigh-canon _ f ∙ sym (weigh-product 𝓕 p (char p h) w f g)
+      weigh-product 𝓕 p (cast-modulus p h) w _ _ ∙ ap (λ u. weigh 𝓕 u (canon f .0)) (fun-ext (λ a. weigh-canon (λ b. w (join a b)) g)) ∙ weigh-canon _ f ∙ sym (weigh-product 𝓕 p (cast-modulus p h) w f g)
 
   unfoldable pub Polynomials : CommRing Canon
   Polynomials = record {
@@ -157,8 +157,8 @@ module _ (p : ℕ) (h : 1 ≤ p) where
     of-nil = same _ _ (λ w. weigh-canon w []);
     of-one = refl;
     of-sum = λ f g. same _ _ (λ w. weigh-canon w (sum p f g) ∙ sym (w-sum-canon w f g));
-    of-difference = λ f g. same _ _ (λ w. weigh-canon w (difference p f g) ∙ weigh-difference 𝓕 p (char p h) h w f g
-        ∙ sym (weigh-sum 𝓕 p (char p h) w _ _ ∙ ap₂ (𝓕 .add) (weigh-canon w f) (zero-difference w _ ∙ ap (𝓕 .neg) (weigh-canon w g))));
+    of-difference = λ f g. same _ _ (λ w. weigh-canon w (difference p f g) ∙ weigh-difference 𝓕 p (cast-modulus p h) h w f g
+        ∙ sym (weigh-sum 𝓕 p (cast-modulus p h) w _ _ ∙ ap₂ (𝓕 .add) (weigh-canon w f) (zero-difference w _ ∙ ap (𝓕 .neg) (weigh-canon w g))));
     of-product = λ f g. same _ _ (λ w. weigh-canon w (product p f g) ∙ sym (w-product-canon w f g));
   }
 

@@ -3,7 +3,7 @@ use mathlib.Core.Path.{sym}
 use native.Mathlib.Omega.{arith}
 use borrow.Author.Needs.{needs}
 use lib.Seq.{length-take-le}
-use Rattle.products.proofs.ProductLaws.{formed, words-ended, over-terms-ended, words-formed, copy-asks, copied}
+use Rattle.products.proofs.ProductLaws.{within-terms-formed, words-ended, over-terms-ended, words-formed, copy-asks, copied}
 use Rattle.products.proofs.gather_apart.Statement.{statement}
 use Rattle.products.proofs.gather_apart.Tie as tie
 
@@ -64,7 +64,7 @@ returns : tie.Need-returns
 returns c =
     let e = c .before .before .before .before .before .before in
     let w = words-formed _ _ _ (words-ended _ _ _ _ _ _ (gathered e .gather .ensures) (e .ended .given .1)) in
-    formed _ _ _ (copied _ _ _ _ w (entry (gathered e) .pre .1 .1 .1) _ (c .before .before .copy .ensures)) (w .1)
+    within-terms-formed _ _ _ (copied _ _ _ _ w (entry (gathered e) .pre .1 .1 .1) _ (c .before .before .copy .ensures)) (w .1)
 
 returns-2 : tie.Need-returns-2
 returns-2 c = over-terms-ended _ _ _ _ _ _ (c .before .before .before .before .gather .ensures) (c .enum-told .given .1)

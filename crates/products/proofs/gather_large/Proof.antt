@@ -4,7 +4,7 @@ use Prim.Native.Nat.{ℕ, _≤_}
 use lib.ListN.{length, replicate, length-replicate}
 use native.Mathlib.Omega.{arith}
 use lib.Seq.{length-take-le}
-use Rattle.products.proofs.ProductLaws.{buffers-suffice, never-short, formed, words-ended, over-terms-ended, words-formed, copy-asks, copied}
+use Rattle.products.proofs.ProductLaws.{buffers-suffice, never-short, within-terms-formed, words-ended, over-terms-ended, words-formed, copy-asks, copied}
 use Rattle.products.proofs.gather_large.Statement.{statement}
 use Rattle.products.proofs.gather_large.Tie as tie
 
@@ -66,7 +66,7 @@ returns : tie.Need-returns
 returns c =
     let e = c .before .before .before .before .before .before in
     let w = words-formed _ _ _ (words-ended _ _ _ _ _ _ (gathered e .gather .ensures) (e .ended .given .1)) in
-    formed _ _ _ (copied _ _ _ _ w (entry (gathered e) .pre .1 .1 .1) _ (c .before .before .copy .ensures)) (w .1)
+    within-terms-formed _ _ _ (copied _ _ _ _ w (entry (gathered e) .pre .1 .1 .1) _ (c .before .before .copy .ensures)) (w .1)
 
 returns-2 : tie.Need-returns-2
 returns-2 c = over-terms-ended _ _ _ _ _ _ (c .before .before .before .before .gather .ensures) (c .enum-told .given .1)

@@ -6,7 +6,7 @@ use native.Mathlib.Nat.{mod-lt, mod-eq-of-lt, mul-one, div-le-self, sub-le}
 use native.Mathlib.Omega.{arith}
 use borrow.Author.Needs.{needs}
 use Rattle.residues.specs.Residue.{inverse}
-use Rattle.residues.specs.laws.Inverse.{inverse-ok, inverse-lt, inverse-unique, kept}
+use Rattle.residues.specs.laws.Inverse.{inverse-ok, inverse-lt, inverse-unique, inverse-step}
 use Rattle.residues.specs.laws.Width.{product-fits}
 use Rattle.residues.proofs.invert.Statement.{statement}
 use Rattle.residues.proofs.invert.Tie as tie
@@ -47,7 +47,7 @@ loop-again c =
     let inv = c .before .loop .inv in
     let r≢ : p % x ≢ 0 = c .before .before .pre .0 .no-divisor x (omega arith) (inv .1) in
     let r< : p % x < x = mod-lt p (inv .0) in
-    (omega arith, omega arith, mod-lt _ (omega arith), kept p (c .before .before .args .a) x (c .before .loop .t) (inv .0) (inv .1) (inv .3))
+    (omega arith, omega arith, mod-lt _ (omega arith), inverse-step p (c .before .before .args .a) x (c .before .loop .t) (inv .0) (inv .1) (inv .3))
 
 returns : tie.Need-returns Inv-loop μ-loop
 returns c =

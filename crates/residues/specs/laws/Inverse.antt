@@ -33,8 +33,8 @@ step-residue p a h l =
         omega arith
 
 -- the invariant b * t ≡ a, one step on
-pub kept : (p b a t : ℕ) → 1 ≤ a → a < p → (b * t) % p ≡ a → (b * (t * (p - p / a) % p)) % p ≡ p % a
-kept p b a t h l e =
+pub inverse-step : (p b a t : ℕ) → 1 ≤ a → a < p → (b * t) % p ≡ a → (b * (t * (p - p / a) % p)) % p ≡ p % a
+inverse-step p b a t h l e =
     mul-mod-r b (t * (p - p / a)) p ∙ ap (λ z. z % p) (sym (mul-assoc b t (p - p / a))) ∙ sym (mul-mod-l (b * t) (p - p / a) p)
     ∙ ap (λ z. (z * (p - p / a)) % p) e ∙ step-residue p a h l
 
@@ -50,7 +50,7 @@ inverse-from-ok p b P (suc k) a t h l f e = go (inverse-from-ok p b P k (p % a) 
         let a2 : 2 ≤ a = u tt in
         let r≢ : p % a ≢ 0 = P .no-divisor a a2 l in
         let r< : p % a < a = mod-lt p h in
-        ih (omega arith) (omega arith) (omega arith) (kept p b a t h l e)
+        ih (omega arith) (omega arith) (omega arith) (inverse-step p b a t h l e)
     go ih false u v = e ∙ omega (arith, v tt)
 
 pub inverse-ok : (p b : ℕ) → Prime p → 1 ≤ b → b < p → (b * inverse p b) % p ≡ 1

@@ -48,9 +48,9 @@ module _ (p : ℕ) (h : 1 ≤ p) where
   unfolding Residues
   nil-is = zero-mod p
 
-  pub char : cast Residues p ≡ Residues .nil
+  pub cast-modulus : cast Residues p ≡ Residues .nil
   unfolding Residues
-  char = cast-residue p ∙ Fin·val-path (mod-self p ∙ sym (zero-mod p))
+  cast-modulus = cast-residue p ∙ Fin·val-path (mod-self p ∙ sym (zero-mod p))
 
 -- A residue times its inverse is one.
 pub prime-field-inverse : (p : ℕ) (P : Prime p) (h : 1 ≤ p) (a : Fin p) → a ≢ residue p h 0 → Residues p h .mul a (residue p h (inverse p (a .0))) ≡ residue p h 1
@@ -81,7 +81,7 @@ PrimeField p P = record {
 -- It contains itself: p times 1 is 0.
 pub char-prime : (p : ℕ) (P : Prime p) → Contains (PrimeField p P) p
 unfolding PrimeField
-char-prime p P = char p (one≤ P)
+char-prime p P = cast-modulus p (one≤ P)
 
 -- ── the numbers of `Residue` are those of the ring and of the field ──
 module _ (p : ℕ) (h : 1 ≤ p) (a b : Fin p) where

@@ -14,7 +14,7 @@ use Rattle.rules.specs.Branch.{Branch}
 use Rattle.rules.specs.Room.{Limits, State}
 use Rattle.rules.specs.Run.{finished, first-branch, run-of}
 use Rattle.rules.specs.Solutions.{NonZero, Solves-system, NonZero-initial, Proper}
-use Rattle.rules.specs.laws.Lists.{each-remove}
+use Rattle.rules.specs.laws.Lists.{each-apart}
 use Rattle.rules.specs.laws.Taken.{after-close, Taken, by-drop, by-list, by-split, by-divide, by-close}
 use Rattle.rules.specs.laws.Runs.{run-of-keeps}
 use Rattle.rules.specs.laws.Kept.{Of-branch, Of-state, pivot-variable, taken-keeps, first-keeps, canonical-by, canonical-closed}
@@ -42,7 +42,7 @@ module _ {ℓ} {K : Type ℓ} (F : Field K) (x : List K) (l : Limits) (t : Input
       let both = split-both F x l p (proper .prime) char k f b c (v .stands) in
       (((λ o. h (both .1 (inl o))), ((λ o. h (both .1 (inr o))), w)), u)
   step-initials b waiting listed s (by-divide k f g r v y a n o e) c h w u =
-      let canonical-r = canonical-by l p (one≤ (proper .prime)) k (f .poly) (g .poly) r (each-remove (Canonical p) (g .place) (g .poly) (b .P) a .0 (c .0) .0) e in
+      let canonical-r = canonical-by l p (one≤ (proper .prime)) k (f .poly) (g .poly) r (each-apart (Canonical p) (g .place) (g .poly) (b .P) a .0 (c .0) .0) e in
       (((λ o. h (divide-same F x l p (proper .prime) char k f g r b canonical-r (v .stands) y a n e .1 o)), w), u)
   step-initials b waiting listed s (by-close k f Q v y o e) c h w u = ((closes, w), u)
     where

@@ -16,7 +16,7 @@ use Rattle.rules.specs.Branch.{Branch, put-P, put-Q, Chosen}
 use Rattle.rules.specs.Room.{Limits, State}
 use Rattle.rules.specs.Step.{remainder-by}
 use Rattle.rules.specs.Run.{finished, first-branch, run-of, first-state}
-use Rattle.rules.specs.laws.Lists.{each-remove}
+use Rattle.rules.specs.laws.Lists.{each-apart}
 use Rattle.rules.specs.laws.Put.{put-P-keeps, put-Q-keeps, put-all-keeps}
 use Rattle.rules.specs.laws.Taken.{Pivot, Replaced, remainder-by-is, Taken, by-drop, by-list, by-split, by-divide, by-close}
 use Rattle.rules.specs.laws.Runs.{run-of-keeps}
@@ -60,17 +60,17 @@ module _ (l : Limits) (p : ℕ) (G : Poly → Type 0) (C : Closed l p G) where
   taken-keeps b waiting listed s (by-list q) h = (h .0 .1, each-append (Of-system G) listed _ .1 (h .1, ((h .0 .0 .2, h .0 .0 .1), tt)))
   taken-keeps b waiting listed s (by-split k f v) h =
       let here = h .0 .0 in
-      let r = each-remove G (f .place) (f .poly) (b .P) (v .stands) .0 (here .0) in
+      let r = each-apart G (f .place) (f .poly) (b .P) (v .stands) .0 (here .0) in
       let i = C .of-initial k (f .poly) (r .0) in
       (((here .0, put-Q-closed _ (b .Q) i (here .1), here .2), ((put-P-closed _ _ (C .of-rest k (f .poly) (r .0)) (put-P-closed _ _ i (r .1)), here .1, here .2), h .0 .1)), h .1)
   taken-keeps b waiting listed s (by-divide k f g r v y a n o e) h =
       let here = h .0 .0 in
-      let rf = each-remove G (f .place) (f .poly) (b .P) (v .stands) .0 (here .0) in
-      let rg = each-remove G (g .place) (g .poly) (b .P) a .0 (here .0) in
+      let rf = each-apart G (f .place) (f .poly) (b .P) (v .stands) .0 (here .0) in
+      let rg = each-apart G (g .place) (g .poly) (b .P) a .0 (here .0) in
       (((put-P-closed r _ (C .of-remainder k (f .poly) (g .poly) r (pivot-variable k f b v) (rf .0) (rg .0) e) (rg .1), here .1, here .2), h .0 .1), h .1)
   taken-keeps b waiting listed s (by-close k f Q v y o e) h =
       let here = h .0 .0 in
-      let r = each-remove G (f .place) (f .poly) (b .P) (v .stands) .0 (here .0) in
+      let r = each-apart G (f .place) (f .poly) (b .P) (v .stands) .0 (here .0) in
       (((r .1, replaced-keeps k (f .poly) (pivot-variable k f b v) (r .0) (b .Q) [] Q e (here .1) tt, (r .0, here .2)), h .0 .1), h .1)
 
 module _ (l : Limits) (t : Input) (G : Poly → Type 0) (C : Closed l (t .modulus) G) (P : Each G (t .P)) (Q : Each G (t .Q)) where

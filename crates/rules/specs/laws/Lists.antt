@@ -30,12 +30,12 @@ At (suc i) f (g ∷ fs) = At i f fs
 
 module _ {ℓ} (P : Poly → Type ℓ) where
   -- The member at place i apart.
-  pub each-remove : (i : ℕ) (f : Poly) (fs : List Poly) → At i f fs → Each P fs ↔ (P f × Each P (remove i fs))
+  pub each-apart : (i : ℕ) (f : Poly) (fs : List Poly) → At i f fs → Each P fs ↔ (P f × Each P (remove i fs))
   unfolding remove
-  each-remove i f [] a = absurd a
-  each-remove zero f (g ∷ fs) a = ((λ e. (subst P (sym a) (e .0), e .1)), (λ e. (subst P a (e .0), e .1)))
-  each-remove (suc i) f (g ∷ fs) a =
-      let ih = each-remove i f fs a in
+  each-apart i f [] a = absurd a
+  each-apart zero f (g ∷ fs) a = ((λ e. (subst P (sym a) (e .0), e .1)), (λ e. (subst P a (e .0), e .1)))
+  each-apart (suc i) f (g ∷ fs) a =
+      let ih = each-apart i f fs a in
       ((λ e. (ih .0 (e .1) .0, (e .0, ih .0 (e .1) .1))), (λ e. (e .1 .0, ih .1 (e .0, e .1 .1))))
 
   -- The member at place i is among those left when another place is removed.
@@ -44,7 +44,7 @@ module _ {ℓ} (P : Poly → Type ℓ) where
   each-remove-other i j f [] a n e = absurd a
   each-remove-other zero zero f (g ∷ fs) a n e = absurd (n refl)
   each-remove-other zero (suc j) f (g ∷ fs) a n e = subst P (sym a) (e .0)
-  each-remove-other (suc i) zero f (g ∷ fs) a n e = each-remove i f fs a .0 e .0
+  each-remove-other (suc i) zero f (g ∷ fs) a n e = each-apart i f fs a .0 e .0
   each-remove-other (suc i) (suc j) f (g ∷ fs) a n e = each-remove-other i j f fs a (λ q. n (ap-suc q)) (e .1)
     where
       ap-suc : i ≡ j → suc i ≡ suc j

@@ -4,6 +4,7 @@ use mathlib.Core.Logic.{_≢_, _⊎_, inl, inr}
 use mathlib.Core.List.{List, [], _∷_}
 use mathlib.Core.Bool.{Bool, true, false, not, _&&_, _||_, false≢true}
 use Prim.Native.Nat.{ℕ, zero, suc, _-_, _≤_, max}
+use native.Mathlib.Nat.{suc-ne-zero}
 use native.Mathlib.Decide.{ℕ-discrete}
 use native.Mathlib.Omega.{arith}
 use borrow.Author.Tests.{eqb-true, eqb-false, eq-eqb, ne-eqb}
@@ -14,7 +15,7 @@ use Rattle.residues.specs.laws.Each.{each-map}
 use Rattle.polynomials.specs.Poly.{Poly}
 use Rattle.polynomials.specs.Division.{degree, leader}
 use Rattle.rules.specs.Branch.{highest-leader, led-by, Chosen, better, prefer, pivot, remove, Found, none, found, behind, earliest, other}
-use Rattle.rules.specs.laws.Lists.{At, each-remove}
+use Rattle.rules.specs.laws.Lists.{At, each-apart}
 
 -- ── the highest leading variable ──
 pub leaders-at-most : (fs : List Poly) → Each (λ g. leader g ≤ highest-leader fs) fs
@@ -71,7 +72,7 @@ pub pivot-leads : (f : Poly) (fs : List Poly) → leader (pivot (highest-leader 
 pivot-leads f fs = go (highest-leader (f ∷ fs)) refl
   where
     below : (k : ℕ) → leader (pivot k f fs .poly) ≤ highest-leader (f ∷ fs)
-    below k = each-remove (λ g. leader g ≤ highest-leader (f ∷ fs)) (pivot k f fs .place) (pivot k f fs .poly) (f ∷ fs) (pivot-stands k f fs) .0 (leaders-at-most (f ∷ fs)) .0
+    below k = each-apart (λ g. leader g ≤ highest-leader (f ∷ fs)) (pivot k f fs .place) (pivot k f fs .poly) (f ∷ fs) (pivot-stands k f fs) .0 (leaders-at-most (f ∷ fs)) .0
 
     go : (h : ℕ) → highest-leader (f ∷ fs) ≡ h → leader (pivot (h - 1) f fs .poly) ≡ h
     go zero e = omega (arith, below (0 - 1))
@@ -106,9 +107,6 @@ OtherIs k i fs (found c) = At (c .place) (c .poly) fs × (i ≢ c .place) × (le
 zero-not-suc : (i : ℕ) → 0 ≢ suc i
 zero-not-suc i q = omega arith
 
-suc-not-zero : (i : ℕ) → suc i ≢ 0
-suc-not-zero i q = omega arith
-
 suc-differ : (i j : ℕ) → i ≢ j → suc i ≢ suc j
 suc-differ i j n q = n (omega arith)
 
@@ -124,6 +122,6 @@ other-is k (suc i) (f ∷ fs) = go (eqb (leader f) (suc k)) (eqb-true (leader f)
   where
     go : (b : Bool) → (b ≡ true → leader f ≡ suc k) → (b ≡ false → leader f ≢ suc k) → (o : Found) → OtherIs k i fs o →
         OtherIs k (suc i) (f ∷ fs) (elim b [ true ↦ found (record { place = 0; poly = f }) | false ↦ behind o ])
-    go true y n o u = (refl, suc-not-zero i, y refl)
+    go true y n o u = (refl, suc-ne-zero i, y refl)
     go false y n none u = (n refl, u)
     go false y n (found c) u = (u .0, suc-differ i (c .place) (u .1), u .2)

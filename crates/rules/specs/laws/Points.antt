@@ -24,8 +24,8 @@ use Rattle.rules.specs.Room.{Limits, State}
 use Rattle.rules.specs.Step.{split-open, split-aside, divided, remainder-by}
 use Rattle.rules.specs.Run.{finished, first-branch, run-of, first-state}
 use Rattle.rules.specs.Solutions.{Some, Zero, NonZero, Solves-input, Solves-system, Proper}
-use Rattle.rules.specs.laws.Lists.{At, some-append, each-remove, each-remove-other}
-use Rattle.rules.specs.laws.Put.{each-member, one-is-nonzero, some-one-refutes, some-zero-refutes, put-P-zero, put-Q-nonzero, put-all-P-zero, put-all-Q-nonzero}
+use Rattle.rules.specs.laws.Lists.{At, some-append, each-apart, each-remove-other}
+use Rattle.rules.specs.laws.Put.{each-of-member, one-is-nonzero, some-one-refutes, some-zero-refutes, put-P-zero, put-Q-nonzero, put-all-P-zero, put-all-Q-nonzero}
 use Rattle.rules.specs.laws.Taken.{Settled, after-close, Replaced, remainder-by-is, Taken, by-drop, by-list, by-split, by-divide, by-close}
 use Rattle.rules.specs.laws.Runs.{run-of-keeps}
 use Rattle.rules.specs.laws.Kept.{Of-branch, Of-state, taken-keeps, first-keeps, canonical-by, canonical-closed}
@@ -43,7 +43,7 @@ module _ {ℓ} {K : Type ℓ} (F : Field K) (x : List K) where
   initial-nonzero k f b y e =
       elim (or-cases (is-one (initial k (f .poly))) (member (initial k (f .poly)) (b .Q)) y) [
         | inl o ↦ one-is-nonzero F x (initial k (f .poly)) o
-        | inr m ↦ each-member (NonZero F x) (initial k (f .poly)) (b .Q) m e
+        | inr m ↦ each-of-member (NonZero F x) (initial k (f .poly)) (b .Q) m e
       ]
 
   module _ (l : Limits) (p : ℕ) (prime : Prime p) (char : Contains F p) where
@@ -94,10 +94,10 @@ module _ {ℓ} {K : Type ℓ} (F : Field K) (x : List K) where
         d = degree k G
 
         cG : Canonical p G
-        cG = each-remove (Canonical p) (f .place) G (b .P) a .0 (c .0) .0
+        cG = each-apart (Canonical p) (f .place) G (b .P) a .0 (c .0) .0
 
         apart : Each (Zero F x) (b .P) ↔ (Zero F x G × Each (Zero F x) (remove (f .place) (b .P)))
-        apart = each-remove (Zero F x) (f .place) G (b .P) a
+        apart = each-apart (Zero F x) (f .place) G (b .P) a
 
         put-initial : Each (Zero F x) (put-P p (initial k G) (remove (f .place) (b .P))) ↔ (Zero F x (initial k G) × Each (Zero F x) (remove (f .place) (b .P)))
         put-initial = put-P-zero F x p prime char (initial k G) (remove (f .place) (b .P)) (canonical-coefficient p k d G cG)
@@ -128,7 +128,7 @@ module _ {ℓ} {K : Type ℓ} (F : Field K) (x : List K) where
     divide-same k f g r b c af y ag n e = (there, back)
       where
         apart : Each (Zero F x) (b .P) ↔ (Zero F x (g .poly) × Each (Zero F x) (remove (g .place) (b .P)))
-        apart = each-remove (Zero F x) (g .place) (g .poly) (b .P) ag
+        apart = each-apart (Zero F x) (g .place) (g .poly) (b .P) ag
 
         put : Each (Zero F x) (put-P p r (remove (g .place) (b .P))) ↔ (Zero F x r × Each (Zero F x) (remove (g .place) (b .P)))
         put = put-P-zero F x p prime char r (remove (g .place) (b .P)) c
@@ -136,7 +136,7 @@ module _ {ℓ} {K : Type ℓ} (F : Field K) (x : List K) where
         there : Solves-branch b → Solves-branch (divided l p g r b)
         there s =
             let u = apart .0 (s .0) in
-            (put .1 (divides-zero k (f .poly) (g .poly) r e (each-remove (Zero F x) (f .place) (f .poly) (b .P) af .0 (s .0) .0) (u .0), u .1), s .1, s .2)
+            (put .1 (divides-zero k (f .poly) (g .poly) r e (each-apart (Zero F x) (f .place) (f .poly) (b .P) af .0 (s .0) .0) (u .0), u .1), s .1, s .2)
 
         back : Solves-branch (divided l p g r b) → Solves-branch b
         back s =
@@ -167,7 +167,7 @@ module _ {ℓ} {K : Type ℓ} (F : Field K) (x : List K) where
     close-same k f Q b c a y r = (there, back)
       where
         apart : Each (Zero F x) (b .P) ↔ (Zero F x (f .poly) × Each (Zero F x) (remove (f .place) (b .P)))
-        apart = each-remove (Zero F x) (f .place) (f .poly) (b .P) a
+        apart = each-apart (Zero F x) (f .place) (f .poly) (b .P) a
 
         there : Solves-branch b → Solves-branch (after-close f Q b)
         there s =
@@ -234,7 +234,7 @@ module _ {ℓ} {K : Type ℓ} (F : Field K) (x : List K) where
         back (inr u) = inr u
     step-same b waiting listed s (by-divide k f g r v y a n o e) c =
         one-same b (divided l p g r b) waiting listed
-        (divide-same k f g r b (canonical-by l p (one≤ prime) k (f .poly) (g .poly) r (each-remove (Canonical p) (g .place) (g .poly) (b .P) a .0 (c .0) .0) e) (v .stands) y a n e)
+        (divide-same k f g r b (canonical-by l p (one≤ prime) k (f .poly) (g .poly) r (each-apart (Canonical p) (g .place) (g .poly) (b .P) a .0 (c .0) .0) e) (v .stands) y a n e)
     step-same b waiting listed s (by-close k f Q v y o e) c = one-same b (after-close f Q b) waiting listed (close-same k f Q b (c .1) (v .stands) y e)
 
 -- ── the whole run ──

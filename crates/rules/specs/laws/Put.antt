@@ -20,13 +20,13 @@ use Rattle.rules.specs.Branch.{member, is-zero, all-zeros, is-one, unles
 use Rattle.rules.specs.Solutions.{Zero, NonZero}
 
 module _ {ℓ} (G : Poly → Type ℓ) where
-  pub each-member : (f : Poly) (fs : List Poly) → T (member f fs) → Each G fs → G f
+  pub each-of-member : (f : Poly) (fs : List Poly) → T (member f fs) → Each G fs → G f
   unfolding member
-  each-member f [] t e = absurd t
-  each-member f (g ∷ gs) t e =
+  each-of-member f [] t e = absurd t
+  each-of-member f (g ∷ gs) t e =
       elim (or-cases (equal f g) (member f gs) t) [
         | inl q ↦ subst G (sym (equal-eq f g (sym (true-of (equal f g) q)))) (e .0)
-        | inr m ↦ each-member f gs m (e .1)
+        | inr m ↦ each-of-member f gs m (e .1)
       ]
 
   -- Of the list with f put it holds as of f and the list, if it holds anyway of an f that is dropped.
@@ -110,14 +110,14 @@ module _ {ℓ} {K : Type ℓ} (F : Field K) (x : List K) where
     unfolding put-P
     put-P-zero f fs c =
         let u = each-unless-dropped (Zero F x) (is-zero (monic p f) || member (monic p f) fs) (monic p f) fs
-        (λ t e. elim (or-cases (is-zero (monic p f)) _ t) [ inl z ↦ zero-is-zero (monic p f) z | inr m ↦ each-member (Zero F x) (monic p f) fs m e ]) in
+        (λ t e. elim (or-cases (is-zero (monic p f)) _ t) [ inl z ↦ zero-is-zero (monic p f) z | inr m ↦ each-of-member (Zero F x) (monic p f) fs m e ]) in
         ((λ e. (monic-keeps-zeros f c .0 (u .0 e .0), u .0 e .1)), (λ e. u .1 (monic-keeps-zeros f c .1 (e .0), e .1)))
 
     pub put-Q-nonzero : (f : Poly) (fs : List Poly) → Canonical p f → Each (NonZero F x) (put-Q p f fs) ↔ (NonZero F x f × Each (NonZero F x) fs)
     unfolding put-Q
     put-Q-nonzero f fs c =
         let u = each-unless-dropped (NonZero F x) (is-one (monic p f) || member (monic p f) fs) (monic p f) fs
-        (λ t e. elim (or-cases (is-one (monic p f)) _ t) [ inl z ↦ one-is-nonzero (monic p f) z | inr m ↦ each-member (NonZero F x) (monic p f) fs m e ]) in
+        (λ t e. elim (or-cases (is-one (monic p f)) _ t) [ inl z ↦ one-is-nonzero (monic p f) z | inr m ↦ each-of-member (NonZero F x) (monic p f) fs m e ]) in
         ((λ e. ((λ z. u .0 e .0 (monic-keeps-zeros f c .1 z)), u .0 e .1)), (λ e. u .1 ((λ z. e .0 (monic-keeps-zeros f c .0 z)), e .1)))
 
     pub put-all-P-zero : (fs out : List Poly) → Each (Canonical p) fs → Each (Zero F x) (put-all (put-P p) fs out) ↔ (Each (Zero F x) fs × Each (Zero F x) out)

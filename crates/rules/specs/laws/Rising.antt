@@ -34,7 +34,7 @@ use Rattle.rules.specs.Step.{remainder-by}
 use Rattle.rules.specs.Run.{finished, first-branch, run-of}
 use Rattle.tables.specs.Admissible.{Rising}
 use Rattle.rules.specs.Solutions.{Proper}
-use Rattle.rules.specs.laws.Lists.{At, each-remove}
+use Rattle.rules.specs.laws.Lists.{At, each-apart}
 use Rattle.rules.specs.laws.Pivot.{leaders-at-most}
 use Rattle.rules.specs.laws.Put.{put-P-keeps, put-all-keeps}
 use Rattle.rules.specs.laws.Taken.{Pivot, remainder-by-is, Taken, by-drop, by-list, by-split, by-divide, by-close}
@@ -175,18 +175,18 @@ module _ (l : Limits) (p : ℕ) (prime : Prime p) where
   step-rises b waiting listed s (by-drop _) c h w u = (w, u)
   step-rises b waiting listed s (by-list q) c h w u = (w, each-append (λ s. Rising 0 (s .T)) listed _ .1 (u, (h .0, tt)))
   step-rises b waiting listed s (by-split k f v) c h w u =
-      let r = each-remove (λ f. Nonzero-monic f × Below-first (b .T) f) (f .place) (f .poly) (b .P) (v .stands) .0 (h .1) in
-      let sound = each-remove (Sound p) (f .place) (f .poly) (b .P) (v .stands) .0 (c .0) .0 in
+      let r = each-apart (λ f. Nonzero-monic f × Below-first (b .T) f) (f .place) (f .poly) (b .P) (v .stands) .0 (h .1) in
+      let sound = each-apart (Sound p) (f .place) (f .poly) (b .P) (v .stands) .0 (c .0) .0 in
       let of-initial = sound-closed .of-initial k (f .poly) sound in
       let of-rest = sound-closed .of-rest k (f .poly) sound in
       let with-initial = put-P-below (b .T) (initial k (f .poly)) (remove (f .place) (b .P)) (of-initial .0)
       (below-less (b .T) (f .poly) (initial k (f .poly)) (leader-of-initial k (f .poly)) (r .0 .1)) (r .1) in
       ((h, ((h .0, put-P-below (b .T) (rest k (f .poly)) _ (of-rest .0) (below-less (b .T) (f .poly) (rest k (f .poly)) (leader-of-rest k (f .poly)) (r .0 .1)) with-initial), w)), u)
   step-rises b waiting listed s (by-divide k f g r v y a n o e) c h w u =
-      let rf = each-remove (λ f. Nonzero-monic f × Below-first (b .T) f) (f .place) (f .poly) (b .P) (v .stands) .0 (h .1) in
-      let rg = each-remove (λ f. Nonzero-monic f × Below-first (b .T) f) (g .place) (g .poly) (b .P) a .0 (h .1) in
-      let sf = each-remove (Sound p) (f .place) (f .poly) (b .P) (v .stands) .0 (c .0) .0 in
-      let sg = each-remove (Sound p) (g .place) (g .poly) (b .P) a .0 (c .0) .0 in
+      let rf = each-apart (λ f. Nonzero-monic f × Below-first (b .T) f) (f .place) (f .poly) (b .P) (v .stands) .0 (h .1) in
+      let rg = each-apart (λ f. Nonzero-monic f × Below-first (b .T) f) (g .place) (g .poly) (b .P) a .0 (h .1) in
+      let sf = each-apart (Sound p) (f .place) (f .poly) (b .P) (v .stands) .0 (c .0) .0 in
+      let sg = each-apart (Sound p) (g .place) (g .poly) (b .P) a .0 (c .0) .0 in
       let led : leader (f .poly) ≡ suc k = pivot-leader k f b v sf (rf .0 .0) in
       let low : leader r ≤ suc k = leader-of-remainder l p k (f .poly) (g .poly) r (omega arith) (omega arith) e in
       let canonical-r = canonical-closed l p (one≤ prime) .of-remainder k (f .poly) (g .poly) r (omega arith) (sf .0) (sg .0) e in
@@ -194,17 +194,17 @@ module _ (l : Limits) (p : ℕ) (prime : Prime p) where
   step-rises b waiting listed s (by-close k f Q v y o e) c h w u = (((rises, each-map _ _ lower (remove (f .place) (b .P)) all-known), w), u)
     where
       r : (Nonzero-monic (f .poly) × Below-first (b .T) (f .poly)) × Each (λ f. Nonzero-monic f × Below-first (b .T) f) (remove (f .place) (b .P))
-      r = each-remove (λ f. Nonzero-monic f × Below-first (b .T) f) (f .place) (f .poly) (b .P) (v .stands) .0 (h .1)
+      r = each-apart (λ f. Nonzero-monic f × Below-first (b .T) f) (f .place) (f .poly) (b .P) (v .stands) .0 (h .1)
 
       led : leader (f .poly) ≡ suc k
-      led = pivot-leader k f b v (each-remove (Sound p) (f .place) (f .poly) (b .P) (v .stands) .0 (c .0) .0) (r .0 .0)
+      led = pivot-leader k f b v (each-apart (Sound p) (f .place) (f .poly) (b .P) (v .stands) .0 (c .0) .0) (r .0 .0)
 
       rises : Rising 0 (f .poly ∷ b .T)
       rises = (omega (arith, led), rising-from (b .T) (f .poly) (h .0) (r .0 .1))
 
       -- Those left in P: led by no variable above v(k+1), and not by v(k+1).
       at-most : Each (λ g. leader g ≤ highest-leader (b .P)) (remove (f .place) (b .P))
-      at-most = each-remove (λ g. leader g ≤ highest-leader (b .P)) (f .place) (f .poly) (b .P) (v .stands) .0 (leaders-at-most (b .P)) .1
+      at-most = each-apart (λ g. leader g ≤ highest-leader (b .P)) (f .place) (f .poly) (b .P) (v .stands) .0 (leaders-at-most (b .P)) .1
 
       all-known : Each (λ g. (Nonzero-monic g × Below-first (b .T) g) × ((leader g ≢ suc k) × (leader g ≤ highest-leader (b .P)))) (remove (f .place) (b .P))
       all-known = each-both _ _ (remove (f .place) (b .P)) (r .1) (each-both _ _ (remove (f .place) (b .P)) o at-most)

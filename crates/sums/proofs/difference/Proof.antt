@@ -5,7 +5,7 @@ use Rattle.polynomials.specs.Poly.{difference}
 use Rattle.polynomials.specs.Packed.{terms}
 use Rattle.polynomials.specs.Bounds.{bounded-difference}
 use Rattle.polynomials.specs.Working.{Written}
-use Rattle.sums.proofs.MergeLaws.{all-fit-zero, difference-written, formed, refused}
+use Rattle.sums.proofs.MergeLaws.{all-fit-zero, difference-written, within-terms-formed, over-terms-refused}
 use Rattle.sums.proofs.difference.Statement.{statement}
 use Rattle.sums.proofs.difference.Tie as tie
 
@@ -33,14 +33,14 @@ returns : tie.Need-returns
 unfolding bounded-difference
 returns c =
     let w = written (c .before .before .before) in
-    refused _ (c .before .before .before .add-multiple .last .1 .1 .1 .1 .1 .0) (omega (arith, w .pairs))
+    over-terms-refused _ (c .before .before .before .add-multiple .last .1 .1 .1 .1 .1 .0) (omega (arith, w .pairs))
 
 same-length-2 : tie.Need-same-length-2
 same-length-2 c = search needs
 
 returns-2 : tie.Need-returns-2
 unfolding bounded-difference
-returns-2 c = formed _ (c .before .before .before .add-multiple .result) _ (written (c .before .before .before)) (omega arith)
+returns-2 c = within-terms-formed _ (c .before .before .before .add-multiple .result) _ (written (c .before .before .before)) (omega arith)
 
 pub difference-spec : {M : Type 1} → statement M
 difference-spec =

@@ -21,7 +21,7 @@ use Rattle.tables.specs.declared.Placing.{Placing}
 use Rattle.tables.specs.Solved.{PointOf, Solves, Solved, First}
 use Rattle.rules.specs.Written.{list-records}
 use Rattle.rules.specs.Eliminate.{Eliminated, listed, turned-back, eliminated, output-after}
-use Rattle.rules.specs.laws.Promised.{says}
+use Rattle.rules.specs.laws.Promised.{good-iff}
 use Rattle.rules.specs.Promise.{ListPromise, PointPromise, promise}
 use Rattle.delivery.specs.declared.Answer.{Answer}
 use Rattle.run.specs.declared.Outcome.the-variants.{Systems}
@@ -108,10 +108,10 @@ module _ (table own : List ℕ) (ss : List System) (t : Input) (x : List ℕ) (P
   k = first-solved (t .modulus) x 1 ss
 
   yes-says : bit b ≡ 1 ↔ try-input table x ≡ good true
-  yes-says = (λ e. says (P .answers) true .1 (bit-true b .0 e), λ e. bit-true b .1 (says (P .answers) true .0 e))
+  yes-says = (λ e. good-iff (P .answers) true .1 (bit-true b .0 e), λ e. bit-true b .1 (good-iff (P .answers) true .0 e))
 
   no-says : bit b ≡ 0 ↔ try-input table x ≡ good false
-  no-says = (λ e. says (P .answers) false .1 (bit-false b .0 e), λ e. bit-false b .1 (says (P .answers) false .0 e))
+  no-says = (λ e. good-iff (P .answers) false .1 (bit-false b .0 e), λ e. bit-false b .1 (good-iff (P .answers) false .0 e))
 
   point-answers : PointAnswers table own ss t x (record { outcome = 0; value = bit b }) (record { outcome = 0; value = k })
   point-answers = record {
@@ -119,13 +119,13 @@ module _ (table own : List ℕ) (ss : List System) (t : Input) (x : List ℕ) (P
     yes-or-no = bit-small b;
     yes = (λ e. P .yes .0 (yes-says .0 e), λ s. yes-says .1 (P .yes .1 s));
     never-refused = refl;
-    place = λ r l. (λ e. P .place r l .0 (says (P .names) r .1 e), λ f. says (P .names) r .0 (P .place r l .1 f));
-    none = (λ e. P .none .0 (says (P .names) 0 .1 e), λ n. says (P .names) 0 .0 (P .none .1 n));
+    place = λ r l. (λ e. P .place r l .0 (good-iff (P .names) r .1 e), λ f. good-iff (P .names) r .0 (P .place r l .1 f));
+    none = (λ e. P .none .0 (good-iff (P .names) 0 .1 e), λ n. good-iff (P .names) 0 .0 (P .none .1 n));
     yes-with-a-place = (
-      λ e. let s = P .yes-with-a-place .0 (yes-says .0 e) in let q : k ≡ s .0 = says (P .names) (s .0) .0 (s .2) in omega (arith, q, s .1),
+      λ e. let s = P .yes-with-a-place .0 (yes-says .0 e) in let q : k ≡ s .0 = good-iff (P .names) (s .0) .0 (s .2) in omega (arith, q, s .1),
       λ l. yes-says .1 (P .yes-with-a-place .1 (k, l, P .names)),
     );
-    no-with-0 = (λ e. says (P .names) 0 .0 (P .no-with-0 .0 (no-says .0 e)), λ e. no-says .1 (P .no-with-0 .1 (says (P .names) 0 .1 e)));
+    no-with-0 = (λ e. good-iff (P .names) 0 .0 (P .no-with-0 .0 (no-says .0 e)), λ e. no-says .1 (P .no-with-0 .1 (good-iff (P .names) 0 .1 e)));
     on-definitions = P;
   }
 

@@ -25,7 +25,7 @@ use Rattle.tables.specs.Walk.{accepted, next}
 use Rattle.lists.specs.Count.{counted}
 use Rattle.tables.specs.Admissible.{Admissible}
 use Rattle.tables.specs.laws.Chains.{then-good, header-passes, header-refuses, next-end, next-to, next-astray, term-read}
-use Rattle.tables.specs.laws.Chains.{along, cons, Enough, whole-chain, ends, strays, leads, read-led, heads-chain, triangle-chain, systems-chain}
+use Rattle.tables.specs.laws.Chains.{along, cons, Enough, whole-chain, chain-ends, chain-strays, chain-leads, read-led, heads-chain, triangle-chain, systems-chain}
 use Rattle.tables.specs.laws.Linked.{good-same, Member, chain-end, chain-next, chain-on, terms-left, led-parts, SystemsLeft, systems-left}
 use Rattle.tables.specs.laws.Accepted.{head-admissible, list-read}
 
@@ -136,20 +136,20 @@ module _ (w : List ℕ) (p n : ℕ) where
   module _ {at i count : ℕ} {whole : Counted} (c : Counting at i count whole) where
     pub counting-end : next (follow w at i) ≡ End → Systems count ≡ whole
     counting-end e =
-        let q = ends (systems-chain w p n) (c .fuel) tt at i (next-end (follow w at i) e) in
+        let q = chain-ends (systems-chain w p n) (c .fuel) tt at i (next-end (follow w at i) e) in
         ap Systems (omega arith) ∙ sym (ap (counted-from count) q) ∙ c .same
 
     pub counting-astray : next (follow w at i) ≡ Astray → Refused Index at ≡ whole
-    counting-astray e = sym (ap (counted-from count) (strays (systems-chain w p n) tt at i (c .enough) (next-astray (follow w at i) e))) ∙ c .same
+    counting-astray e = sym (ap (counted-from count) (chain-strays (systems-chain w p n) tt at i (c .enough) (next-astray (follow w at i) e))) ∙ c .same
 
     pub counting-refused : {j : ℕ} {why : Reason} {k : ℕ} → next (follow w at i) ≡ To j → read-system w p n j ≡ refused why k → Refused why k ≡ whole
     counting-refused {j} e h =
-        let u = leads (systems-chain w p n) tt at i (c .enough) (next-to (follow w at i) e) in
+        let u = chain-leads (systems-chain w p n) tt at i (c .enough) (next-to (follow w at i) e) in
         sym (ap (counted-from count) (u .2 ∙ ap (λ r. cons r (λ s. read-systems w p n (u .0) j (word w j 3))) h)) ∙ c .same
 
     pub counting-on : {j : ℕ} {s : System} → at < j → next (follow w at i) ≡ To j → read-system w p n j ≡ good s → Counting j (word w j 3) (count + 1) whole
     counting-on {j} {s} l e h =
-        let u = leads (systems-chain w p n) tt at i (c .enough) (next-to (follow w at i) e) in
+        let u = chain-leads (systems-chain w p n) tt at i (c .enough) (next-to (follow w at i) e) in
         let r = read-systems w p n (u .0) j (word w j 3) in
         record {
           fuel = u .0;

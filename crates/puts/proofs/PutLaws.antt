@@ -47,12 +47,12 @@ module _ (f : List ℕ) (b : Stored) where
     counts-P n = record { in-P = omega (arith, n .in-P, ap length e, length-append (b .P) (f ∷ [])); in-Q = n .in-Q; in-T = n .in-T }
 
 -- ── Q ──
-pub one : (f : List ℕ) → length f ≡ 2 → eqb (getD f 0 0) 1 ≡ true → eqb (getD f 1 0) 0 ≡ true → is-one f ≡ true
+pub is-one-of-tests : (f : List ℕ) → length f ≡ 2 → eqb (getD f 0 0) 1 ≡ true → eqb (getD f 1 0) 0 ≡ true → is-one f ≡ true
 unfolding is-one same
-one [] l x y = absurd (omega arith)
-one (c ∷ []) l x y = absurd (omega arith)
-one (c ∷ (m ∷ [])) l x y = ap₂ _&&_ x (ap (λ (t : Bool). t && true) y)
-one (c ∷ (m ∷ (d ∷ f))) l x y = absurd (omega arith)
+is-one-of-tests [] l x y = absurd (omega arith)
+is-one-of-tests (c ∷ []) l x y = absurd (omega arith)
+is-one-of-tests (c ∷ (m ∷ [])) l x y = ap₂ _&&_ x (ap (λ (t : Bool). t && true) y)
+is-one-of-tests (c ∷ (m ∷ (d ∷ f))) l x y = absurd (omega arith)
 
 is-false : (t : Bool) → (t ≡ true → ⊥) → t ≡ false
 is-false true h = absurd (h refl)

@@ -27,7 +27,7 @@ use Rattle.rules.specs.Claims.{zero-relation, initials, yes-with-place, 
 use Rattle.rules.specs.laws.Lengths.{length-list}
 use Rattle.rules.specs.laws.ReadAgain.{read-again}
 use Rattle.rules.specs.laws.WrittenAgain.{Delivered, listed-delivered, listed-writable, accepted-proper}
-use Rattle.rules.specs.laws.Promised.{says, place-some, no-zero}
+use Rattle.rules.specs.laws.Promised.{good-iff, place-some, no-zero}
 
 -- ── the claim ──
 -- The output after an elimination.
@@ -149,15 +149,15 @@ module _ (table work output : List ℕ) (limit steps : ℕ) (ss : List System) (
         record {
           relation = (λ s. some .0 (yes-place .0 (yes .1 s)), λ s. yes .0 (yes-place .1 (some .1 s)));
           answers = answers;
-          yes = (λ a. yes .0 (says answers true .0 a), λ s. says answers true .1 (yes .1 s));
+          yes = (λ a. yes .0 (good-iff answers true .0 a), λ s. good-iff answers true .1 (yes .1 s));
           names = names;
-          place = λ r l. (λ a. place-is p x r ss l .0 (says names r .0 a), λ f. says names r .1 (place-is p x r ss l .1 f));
-          none = (λ a. none-is p x ss .0 (says names 0 .0 a), λ n. says names 0 .1 (none-is p x ss .1 n));
+          place = λ r l. (λ a. place-is p x r ss l .0 (good-iff names r .0 a), λ f. good-iff names r .1 (place-is p x r ss l .1 f));
+          none = (λ a. none-is p x ss .0 (good-iff names 0 .0 a), λ n. good-iff names 0 .1 (none-is p x ss .1 n));
           yes-with-a-place = (
-            λ a. let n : first-solved p x 1 ss ≡ 0 → ⊥ = yes-place .0 (says answers true .0 a) in (first-solved p x 1 ss, omega (arith, n), names),
-            λ k. let q : first-solved p x 1 ss ≡ k .0 = says names (k .0) .0 (k .2) in says answers true .1 (yes-place .1 (λ z. omega (arith, z, q, k .1))),
+            λ a. let n : first-solved p x 1 ss ≡ 0 → ⊥ = yes-place .0 (good-iff answers true .0 a) in (first-solved p x 1 ss, omega (arith, n), names),
+            λ k. let q : first-solved p x 1 ss ≡ k .0 = good-iff names (k .0) .0 (k .2) in good-iff answers true .1 (yes-place .1 (λ z. omega (arith, z, q, k .1))),
           );
-          no-with-0 = (λ a. says names 0 .1 (no .0 (says answers false .0 a)), λ a. says answers false .1 (no .1 (says names 0 .0 a)));
+          no-with-0 = (λ a. good-iff names 0 .1 (no .0 (good-iff answers false .0 a)), λ a. good-iff answers false .1 (no .1 (good-iff names 0 .0 a)));
           no-initial-zero =
               each-map _ _ (λ s i v. i (solves-is p x (s .T) (s .U) .1 v)) ss
               (initials-modulo (limits-of (length work)) limit t (accepted-proper table t (outcome .accepted)) steps ss (outcome .ended) x);

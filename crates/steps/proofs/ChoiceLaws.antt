@@ -12,7 +12,7 @@ use Rattle.polynomials.specs.Poly.{Poly}
 use Rattle.polynomials.specs.Canonical.{Canonical}
 use Rattle.polynomials.specs.Division.{leader}
 use Rattle.polynomials.specs.Packed.{terms}
-use Rattle.polynomials.specs.laws.Bounds.{neither}
+use Rattle.polynomials.specs.laws.Bounds.{or-false-both}
 use Rattle.polynomials.specs.laws.Places.{Places, places-terms}
 use Rattle.rules.specs.Branch.{Branch, Chosen, some-one, some-zero, is-one, highest-leader, pivot}
 use Rattle.rules.specs.Rule.{Rule, drop, list, rule-with, rule-of, rule-of-P}
@@ -124,7 +124,7 @@ module _ (p k i : ℕ) where
           let ei : c .place ≡ i = cc in
           let stands = pivot-stands (h - 1) (terms f) (map terms fs) in
           let at : c ≡ chosen b (c .place) = chosen-at b c stands in
-          let low = some-leader p f fs (s .0) (m .0) (z .0) (neither (some-one (map terms (f ∷ fs))) (some-zero (map terms Q)) q .0) in
+          let low = some-leader p f fs (s .0) (m .0) (z .0) (or-false-both (some-one (map terms (f ∷ fs))) (some-zero (map terms Q)) q .0) in
           let high = leaders-at-most-8 (f ∷ fs) in
           let inside = at-inside (c .place) (c .poly) (f ∷ fs) stands in
           let same = ap (λ (d : Chosen). rule-with (h - 1) d (branch-of b)) at ∙ ap₂ (λ (k i : ℕ). rule-with k (chosen b i) (branch-of b)) ek ei in

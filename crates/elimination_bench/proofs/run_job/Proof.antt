@@ -2,7 +2,7 @@
 use mathlib.Core.Path.{sym}
 use borrow.Author.Needs.{needs}
 use lib.Seq.{length-take-le}
-use Rattle.input.proofs.InputLaws.{within, within-take}
+use Rattle.input.proofs.InputLaws.{counted-within, within-take}
 use Rattle.elimination_bench.proofs.run_job.Statement.{statement}
 use Rattle.elimination_bench.proofs.run_job.Tie as tie
 
@@ -83,7 +83,7 @@ slice-reshare-prefix-answer : tie.Need-slice-reshare-prefix-answer
 slice-reshare-prefix-answer c =
     let n = c .before .before .before .before .before in
     let d = table-read n .counted in
-    within (d .last .1 .1 .0) (d .ensures .0) (n .n .given .1)
+    counted-within (d .last .1 .1 .0) (d .ensures .0) (n .n .given .1)
 
 slice-aggregate-answer : tie.Need-slice-aggregate-answer
 slice-aggregate-answer c =

@@ -5,7 +5,7 @@ use mathlib.Core.Logic.{⊎-elim}
 use borrow.Author.Needs.{needs}
 use Rattle.stored.specs.Stored.{member}
 use Rattle.branches.specs.Words.{is-one}
-use Rattle.puts.proofs.PutLaws.{one, not-one-by-length, not-one-by-coefficient, not-one-by-monomial}
+use Rattle.puts.proofs.PutLaws.{is-one-of-tests, not-one-by-length, not-one-by-coefficient, not-one-by-monomial}
 use Rattle.pivots.proofs.is_settled.Statement.{statement}
 use Rattle.pivots.proofs.is_settled.Tie as tie
 
@@ -18,7 +18,7 @@ shared-slice-read-if3 c = search needs
 returns : tie.Need-returns
 returns c = λ b bs ss H.
     let f = c .before .before .before .before .before .before .before .args .f .now in
-    sym (ap (λ (o : Bool). o || member f (b .Q)) (one f (c .before .before .before .before .if1 .taken) (c .before .before .if2 .taken) (c .if3 .taken)))
+    sym (ap (λ (o : Bool). o || member f (b .Q)) (is-one-of-tests f (c .before .before .before .before .if1 .taken) (c .before .before .if2 .taken) (c .if3 .taken)))
 
 find-q-requires : tie.Need-find-q-requires
 find-q-requires c κs = search needs

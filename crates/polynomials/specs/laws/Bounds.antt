@@ -14,9 +14,9 @@ use Rattle.polynomials.specs.Bounds.{at-most, over, some-over, degrees-o
 use Rattle.polynomials.specs.laws.Degree.{at-join}
 use Rattle.polynomials.specs.laws.Packed.{length-bytes, byte-small}
 
-pub neither : (a b : Bool) → a || b ≡ false → (a ≡ false) × (b ≡ false)
-neither true b h = (h, cc)
-neither false b h = (refl, h)
+pub or-false-both : (a b : Bool) → a || b ≡ false → (a ≡ false) × (b ≡ false)
+or-false-both true b h = (h, cc)
+or-false-both false b h = (refl, h)
 
 -- ── some exponent is over m ──
 pub over-at : (m k : ℕ) (e : Exponents) → m < getD e k 0 → some-over (at-most m) e ≡ true
@@ -33,8 +33,8 @@ none-over m (n ∷ e) h = ap₂ _||_ (le-ltb m n (h 0)) (none-over m e (λ k. h 
 pub over-none : (m : ℕ) (e : Exponents) → some-over (at-most m) e ≡ false → (k : ℕ) → getD e k 0 ≤ m
 unfolding some-over over
 over-none m [] h k = omega arith
-over-none m (n ∷ e) h zero = ltb-false m n (neither (ltb m n) (some-over (at-most m) e) h .0)
-over-none m (n ∷ e) h (suc k) = over-none m e (neither (ltb m n) (some-over (at-most m) e) h .1) k
+over-none m (n ∷ e) h zero = ltb-false m n (or-false-both (ltb m n) (some-over (at-most m) e) h .0)
+over-none m (n ∷ e) h (suc k) = over-none m e (or-false-both (ltb m n) (some-over (at-most m) e) h .1) k
 
 -- ── the degrees at one place ──
 at-largest : (k : ℕ) (a b : Exponents) → getD (largest a b) k 0 ≡ max (getD a k 0) (getD b k 0)

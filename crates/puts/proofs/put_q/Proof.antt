@@ -14,7 +14,7 @@ use Rattle.branches.proofs.AreaLaws.{place, at-of, place-inside, at-inside, end
 use Rattle.branches.proofs.LengthLaws.{inside-room}
 use Rattle.places.specs.Places.{Counts, Put-at}
 use Rattle.places.proofs.PlaceLaws.{counts-are, counts-fit}
-use Rattle.puts.proofs.PutLaws.{leaves-same, one, not-one-by-length, not-one-by-coefficient, not-one-by-monomial}
+use Rattle.puts.proofs.PutLaws.{leaves-same, is-one-of-tests, not-one-by-length, not-one-by-coefficient, not-one-by-monomial}
 use Rattle.puts.proofs.PutLaws.{put-Q-one, put-Q-found, put-Q-new, seen, seen-Q, behind-seen, kept-Q, more-Q, counts-Q}
 use borrow.Author.Needs.{needs}
 use Rattle.puts.proofs.put_q.Statement.{statement}
@@ -170,7 +170,7 @@ same-length c = refl
 returns : tie.Need-returns
 returns c b bs ss H =
     let r = c .before .before .before .before .before in
-    let is-1 = one (f r) (c .before .before .before .before .if1 .taken) (c .before .before .if2 .taken) (c .if3 .taken) in
+    let is-1 = is-one-of-tests (f r) (c .before .before .before .before .if1 .taken) (c .before .before .if2 .taken) (c .if3 .taken) in
     leaves-same H _ (kept-Q (left r) (f r) b (put-Q-one (f r) _ is-1))
 
 add-skip : tie.Need-add-skip

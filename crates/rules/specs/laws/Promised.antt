@@ -15,8 +15,8 @@ use Rattle.rules.specs.Solutions.{Some}
 
 -- ── answers ──
 -- A test that answers a says b exactly if a is b.
-pub says : {A : Type 0} {r : Read A} {a : A} → r ≡ good a → (b : A) → r ≡ good b ↔ a ≡ b
-says e b = (λ h. good-same (sym e ∙ h), λ h. e ∙ ap good h)
+pub good-iff : {A : Type 0} {r : Read A} {a : A} → r ≡ good a → (b : A) → r ≡ good b ↔ a ≡ b
+good-iff e b = (λ h. good-same (sym e ∙ h), λ h. e ∙ ap good h)
 
 -- ── some system, and the first ──
 module _ {A : Type 0} (P : A → Type 0) where

@@ -22,7 +22,7 @@ use Rattle.representation.specs.laws.Sounds.{sound-storable}
 use Rattle.representation.specs.Ready.{Ready, limits-in}
 use Rattle.steps.specs.Pending.{Leads}
 use Rattle.branches.proofs.Unique.{of-every}
-use Rattle.polynomials.specs.laws.Bounds.{neither}
+use Rattle.polynomials.specs.laws.Bounds.{or-false-both}
 use Rattle.steps.proofs.PrepareLaws.{all-hold, begun}
 use Rattle.steps.proofs.PivotLaws.{Pivot-in, pivot-in, Initial-in, initial-in, rule-found, comes}
 use Rattle.steps.proofs.SplitLaws.{split-next, split-stop}
@@ -272,7 +272,7 @@ apply-split-requires c κs =
     let g = formed (e .before) in
     let a = loaded g in
     let o = start a .pre .0 .1 in
-    let q = neither (is-one (ini g)) (member (ini g) (o .0 .Q)) (sym (e .before .is-settled .ensures (o .0) (o .1) (o .2) (o .3)) ∙ e .if2 .left) in (
+    let q = or-false-both (is-one (ini g)) (member (ini g) (o .0 .Q)) (sym (e .before .is-settled .ensures (o .0) (o .1) (o .2) (o .3)) ∙ e .if2 .left) in (
       ((o .0, o .1, o .2, o .3), start a .pre .0 .0, start a .pre .1 .1),
       (
         (some a .sound, some a .led),

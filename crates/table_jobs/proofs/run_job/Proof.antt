@@ -1,7 +1,7 @@
 -- The counted words lie within the buffers, so their first words can be lent.
 use mathlib.Core.Path.{_∙_}
 use borrow.Author.Needs.{needs}
-use Rattle.input.proofs.InputLaws.{within, within-take}
+use Rattle.input.proofs.InputLaws.{counted-within, within-take}
 use Rattle.table_jobs.proofs.run_job.Statement.{statement}
 use Rattle.table_jobs.proofs.run_job.Tie as tie
 
@@ -73,7 +73,7 @@ slice-reshare-prefix-answer : tie.Need-slice-reshare-prefix-answer
 slice-reshare-prefix-answer c =
     let n = table-known (c .before) in
     let d = table-read n in
-    within (d .counted .last .1 .1 .0) (d .counted .ensures .0) (n .n .given .1)
+    counted-within (d .counted .last .1 .1 .0) (d .counted .ensures .0) (n .n .given .1)
 
 slice-aggregate-answer : tie.Need-slice-aggregate-answer
 slice-aggregate-answer c =
@@ -85,7 +85,7 @@ slice-reshare-prefix-answer-2 : tie.Need-slice-reshare-prefix-answer-2
 slice-reshare-prefix-answer-2 c =
     let m = c .before .before in
     let d = numbers-read m in
-    within (d .counted2 .last .1 .1 .0) (d .counted2 .ensures .0) (m .m .given .1)
+    counted-within (d .counted2 .last .1 .1 .0) (d .counted2 .ensures .0) (m .m .given .1)
 
 slice-aggregate-answer-2 : tie.Need-slice-aggregate-answer-2
 slice-aggregate-answer-2 c =

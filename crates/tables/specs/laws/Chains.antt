@@ -11,7 +11,7 @@ use lib.ListN.{length}
 use Rattle.residues.specs.Prime.{is-modulus}
 use Rattle.polynomials.specs.Poly.{Term, Poly}
 use Rattle.polynomials.specs.Division.{leader}
-use Rattle.polynomials.specs.laws.Bounds.{neither}
+use Rattle.polynomials.specs.laws.Bounds.{or-false-both}
 use Rattle.tables.specs.declared.Reason.{Reason}
 use Rattle.tables.specs.declared.Reason.the-variants.{Shape, Prime, Variables, Index, Coefficient, Exponent, Order, Terms, Broken}
 use Rattle.tables.specs.declared.Checked.{Checked}
@@ -201,18 +201,18 @@ whole-chain w at h = record { inside = h; lasts = omega arith }
 
 module _ {A S : Type 0} {w : List ℕ} {step : S → ℕ → Read A} {on : S → A → S} {X : ℕ → S → ℕ → ℕ → Read (List A)} (C : Chain w step on X) where
   -- What `follow` says decides.
-  pub ends : (fuel : ℕ) (s : S) (at i : ℕ) → follow w at i ≡ end → X fuel s at i ≡ good []
-  ends zero s at i e = C .none s at i
-  ends (suc fuel) s at i e = C .some fuel s at i ∙ rw e
+  pub chain-ends : (fuel : ℕ) (s : S) (at i : ℕ) → follow w at i ≡ end → X fuel s at i ≡ good []
+  chain-ends zero s at i e = C .none s at i
+  chain-ends (suc fuel) s at i e = C .some fuel s at i ∙ rw e
 
-  pub strays : {fuel : ℕ} (s : S) (at i : ℕ) → Enough w at fuel → follow w at i ≡ astray → X fuel s at i ≡ refused Index at
-  strays {fuel = zero} s at i h e = absurd (omega arith)
-  strays {fuel = suc fuel} s at i h e = C .some fuel s at i ∙ rw e
+  pub chain-strays : {fuel : ℕ} (s : S) (at i : ℕ) → Enough w at fuel → follow w at i ≡ astray → X fuel s at i ≡ refused Index at
+  chain-strays {fuel = zero} s at i h e = absurd (omega arith)
+  chain-strays {fuel = suc fuel} s at i h e = C .some fuel s at i ∙ rw e
 
-  pub leads : {fuel : ℕ} (s : S) (at i : ℕ) {j : ℕ} → Enough w at fuel → follow w at i ≡ to j
+  pub chain-leads : {fuel : ℕ} (s : S) (at i : ℕ) {j : ℕ} → Enough w at fuel → follow w at i ≡ to j
       → (f : ℕ) × Enough w j f × (X fuel s at i ≡ cons (step s j) (λ a. X f (on s a) j (word w j 3)))
-  leads {fuel = zero} s at i h e = absurd (omega arith)
-  leads {fuel = suc fuel} s at i {j} h e =
+  chain-leads {fuel = zero} s at i h e = absurd (omega arith)
+  chain-leads {fuel = suc fuel} s at i {j} h e =
       let q = followed w at i j e in
       (fuel, record { inside = q .2; lasts = omega (arith, q .1) }, C .some fuel s at i ∙ rw e)
 
@@ -242,21 +242,21 @@ module _ {A S : Type 0} {w : List ℕ} {step : S → ℕ → Read A} {on : S →
   reached-first s at i h = record { fuel = records w; enough = whole-chain w at h; same = refl }
 
   pub reached-end : {s : S} {at i : ℕ} {whole : Checked} → Reached s at i whole → next (follow w at i) ≡ End → Good ≡ whole
-  reached-end {s} {at} {i} r e = sym (ap checked (ends (r .fuel) s at i (next-end (follow w at i) e))) ∙ r .same
+  reached-end {s} {at} {i} r e = sym (ap checked (chain-ends (r .fuel) s at i (next-end (follow w at i) e))) ∙ r .same
 
   pub reached-astray : {s : S} {at i : ℕ} {whole : Checked} → Reached s at i whole → next (follow w at i) ≡ Astray → CheckedRefused Index at ≡ whole
-  reached-astray {s} {at} {i} r e = sym (ap checked (strays s at i (r .enough) (next-astray (follow w at i) e))) ∙ r .same
+  reached-astray {s} {at} {i} r e = sym (ap checked (chain-strays s at i (r .enough) (next-astray (follow w at i) e))) ∙ r .same
 
   pub reached-refused : {s : S} {at i j : ℕ} {why : Reason} {k : ℕ} {whole : Checked} → Reached s at i whole → next (follow w at i) ≡ To j
       → checked (step s j) ≡ CheckedRefused why k → CheckedRefused why k ≡ whole
   reached-refused {s} {at} {i} {j} {why} {k} r e h =
-      let u = leads s at i (r .enough) (next-to (follow w at i) e) in
+      let u = chain-leads s at i (r .enough) (next-to (follow w at i) e) in
       sym (ap checked (u .2 ∙ ap (λ x. cons x (λ a. X (u .0) (on s a) j (word w j 3))) (checked-refused (step s j) h))) ∙ r .same
 
   pub reached-on : {s : S} {at i j : ℕ} {a : A} {whole : Checked} → Reached s at i whole → next (follow w at i) ≡ To j
       → step s j ≡ good a → Reached (on s a) j (word w j 3) whole
   reached-on {s} {at} {i} {j} {a} r e h =
-      let u = leads s at i (r .enough) (next-to (follow w at i) e) in
+      let u = chain-leads s at i (r .enough) (next-to (follow w at i) e) in
       record {
         fuel = u .0;
         enough = u .1;
@@ -276,17 +276,17 @@ module _ {A S : Type 0} {w : List ℕ} {step : S → ℕ → Read A} {on : S →
     pub rest : X fuel (on s member) i (word w i 3) ≡ good others
 
   pub closes : (fuel : ℕ) (s : S) (at i : ℕ) {ms : List A} → X fuel s at i ≡ good ms → i ≡ 0 → ms ≡ []
-  closes fuel s at i e z = let h = sym (ends fuel s at i (follow-end w at i z)) ∙ e in cc
+  closes fuel s at i e z = let h = sym (chain-ends fuel s at i (follow-end w at i z)) ∙ e in cc
 
   pub opens : {fuel : ℕ} {s : S} {at i : ℕ} {ms : List A} → Enough w at fuel → X fuel s at i ≡ good ms → (i ≡ 0 → ⊥) → Opened s at i ms
   opens {fuel} {s} {at} {i} {ms} h e n = go (follow w at i) refl
     where
       go : (x : Followed) → follow w at i ≡ x → Opened s at i ms
       go end q = absurd (n (followed-end w at i q))
-      go astray q = let c = sym (strays s at i h q) ∙ e in let z : _≡_ {A = ℕ} 0 1 = cc in absurd (omega arith)
+      go astray q = let c = sym (chain-strays s at i h q) ∙ e in let z : _≡_ {A = ℕ} 0 1 = cc in absurd (omega arith)
       go (to j) q =
           let l = followed w at i j q in
-          let u = leads s at i h (q ∙ ap to (sym (l .0))) in
+          let u = chain-leads s at i h (q ∙ ap to (sym (l .0))) in
           let g = then-good (step s i) _ (sym (u .2) ∙ e) in
           let o = cons-good (g .0) (X (u .0) (on s (g .0)) i (word w i 3)) (g .2) in
           record {
@@ -361,7 +361,7 @@ module _ (w : List ℕ) (p n : ℕ) where
       let e₂ = unless-good (eqb (word w i 0) 0 || leb p (word w i 0)) Coefficient i _ (e₁ .1) in
       let e₃ = unless-good (has-above n (term-at w i .exps)) Exponent i _ (e₂ .1) in
       let e₄ = unless-good (not-below (term-at w i .exps) b) Order i _ (e₃ .1) in
-      let c = neither (eqb (word w i 0) 0) (leb p (word w i 0)) (e₂ .0) in
+      let c = or-false-both (eqb (word w i 0) 0) (leb p (word w i 0)) (e₂ .0) in
       let q = e₄ .1 in
       record {
         few = leb-false 256 m (e₁ .0);

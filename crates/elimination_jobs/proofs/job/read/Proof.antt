@@ -1,6 +1,6 @@
 -- The counted words lie within the slice.
 use borrow.Author.Needs.{needs}
-use Rattle.input.proofs.InputLaws.{within}
+use Rattle.input.proofs.InputLaws.{counted-within}
 use Rattle.elimination_jobs.proofs.job.read.Statement.{statement}
 use Rattle.elimination_jobs.proofs.job.read.Tie as tie
 
@@ -92,7 +92,7 @@ returns-4 : tie.Need-returns-4
 returns-4 c =
     let n = c .before .before .before .before .before .before .before .before .before .before .before in
     let d = n .before .before .before .before .before .before in
-    within (d .counted .last .1 .1 .0) (d .counted .ensures .0) (n .n .given .1)
+    counted-within (d .counted .last .1 .1 .0) (d .counted .ensures .0) (n .n .given .1)
 
 pub read-spec : {M : Type 1} → statement M
 read-spec =

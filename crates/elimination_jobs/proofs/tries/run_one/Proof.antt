@@ -1,6 +1,6 @@
 -- The counted numbers lie within the buffer, so its first can be lent.
 use borrow.Author.Needs.{needs}
-use Rattle.input.proofs.InputLaws.{within, within-take}
+use Rattle.input.proofs.InputLaws.{counted-within, within-take}
 use Rattle.elimination_jobs.proofs.tries.run_one.Statement.{statement}
 use Rattle.elimination_jobs.proofs.tries.run_one.Tie as tie
 
@@ -25,7 +25,7 @@ returns c = search needs
 slice-reshare-prefix-try-both : tie.Need-slice-reshare-prefix-try-both
 slice-reshare-prefix-try-both c =
     let n = c .before .before .before .before .before .before .before .counted in
-    within (n .last .1 .1 .0) (n .ensures .0) (c .before .m .given .1)
+    counted-within (n .last .1 .1 .0) (n .ensures .0) (c .before .m .given .1)
 
 slice-aggregate-try-both : tie.Need-slice-aggregate-try-both
 slice-aggregate-try-both c =

@@ -1,7 +1,7 @@
 // The parts of a polynomial: leading variable, initial and rest.
 ghost use mathlib.Core.Path.{_≡_};
-ghost use Prim.Native.Nat.{ℕ, _+_, _≤_};
-ghost use lib.ListN.{length};
+ghost use Prim.Native.Nat.{ℕ, _+_, _*_, _≤_};
+ghost use lib.ListN.{length, drop};
 ghost use Rattle.polynomials.specs.Canonical.{Canonical};
 ghost use Rattle.polynomials.specs.Division.{leader, initial, rest};
 ghost use Rattle.polynomials.specs.Packed.{terms};
@@ -56,6 +56,7 @@ pub fn rest(f: &[u64], k: u32) -> &[u64]
     requires { ⌜ Pairs (now f) ⌝ }
     requires { ⌜ ((p : ℕ) × Canonical p (terms (now f))) × (leader (terms (now f)) ≡ k + 1) ⌝ }
     ensures { λ r. ⌜ terms (now r) ≡ rest k (terms (now (f .entry))) ⌝ }
+    ensures { λ r. ⌜ now r ≡ drop (2 * length (initial k (terms (now (f .entry))))) (now (f .entry)) ⌝ }
 {
     let n = initial_words(f, k);
     &f[n..]

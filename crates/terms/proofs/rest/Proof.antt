@@ -2,7 +2,7 @@
 use mathlib.Core.Path.{_∙_, ap}
 use native.Mathlib.Omega.{arith}
 use borrow.Author.Needs.{needs}
-use Prim.Native.Nat.{_-_}
+use Prim.Native.Nat.{ℕ, _-_}
 use lib.ListN.{length, drop, length-drop}
 use lib.Seq.{take-all}
 use Rattle.polynomials.specs.Packed.{terms}
@@ -28,7 +28,9 @@ returns : tie.Need-returns
 returns c =
     let n = c .before .initial-words .result in
     let s = c .before .before .before .args .f .now in
-    ap terms (take-all (length s - n) (drop n s) (omega (arith, length-drop n s))) ∙ c .before .initial-words .ensures .behind
+    let split = c .before .initial-words .ensures in
+    let all = take-all (length s - n) (drop n s) (omega (arith, length-drop n s)) in
+    (ap terms all ∙ split .behind, all ∙ ap (λ (n : ℕ). drop n s) (split .pairs))
 
 pub rest-spec : {M : Type 1} → statement M
 rest-spec =

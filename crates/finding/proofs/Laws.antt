@@ -8,7 +8,8 @@ use native.Mathlib.Omega.{arith}
 use borrow.Author.Tests.{eq-eqb, ne-eqb}
 use lib.Dec.{eqb}
 use lib.ListN.{length, take, drop, getD, drop-of-length-le}
-use lib.Seq.{drop-cons, getD-take, getD-drop}
+use lib.Seq.{getD-take, getD-drop}
+use Rattle.residues.specs.laws.Pairs.{drop-pair}
 use Rattle.records.specs.Records.{Rec, zero-record}
 use Rattle.stored.specs.Stored.{size-at, pairs-of, words-at, polys-at, same, member}
 use Rattle.stored.specs.laws.Stored.{length-words-at}
@@ -43,13 +44,8 @@ getD-words-at v i j h =
     let both = getD-pairs-of r j in
     (both .0 ∙ ap (λ (x : Rec). x .w0) e, both .1 ∙ ap (λ (x : Rec). x .w1 * 4294967296 + x .w2) e)
 
-drop-pair : (l : List ℕ) (i : ℕ) → 2 * i + 1 < length l → drop (2 * i) l ≡ getD l (2 * i) 0 ∷ (getD l (2 * i + 1) 0 ∷ drop (2 * (i + 1)) l)
-drop-pair l i h =
-    let once : suc (2 * i) ≡ 2 * i + 1 = omega arith in
-    let twice : suc (2 * i + 1) ≡ 2 * (i + 1) = omega arith in
-    drop-cons l (2 * i) 0 (omega arith)
-    ∙ ap (λ (r : List ℕ). getD l (2 * i) 0 ∷ r)
-    (ap (λ (k : ℕ). drop k l) once ∙ drop-cons l (2 * i + 1) 0 h ∙ ap (λ (k : ℕ). getD l (2 * i + 1) 0 ∷ drop k l) twice)
+next-pair : (l : List ℕ) (i : ℕ) → 2 * i + 1 < length l → drop (2 * i) l ≡ getD l (2 * i) 0 ∷ (getD l (2 * i + 1) 0 ∷ drop (2 * (i + 1)) l)
+next-pair l i h = let twice : 2 * i + 2 ≡ 2 * (i + 1) = omega arith in drop-pair l (2 * i) h ∙ ap (λ (k : ℕ). getD l (2 * i) 0 ∷ (getD l (2 * i + 1) 0 ∷ drop k l)) twice
 
 pub same-lengths : (s t : List ℕ) → length s ≢ length t → same s t ≡ false
 unfolding same
@@ -74,7 +70,7 @@ unfolding same
 same-turn v at f i fits e h =
     let x : List ℕ = words-at v at in
     let read = getD-words-at v at i h in
-    ap₂ same (drop-pair x i (omega (arith, length-words-at v at fits))) (drop-pair f i (omega arith))
+    ap₂ same (next-pair x i (omega (arith, length-words-at v at fits))) (next-pair f i (omega arith))
     ∙ (λ t. eqb (read .0 t) (getD f (2 * i) 0) && (eqb (read .1 t) (getD f (2 * i + 1) 0) && same (drop (2 * (i + 1)) x) (drop (2 * (i + 1)) f)))
 
 pub same-end : (s t : List ℕ) (n : ℕ) → length s ≤ n → length t ≤ n → same (drop n s) (drop n t) ≡ true

@@ -7,6 +7,7 @@ use native.Mathlib.Omega.{arith}
 use lib.Dec.{leb}
 use lib.ListN.{length, getD, take, drop, length-drop, length-append}
 use lib.Seq.{drop-cons, split-at, take-at, drop-at, length-take-le}
+use Rattle.residues.specs.laws.Each.{each-append}
 use Rattle.polynomials.specs.Poly.{Poly, monic}
 use Rattle.polynomials.specs.Packed.{terms}
 use Rattle.polynomials.specs.Bounds.{Bounded, within, over, at-most}
@@ -19,7 +20,6 @@ use Rattle.branches.specs.Area.{Stored, size, with-open, put-into-P, put-into-Q
 use Rattle.representation.specs.Represent.{Sound, All-sound, Branch-sound, All-listed, branch-of, system-of, chosen, with-new}
 use Rattle.representation.specs.laws.Steps.{if-fits, tested-room, within-room-fits, divide-state}
 use Rattle.representation.specs.laws.Replaced.{turned, turned-Q, turned-size, with-new-turned}
-use Rattle.representation.specs.laws.Lists.{append-sound}
 use Rattle.members.specs.Members.{Has-left, Has-members, next-member, taken-out, put-in, rest-of-step}
 
 module _ (l : Limits) (p k : ℕ) (f : Poly) (b : Stored) (bs ss : List Stored) where
@@ -87,7 +87,7 @@ module _ (l : Limits) (p k : ℕ) (f : Poly) (b : Stored) (bs ss : List Stored) 
     length-old = omega (arith, length-drop (suc j) (b .Q), some-left, there)
 
     sound-new : All-sound p new
-    sound-new = append-sound p new (getD (b .Q) j [] ∷ old) .0 (subst (All-sound p) parts (s .in-Q)) .0
+    sound-new = each-append (Sound p) new (getD (b .Q) j [] ∷ old) .0 (subst (All-sound p) parts (s .in-Q)) .0
 
     same : turned b new r old ≡ renewed true place left r
     same = ap₂ (λ (n m : ℕ). put-into-Q n r (without-Q m b)) length-old (length-take-le j (b .Q) (omega arith))

@@ -1,5 +1,6 @@
 pub mod Booleans
 pub mod Each
+pub mod Pairs
 pub mod Prime
 pub mod Inverse
 pub mod Power

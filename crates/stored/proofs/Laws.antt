@@ -1,11 +1,11 @@
 -- What a turn of each loop does to the lists.
 use mathlib.Core.Path.{_≡_, refl, sym, ap, _∙_}
-use mathlib.Core.List.{List, [], _∷_, _++_, append-assoc}
+use mathlib.Core.List.{List, [], _∷_, _++_}
 use Prim.Native.Nat.{ℕ, zero, suc, _+_, _*_, _-_, _≤_, _<_}
 use native.Mathlib.Nat.{not-suc-le-zero}
 use native.Mathlib.Omega.{arith}
-use lib.ListN.{length, take, drop, getD, set, length-drop, length-set}
-use lib.Seq.{take-suc, take-suc-set, getD-drop}
+use lib.ListN.{length, take, drop, getD, length-drop}
+use lib.Seq.{take-suc, getD-drop}
 use Rattle.records.specs.Records.{Rec, zero-record}
 use Rattle.stored.specs.Stored.{size-at, pairs-of, words-at, skip-to, polys-at}
 
@@ -27,17 +27,6 @@ pairs-of-take v k i h =
     ap (λ (j : ℕ). pairs-of (take j r)) (sym more)
     ∙ ap pairs-of (take-suc r i zero-record inside ∙ ap (λ (x : Rec). take i r ++ (x ∷ [])) (getD-drop k v i zero-record))
     ∙ pairs-of-append (take i r) (getD v (k + i) zero-record ∷ [])
-
--- A pair written behind the first k words.
-pub take-set-pair : (l : List ℕ) (i a b : ℕ) → 2 * i + 1 < length l
-    → take (2 * (i + 1)) (set (set l (2 * i) a) (2 * i + 1) b) ≡ take (2 * i) l ++ (a ∷ b ∷ [])
-take-set-pair l i a b h =
-    let once : suc (2 * i) ≡ 2 * i + 1 = omega arith in
-    let twice : suc (2 * i + 1) ≡ 2 * (i + 1) = omega arith in
-    ap (λ (k : ℕ). take k (set (set l (2 * i) a) (2 * i + 1) b)) (sym twice)
-    ∙ take-suc-set (set l (2 * i) a) (2 * i + 1) b (simp length-set h)
-    ∙ ap (λ (p : List ℕ). p ++ (b ∷ [])) (ap (λ (k : ℕ). take k (set l (2 * i) a)) (sym once) ∙ take-suc-set l (2 * i) a (omega arith))
-    ∙ append-assoc (take (2 * i) l) (a ∷ []) (b ∷ [])
 
 -- ── walking ──
 pub skip-turn : (v : List Rec) (i left : ℕ) → 0 < left → skip-to v i left ≡ skip-to v (i + 1 + size-at v i) (left - 1)

@@ -10,7 +10,8 @@ use native.Mathlib.Omega.{arith}
 use borrow.Author.Tests.{ltb-true, ltb-false}
 use lib.Dec.{ltb}
 use lib.ListN.{length, take, drop, getD, set, length-drop, length-set, drop-of-length-le}
-use lib.Seq.{drop-cons, paste, length-paste, take-paste, take-all, length-take-le, drop-set-lt, getD-set-other, set-getD}
+use lib.Seq.{paste, length-paste, take-paste, take-all, length-take-le, drop-set-lt, getD-set-other, set-getD}
+use Rattle.residues.specs.laws.Pairs.{drop-pair}
 use Rattle.residues.specs.Prime.{Prime}
 use Rattle.residues.specs.Residue.{inverse}
 use Rattle.polynomials.specs.Poly.{Poly, order, join, keep, add-multiple, difference, monic}
@@ -42,16 +43,6 @@ Word w = w < 256 ^ 8
 
 pub words-below : (w v : ℕ) → Word w → Word v → w < v → order (bytes 8 w) (bytes 8 v) ≡ Ordering·lt
 words-below w v h k l = order-bytes 8 w v h k ∙ compare-is w v Ordering·lt l
-
--- The two words at j and what stands behind them.
-pub drop-pair : (s : List ℕ) (j : ℕ) → j + 1 < length s → drop j s ≡ getD s j 0 ∷ (getD s (j + 1) 0 ∷ drop (j + 2) s)
-drop-pair s j h = drop-cons s j 0 (omega arith) ∙ ap (λ z. getD s j 0 ∷ z) (drop-cons s (suc j) 0 (omega arith) ∙ ap₂ (λ (u v : ℕ). getD s u 0 ∷ drop v s) one two)
-  where
-    one : suc j ≡ j + 1
-    one = omega arith
-
-    two : suc (suc j) ≡ j + 2
-    two = omega arith
 
 -- ── one turn, on polynomials: the first term of the multiple is c·a times the monomial m + w ──
 module _ (p c m a w : ℕ) (g : Poly) (small : Word (m + w)) (fit : Fits 8 m w) (eight : All (λ e. length e ≡ 8) g) (falls : Under (bytes 8 w) g) where

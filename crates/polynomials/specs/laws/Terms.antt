@@ -1,11 +1,11 @@
 -- The polynomial that pairs of words hold, by parts of the words: pairs taken, left out, read, and written at the end.
 use mathlib.Core.Path.{_≡_, refl, sym, _∙_, ap}
-use mathlib.Core.List.{List, [], _∷_, _++_, append-assoc}
+use mathlib.Core.List.{List, [], _∷_, _++_}
 use Prim.Native.Nat.{ℕ, zero, suc, _+_, _*_, _/_, _%_, _<_}
-use native.Mathlib.Numerals.{add-one}
 use native.Mathlib.Omega.{arith}
-use lib.ListN.{length, take, drop, getD, set, length-take, length-set}
-use lib.Seq.{take-suc-set, drop-cons, drop-nil}
+use lib.ListN.{length, take, drop, getD, set, length-take}
+use lib.Seq.{drop-nil}
+use Rattle.residues.specs.laws.Pairs.{drop-pair, take-set-pair}
 use Rattle.polynomials.specs.Packed.{term, terms}
 use Rattle.polynomials.specs.Working.{Pairs}
 
@@ -39,24 +39,9 @@ terms-drop (suc (suc n)) (c ∷ (m ∷ s)) h = terms-drop n s (omega arith) ∙ 
 -- The term at word i, and those behind it.
 pub terms-at : (s : List ℕ) (i : ℕ) → i + 1 < length s → terms (drop i s) ≡ term (getD s i 0) (getD s (i + 1) 0) ∷ terms (drop (i + 2) s)
 unfolding terms
-terms-at s i h = ap terms (drop-cons s i 0 (omega arith) ∙ ap (λ z. getD s i 0 ∷ z) second)
-  where
-    two : suc (suc i) ≡ i + 2
-    two = omega arith
-
-    second : drop (suc i) s ≡ getD s (i + 1) 0 ∷ drop (i + 2) s
-    second = drop-cons s (suc i) 0 (omega arith) ∙ ap (λ (j : ℕ). getD s j 0 ∷ drop (suc (suc i)) s) (sym (add-one i)) ∙ ap (λ (j : ℕ). getD s (i + 1) 0 ∷ drop j s) two
+terms-at s i h = ap terms (drop-pair s i h)
 
 -- A pair written behind k words.
 pub terms-push : (s : List ℕ) (k c m : ℕ) → k % 2 ≡ 0 → k + 1 < length s → terms (take (k + 2) (set (set s k c) (k + 1) m)) ≡ terms (take k s) ++ (term c m ∷ [])
 unfolding terms
-terms-push s k c m e h =
-    ap terms (ap (λ (j : ℕ). take j (set (set s k c) (k + 1) m)) up ∙ take-suc-set (set s k c) (k + 1) m (simp length-set (omega arith))
-    ∙ ap (λ z. z ++ (m ∷ [])) front ∙ append-assoc (take k s) (c ∷ []) (m ∷ []))
-    ∙ terms-append (take k s) (c ∷ (m ∷ [])) (simp length-take (omega arith))
-  where
-    up : k + 2 ≡ suc (k + 1)
-    up = omega arith
-
-    front : take (k + 1) (set s k c) ≡ take k s ++ (c ∷ [])
-    front = ap (λ (j : ℕ). take j (set s k c)) (add-one k) ∙ take-suc-set s k c (omega arith)
+terms-push s k c m e h = ap terms (take-set-pair s k c m h) ∙ terms-append (take k s) (c ∷ (m ∷ [])) (simp length-take (omega arith))

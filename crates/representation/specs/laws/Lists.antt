@@ -1,7 +1,7 @@
 -- Putting into the lists of a stored branch and taking out of them is what the rules do to the lists of polynomials; and what holds of each
 -- stored polynomial still does.
 use mathlib.Core.Path.{_≡_, refl, _∙_, ap, ap₂}
-use mathlib.Core.Logic.{_≢_, _↔_}
+use mathlib.Core.Logic.{_≢_}
 use mathlib.Core.List.{List, [], _∷_, _++_, map, map-append}
 use mathlib.Core.Bool.{Bool, true, false, _||_}
 use Prim.Native.Nat.{ℕ, zero, suc, _-_}
@@ -13,7 +13,7 @@ use Rattle.polynomials.specs.Poly.{Poly, monic}
 use Rattle.polynomials.specs.Packed.{terms}
 use Rattle.stored.specs.Stored.{member}
 use Rattle.rules.specs.Branch as rules
-use Rattle.branches.specs.laws.Words.{put-Q-before-in-parts, each-remove}
+use Rattle.branches.specs.laws.Words.{put-Q-before-in-parts}
 use Rattle.branches.specs.Words.{is-zero, is-one, unless, put-P, put-Q, put-Q-before, remove}
 use Rattle.representation.specs.Represent.{Sound, All-sound}
 use Rattle.representation.specs.laws.Tests.{is-zero-terms, is-one-terms, member-terms}
@@ -86,18 +86,6 @@ module _ (p : ℕ) where
   pub zero-sound : Sound p []
   unfolding terms
   zero-sound = record { holds = record { pairs = refl; few = omega arith; canonical = tt }; small = λ i. omega arith }
-
-  pub append-sound : (fs gs : List (List ℕ)) → All-sound p (fs ++ gs) ↔ (All-sound p fs × All-sound p gs)
-  append-sound = each-append (Sound p)
-
-  pub remove-sound : (i : ℕ) (fs : List (List ℕ)) → All-sound p fs → All-sound p (remove i fs)
-  remove-sound = each-remove (Sound p)
-
-  pub put-P-sound : (f : List ℕ) (fs : List (List ℕ)) → Sound p f → All-sound p fs → All-sound p (put-P f fs)
-  put-P-sound = each-put-P (Sound p)
-
-  pub put-Q-before-sound : (left : ℕ) (f : List ℕ) (fs : List (List ℕ)) → Sound p f → All-sound p fs → All-sound p (put-Q-before left f fs)
-  put-Q-before-sound = each-put-Q-before (Sound p)
 
   pub sound-at : (i : ℕ) (fs : List (List ℕ)) → All-sound p fs → Sound p (getD fs i [])
   sound-at i fs hs = each-at (Sound p) i fs zero-sound hs

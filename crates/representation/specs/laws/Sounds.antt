@@ -4,6 +4,7 @@ use mathlib.Core.List.{List, [], _∷_}
 use Prim.Native.Nat.{ℕ, zero, suc, _*_, _≤_, _<_}
 use native.Mathlib.Omega.{arith}
 use lib.ListN.{getD}
+use Rattle.branches.specs.laws.Words.{each-remove}
 use Rattle.polynomials.specs.Canonical.{Canonical}
 use Rattle.polynomials.specs.Packed.{terms}
 use Rattle.polynomials.specs.Working.{Pairs}
@@ -11,7 +12,7 @@ use Rattle.stored.specs.Stored.{Storable}
 use Rattle.branches.specs.Area.{Stored, empty, put-into-P, put-into-Q, without-P, without-Q, closed, aside, split-area}
 use Rattle.branches.specs.Words.{put-P, remove}
 use Rattle.representation.specs.Represent.{Sound, Branch-sound, Branches-sound, Area-sound}
-use Rattle.representation.specs.laws.Lists.{remove-sound, put-P-sound, put-Q-before-sound, sound-at}
+use Rattle.representation.specs.laws.Lists.{each-put-P, each-put-Q-before, sound-at}
 
 module _ (p : ℕ) where
   -- ── a branch ──
@@ -20,23 +21,23 @@ module _ (p : ℕ) where
 
   module _ (b : Stored) (h : Branch-sound p b) where
     pub put-into-P-sound : (f : List ℕ) → Sound p f → Branch-sound p (put-into-P f b)
-    put-into-P-sound f k = record { in-P = put-P-sound p f (b .P) k (h .in-P); in-Q = h .in-Q; in-T = h .in-T }
+    put-into-P-sound f k = record { in-P = each-put-P (Sound p) f (b .P) k (h .in-P); in-Q = h .in-Q; in-T = h .in-T }
 
     pub put-into-Q-sound : (left : ℕ) (f : List ℕ) → Sound p f → Branch-sound p (put-into-Q left f b)
-    put-into-Q-sound left f k = record { in-P = h .in-P; in-Q = put-Q-before-sound p left f (b .Q) k (h .in-Q); in-T = h .in-T }
+    put-into-Q-sound left f k = record { in-P = h .in-P; in-Q = each-put-Q-before (Sound p) left f (b .Q) k (h .in-Q); in-T = h .in-T }
 
     pub without-P-sound : (i : ℕ) → Branch-sound p (without-P i b)
-    without-P-sound i = record { in-P = remove-sound p i (b .P) (h .in-P); in-Q = h .in-Q; in-T = h .in-T }
+    without-P-sound i = record { in-P = each-remove (Sound p) i (b .P) (h .in-P); in-Q = h .in-Q; in-T = h .in-T }
 
     pub without-Q-sound : (i : ℕ) → Branch-sound p (without-Q i b)
-    without-Q-sound i = record { in-P = h .in-P; in-Q = remove-sound p i (b .Q) (h .in-Q); in-T = h .in-T }
+    without-Q-sound i = record { in-P = h .in-P; in-Q = each-remove (Sound p) i (b .Q) (h .in-Q); in-T = h .in-T }
 
     pub closed-sound : (i : ℕ) → Branch-sound p (closed i b)
-    closed-sound i = record { in-P = remove-sound p i (b .P) (h .in-P); in-Q = h .in-Q; in-T = (sound-at p i (b .P) (h .in-P), h .in-T) }
+    closed-sound i = record { in-P = each-remove (Sound p) i (b .P) (h .in-P); in-Q = h .in-Q; in-T = (sound-at p i (b .P) (h .in-P), h .in-T) }
 
     pub aside-sound : (i : ℕ) (ini rst : List ℕ) → Sound p ini → Sound p rst → Branch-sound p (aside i ini rst b)
     aside-sound i ini rst k m = record {
-      in-P = put-P-sound p rst (put-P ini (remove i (b .P))) m (put-P-sound p ini (remove i (b .P)) k (remove-sound p i (b .P) (h .in-P)));
+      in-P = each-put-P (Sound p) rst (put-P ini (remove i (b .P))) m (each-put-P (Sound p) ini (remove i (b .P)) k (each-remove (Sound p) i (b .P) (h .in-P)));
       in-Q = h .in-Q;
       in-T = h .in-T;
     }

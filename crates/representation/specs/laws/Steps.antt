@@ -19,10 +19,10 @@ use Rattle.rules.specs.Rule.{drop, list, split}
 use Rattle.rules.specs.Step.{Stepped, next, stopped, within-room, split-open, split-aside, divided, state, apply}
 use Rattle.rules.specs.laws.Lists.{At}
 use Rattle.branches.specs.Words.{put-P, put-Q-before, remove}
-use Rattle.branches.specs.laws.Words.{put-Q-before-none}
+use Rattle.branches.specs.laws.Words.{put-Q-before-none, each-remove}
 use Rattle.branches.specs.Area.{Stored, Area, size, with-open, put-into-P, without-P, split-area}
 use Rattle.representation.specs.Represent.{All-listed, branch-of, system-of, state-of, chosen, Sound, Branch-sound}
-use Rattle.representation.specs.laws.Lists.{map-remove, map-put-P, map-put-Q, remove-sound, put-P-sound}
+use Rattle.representation.specs.laws.Lists.{map-remove, map-put-P, map-put-Q, each-put-P}
 use Rattle.representation.specs.laws.Sizes.{room-of-count, size-live}
 
 -- ── room ──
@@ -88,8 +88,8 @@ module _ (l : Limits) (p : ℕ) (b : Stored) (bs ss : List Stored) where
 
         in-P : map terms (put-P rst (put-P ini (remove i (b .P)))) ≡ rules.put-P p (rest k (chosen b i .poly)) (rules.put-P p (initial k (chosen b i .poly)) (rules.remove i (map terms (b .P))))
         in-P =
-            let left = remove-sound p i (b .P) (sound .in-P) in
-            map-put-P p rst (rest k (chosen b i .poly)) sound-rst of-rst (put-P ini (remove i (b .P))) (put-P-sound p ini (remove i (b .P)) sound-ini left)
+            let left = each-remove (Sound p) i (b .P) (sound .in-P) in
+            map-put-P p rst (rest k (chosen b i .poly)) sound-rst of-rst (put-P ini (remove i (b .P))) (each-put-P (Sound p) ini (remove i (b .P)) sound-ini left)
             ∙ ap (rules.put-P p (rest k (chosen b i .poly)))
             (map-put-P p ini (initial k (chosen b i .poly)) sound-ini monic-ini (remove i (b .P)) left ∙ ap (rules.put-P p (initial k (chosen b i .poly))) (map-remove i (b .P)))
 
@@ -110,5 +110,5 @@ module _ (l : Limits) (p : ℕ) (b : Stored) (bs ss : List Stored) where
       where
         in-P : map terms (put-P r (remove (g .place) (b .P))) ≡ rules.put-P p R (rules.remove (g .place) (map terms (b .P)))
         in-P =
-            map-put-P p r R sound-r of-r (remove (g .place) (b .P)) (remove-sound p (g .place) (b .P) (sound .in-P))
+            map-put-P p r R sound-r of-r (remove (g .place) (b .P)) (each-remove (Sound p) (g .place) (b .P) (sound .in-P))
             ∙ ap (rules.put-P p R) (map-remove (g .place) (b .P))

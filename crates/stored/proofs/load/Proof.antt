@@ -5,10 +5,11 @@ use Prim.Native.Nat.{ℕ, _+_, _*_, _-_, _≤_}
 use native.Mathlib.Omega.{arith}
 use lib.ListN.{length, take, drop, set, length-set}
 use lib.Seq.{drop-set-lt}
+use Rattle.residues.specs.laws.Pairs.{take-set-pair}
 use Rattle.records.specs.Records.{view}
 use Rattle.records.proofs.Rows.{length-view}
 use Rattle.stored.specs.Stored.{size-at, pairs-of, words-at}
-use Rattle.stored.proofs.Laws.{pairs-of-take, take-set-pair}
+use Rattle.stored.proofs.Laws.{pairs-of-take}
 use Rattle.stored.proofs.load.Statement.{statement}
 use Rattle.stored.proofs.load.Tie as tie
 
@@ -86,10 +87,12 @@ loop-again c =
     let out = turn .loop .out in
     let n = turn .before .get0 .result in
     let x = c .before .get02 .result in
-    let y = c .monomial .result in (
+    let y = c .monomial .result in
+    let twice : 2 * (i + 1) ≡ 2 * i + 2 = omega arith in (
       omega arith,
       simp length-set (turn .loop .inv .1),
-      take-set-pair out i x y (omega arith)
+      ap (λ (k : ℕ). take k (set (set out (2 * i) x) (2 * i + 1) y)) twice
+          ∙ take-set-pair out (2 * i) x y (omega arith)
           ∙ (λ t. turn .loop .inv .2 t ++ (c .before .get02 .ensures t ∷ c .monomial .ensures t ∷ []))
           ∙ sym (pairs-of-take v (a .at + 1) i (omega (arith, length-view (a .w .now)))),
       drop-set-lt (2 * n) (set out (2 * i) x) (2 * i + 1) y (omega arith) ∙ drop-set-lt (2 * n) out (2 * i) x (omega arith) ∙ turn .loop .inv .3,

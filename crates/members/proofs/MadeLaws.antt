@@ -4,7 +4,7 @@ use mathlib.Core.List.{List, [], _∷_, _++_}
 use Prim.Native.Nat.{ℕ, zero, suc, _%_, _≤_, _<_}
 use native.Mathlib.Omega.{arith}
 use lib.ListN.{length, getD, take, drop, length-append}
-use lib.Seq.{length-take-le, take-at}
+use lib.Seq.{length-take-le, take-at, drop-at}
 use Rattle.residues.specs.Prime.{Prime}
 use Rattle.polynomials.specs.Poly.{monic}
 use Rattle.polynomials.specs.Canonical.{Canonical}
@@ -33,6 +33,9 @@ module _ {p n : ℕ} {r m : List ℕ} (M : Made p n r m) where
 
   made : take n (m ++ drop n r) ≡ m
   made = take-at m (drop n r) n long
+
+  pub made-behind : drop n (m ++ drop n r) ≡ drop n r
+  made-behind = drop-at m (drop n r) n long
 
   pub made-length : n ≡ length (take n (m ++ drop n r))
   made-length = sym (ap length made ∙ long)

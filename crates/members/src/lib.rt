@@ -46,7 +46,8 @@ pub fn put_back(w: &mut [u32], p: u64, closing: bool, left: usize, r: &mut [u64]
     requires { ⌜ Opened (now w) × Modulus p ⌝ }
     requires { ⌜ When-open (now w) (λ b bs ss. Has-behind closing left b) ⌝ }
     requires { ⌜ (n ≤ length (now r)) × Holds p (take n (now r)) ⌝ }
-    ensures { λ _. ⌜ Sound p (take n (now (r .exit))) × (terms (take n (now (r .exit))) ≡ monic p (terms (take n (now (r .entry))))) ⌝ }
+    ensures { λ _. ⌜ Sound p (take n (now (r .exit))) × (terms (take n (now (r .exit))) ≡ monic p (terms (take n (now (r .entry)))))
+        × (drop n (now (r .exit)) ≡ drop n (now (r .entry))) ⌝ }
     ensures { λ k. ⌜ When-open (now (w .entry)) (λ b bs ss.
         Leaves (capacity (now (w .entry))) (with-open (put-in closing left (take n (now (r .exit))) b) bs ss) k (view (now (w .exit)))) ⌝ }
 {

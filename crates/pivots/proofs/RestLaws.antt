@@ -8,7 +8,7 @@ use native.Mathlib.Omega.{arith}
 use lib.Dec.{eqb}
 use borrow.Author.Tests.{eqb-true, eqb-false}
 use lib.ListN.{length, getD, take, drop, length-drop}
-use lib.Seq.{paste, take-paste, take-all, length-paste}
+use lib.Seq.{paste, take-paste, drop-paste, take-all, length-paste}
 use Rattle.polynomials.specs.Poly.{Poly}
 use Rattle.polynomials.specs.Canonical.{Canonical, All}
 use Rattle.polynomials.specs.Division.{degree, leader, initial, rest, coefficient, without}
@@ -47,11 +47,12 @@ behind-initial : (p k : ℕ) (f : Poly) → Canonical p f → Places 8 f → lea
 behind-initial p k f c u led =
     behind p k (degree k f) f c u (λ j l. above-leader f j (omega (arith, led))) (all-degree k (degree k f) f (omega arith))
 
--- The first n words of y are the rest of t.
-pub record Rest-in (p k : ℕ) (t y : List ℕ) (n : ℕ) : Type 0 where
+-- The first n words of y are the rest of t, and those behind are still r's.
+pub record Rest-in (p k : ℕ) (t r y : List ℕ) (n : ℕ) : Type 0 where
   pub inside : n ≤ length y
   pub is : terms (take n y) ≡ rest k (terms t)
   pub holds : Holds p (take n y)
+  pub behind : drop n y ≡ drop n r
 
 -- t is led by v(k+1), and i is its initial.
 module _ (p k : ℕ) (t i : List ℕ) (c : Canonical p (terms t)) (led : leader (terms t) ≡ k + 1) (u : Pairs t) (v : Pairs i)
@@ -85,13 +86,21 @@ module _ (p k : ℕ) (t i : List ℕ) (c : Canonical p (terms t)) (led : leader 
         ∙ take-paste r 0 (drop (length i) t) (length t - length i) (omega arith) (omega (arith, left))
         ∙ take-all (length t - length i) (drop (length i) t) (omega (arith, left))
 
+    behind-copied : drop (length t - length i) y ≡ drop (length t - length i) r
+    behind-copied =
+        let n : length t - length i ≡ 0 + (length t - length i) = omega arith in
+        ap (drop (length t - length i)) copied
+        ∙ ap (λ (n : ℕ). drop n (paste r 0 (drop (length i) t) (length t - length i))) n
+        ∙ drop-paste r 0 (drop (length i) t) (length t - length i) (omega arith) (omega (arith, left))
+        ∙ ap (λ (n : ℕ). drop n r) (sym n)
+
     is-rest : terms (take (length t - length i) y) ≡ rest k (terms t)
     is-rest = ap terms first ∙ rest-behind
 
     pasted : length (paste r 0 (drop (length i) t) (length t - length i)) ≡ length r
     pasted = length-paste r 0 (drop (length i) t) (length t - length i) (omega (arith, few, room)) (omega (arith, left))
 
-    pub rest-in : Rest-in p k t y (length t - length i)
+    pub rest-in : Rest-in p k t r y (length t - length i)
     rest-in = record {
       inside = omega (arith, few, room, ap length copied, pasted);
       is = is-rest;
@@ -100,4 +109,5 @@ module _ (p k : ℕ) (t i : List ℕ) (c : Canonical p (terms t)) (led : leader 
         few = omega (arith, ap length first, left, few);
         canonical = subst (Canonical p) (sym is-rest) (canonical-rest p k (terms t) c);
       };
+      behind = behind-copied;
     }

@@ -15,7 +15,7 @@ ghost use Rattle.rules.specs.Branch.{other};
 ghost use Rattle.heads.specs.Heads.{All-hold};
 ghost use Rattle.representation.specs.Represent.{Sound, branch-of};
 ghost use Rattle.representation.specs.Ready.{Modulus};
-ghost use Rattle.pivots.specs.Aimed.{rest-words, division-of, aimed};
+ghost use Rattle.pivots.specs.Aimed.{rest-words, behind-rest, division-of, aimed};
 use search::Other;
 
 // What a rule leaves to be divided by the pivot, whose words and whose initial's are so many: at rule 5 the last `left` members of Q, and at rule 4
@@ -98,7 +98,8 @@ pub fn apply_split(
     requires { ⌜ When-open (now w) (λ b bs ss.
         (place < length (b .P)) × (getD (b .P) place [] ≡ now t) × (is-one (now i) ≡ false) × (member (now i) (b .Q) ≡ false)) ⌝ }
     ensures { λ _. ⌜ Sound p (rest-words (now (t .entry)) (now (i .entry)) (now (r .exit)))
-        × (terms (rest-words (now (t .entry)) (now (i .entry)) (now (r .exit))) ≡ monic p (rest k (terms (now (t .entry))))) ⌝ }
+        × (terms (rest-words (now (t .entry)) (now (i .entry)) (now (r .exit))) ≡ monic p (rest k (terms (now (t .entry)))))
+        × (behind-rest (now (t .entry)) (now (i .entry)) (now (r .exit)) ≡ behind-rest (now (t .entry)) (now (i .entry)) (now (r .entry))) ⌝ }
     ensures { λ q. ⌜ When-open (now (w .entry)) (λ b bs ss.
         Leaves (capacity (now (w .entry))) (split-area place (now (i .entry)) (rest-words (now (t .entry)) (now (i .entry)) (now (r .exit))) b bs ss)
         q (view (now (w .exit)))) ⌝ }

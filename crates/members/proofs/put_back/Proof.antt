@@ -11,7 +11,7 @@ use Rattle.polynomials.specs.Packed.{terms}
 use Rattle.stored.specs.Stored.{Storable}
 use Rattle.representation.specs.Represent.{Sound}
 use Rattle.representation.specs.laws.Sounds.{sound-storable}
-use Rattle.members.proofs.MadeLaws.{Made, made-length, made-monic, made-sound}
+use Rattle.members.proofs.MadeLaws.{Made, made-behind, made-length, made-monic, made-sound}
 use Rattle.members.proofs.TakeLaws.{behind, put-by}
 use Rattle.members.proofs.put_back.Statement.{statement}
 use Rattle.members.proofs.put_back.Tie as tie
@@ -83,7 +83,7 @@ returns : tie.Need-returns
 returns c =
     let e = c .before .before .before .before .before in
     let a = e .before in (
-      (sound-of a, monic-of a),
+      (sound-of a, monic-of a, made-behind (is-made a)),
       (λ b bs ss H. put-by (start a .args .left) b bs ss _ _ _ (words a) (e .if1 .taken) (c .before .before .put-q .ensures b bs ss H)),
     )
 
@@ -107,7 +107,7 @@ returns-2 : tie.Need-returns-2
 returns-2 c =
     let e = c .before .before .before .before .before in
     let a = e .before in (
-      (sound-of a, monic-of a),
+      (sound-of a, monic-of a, made-behind (is-made a)),
       (λ b bs ss H. put-by (start a .args .left) b bs ss _ _ _ (words a) (e .if1 .left) (c .before .before .put-p .ensures b bs ss H)),
     )
 

@@ -12,7 +12,7 @@ use Rattle.polynomials.specs.Packed.{terms}
 use Rattle.stored.specs.Stored.{Storable}
 use Rattle.representation.specs.Represent.{Sound}
 use Rattle.representation.specs.laws.Sounds.{sound-storable}
-use Rattle.members.proofs.MadeLaws.{Made, made-length, made-monic, made-sound}
+use Rattle.members.proofs.MadeLaws.{Made, made-behind, made-length, made-monic, made-sound}
 use Rattle.pivots.proofs.RestLaws.{Rest-in, rest-in, initial-inside}
 use Rattle.pivots.proofs.apply_split.Statement.{statement}
 use Rattle.pivots.proofs.apply_split.Tie as tie
@@ -43,7 +43,7 @@ module _ (c : tie.After-slice-known3) where
   abbrev copied : List ℕ
   copied = c .before .before .copy .last .1 .1 .0
 
-  the-rest : Rest-in p k T copied l
+  the-rest : Rest-in p k T (start .args .r .now) copied l
   the-rest =
       let s = start in
       let t = s .pre .1 .0 .0 .holds in
@@ -115,7 +115,7 @@ same-length-2 : tie.Need-same-length-2
 same-length-2 c = search needs
 
 returns : tie.Need-returns
-returns c = let a = c .before .before .before .before .before in ((is-sound a, is-monic a), c .before .before .split .ensures)
+returns c = let a = c .before .before .before .before .before in ((is-sound a, is-monic a, made-behind (is-made a) ∙ the-rest (before-it a) .behind), c .before .before .split .ensures)
 
 pub apply-split-spec : {M : Type 1} → statement M
 apply-split-spec =

@@ -1,5 +1,5 @@
 -- What lies inside a work area, and what words of one length hold.
-use mathlib.Core.Path.{_≡_, ap, subst}
+use mathlib.Core.Path.{_≡_, ap, subst, transport}
 use mathlib.Core.Bool.{Bool}
 use mathlib.Core.List.{List}
 use Prim.Native.Nat.{ℕ, _/_, _≤_, _<_, min}
@@ -21,6 +21,6 @@ still-inside w w₁ h e = omega arith
 pub held-by : (v : List Rec) (a : Area) (xs ys : List ℕ) → length xs ≡ length ys → Held v (capacity xs) a → Held v (capacity ys) a
 held-by v a xs ys e H = subst (λ (n : ℕ). Held v n a) (same-capacity xs ys e) H
 
-pub left-by : (v : List Rec) (r : Bool) (a a' : Area) (xs ys : List ℕ) → length xs ≡ length ys → a ≡ a'
-    → Leaves (capacity xs) a r v → Leaves (capacity ys) a' r v
-left-by v r a a' xs ys e f L = subst (λ (x : Area). Leaves (capacity ys) x r v) f (subst (λ (n : ℕ). Leaves n a r v) (same-capacity xs ys e) L)
+pub left-by : (v : List Rec) (r : Bool) {a₀ a₀' a a' : Area} (xs ys : List ℕ) → length xs ≡ length ys → a₀ ≡ a₀' → a ≡ a'
+    → Leaves (capacity xs) a₀ a r v → Leaves (capacity ys) a₀' a' r v
+left-by v r xs ys e f₀ f L = transport (λ k. Leaves (same-capacity xs ys e k) (f₀ k) (f k) r v) L

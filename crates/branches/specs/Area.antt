@@ -61,10 +61,11 @@ pub record Held (v : List Rec) (most : ℕ) (a : Area) : Type 0 where
   pub few : most ≤ 65536
   pub storable : Each Storable-branch (a .branches) × Each Storable-branch (a .systems)
 
--- An operation that may find no room: it answers whether the state fits, and leaves it if so.
-pub record Leaves (most : ℕ) (a : Area) (r : Bool) (v : List Rec) : Type 0 where
+-- An operation that may find no room for the state a: it answers whether a fits, and leaves a if so, and otherwise a₀.
+pub record Leaves (most : ℕ) (a₀ a : Area) (r : Bool) (v : List Rec) : Type 0 where
   pub answer : r ≡ leb (size a) most
   pub held : r ≡ true → Held v most a
+  pub kept : r ≡ false → Held v most a₀
 
 abbrev pub empty : Stored
 empty = record { P = []; Q = []; T = [] }
@@ -106,6 +107,16 @@ kept-open i n f initial c =
 -- The state after a split.
 abbrev pub split-area : ℕ → List ℕ → List ℕ → Stored → List Stored → List Stored → Area
 split-area i initial rest b bs ss = record { branches = put-into-Q 0 initial b ∷ (aside i initial rest b ∷ bs); systems = ss }
+
+-- The state a if so many records hold it, and otherwise a₀.
+abbrev pub fitting : ℕ → Area → Area → Area
+fitting most a a₀ = elim (leb (size a) most) [ true ↦ a | false ↦ a₀ ]
+
+-- The state in which a split that finds no room stops: the pivot is taken out of P; then, as far as there is room, the initial is put in and then the rest.
+abbrev pub unfinished-split : ℕ → ℕ → List ℕ → List ℕ → Stored → List Stored → List Stored → Area
+unfinished-split most i initial rest b bs ss =
+    fitting most (with-open (aside i initial rest b) bs ss)
+    (fitting most (with-open (put-into-P initial (without-P i b)) bs ss) (with-open (without-P i b) bs ss))
 
 -- ── what a lent work area holds, before and after a call ──
 -- The words hold the state a.

@@ -86,7 +86,8 @@ filled-not {most = most} {c = c} {d = d} x h =
 -- ── one polynomial put ──
 -- s, put into whatever branch is open, is put so.
 abbrev pub Puts : List Rec → ℕ → Bool → List ℕ → Bool → List Rec → Type 0
-Puts v most q s r u = (b : Stored) (bs ss : List Stored) → Held v most (with-open b bs ss) → Leaves most (with-open (put-into q s b) bs ss) r u
+Puts v most q s r u =
+    (b : Stored) (bs ss : List Stored) → Held v most (with-open b bs ss) → Leaves most (with-open b bs ss) (with-open (put-into q s b) bs ss) r u
 
 module _ (p : ℕ) (s : List ℕ) (f : Poly) (sound : Sound p s) (is-monic : Monic (terms s)) (e : terms s ≡ monic p f) where
   put-branch : (q : Bool) (b : Stored) → Branch-sound p b → branch-of (put-into q s b) ≡ put-heads q p (f ∷ []) (branch-of b)

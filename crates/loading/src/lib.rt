@@ -49,7 +49,7 @@ fn put_one(work: &mut [u32], f: &[u64], in_q: bool) -> bool
     requires { ⌜ Opened (now work) ⌝ }
     requires { ⌜ Storable (now f) ⌝ }
     ensures { λ r. ⌜ When-open (now (work .entry)) (λ b bs ss.
-        Leaves (capacity (now (work .entry))) (with-open (put-into in_q (now (f .entry)) b) bs ss) r (view (now (work .exit)))) ⌝ }
+        Leaves (capacity (now (work .entry))) (with-open b bs ss) (with-open (put-into in_q (now (f .entry)) b) bs ss) r (view (now (work .exit)))) ⌝ }
 {
     if in_q {
         return puts::put_q(work, 0, f);

@@ -39,7 +39,7 @@ behind left b e h = subst (λ q. Has-behind q left b) e h
 module _ (left : ℕ) (b : Stored) (bs ss : List Stored) (k : Bool) (v : List Rec) (most : ℕ) (f : List ℕ) where
   -- The words f are put into P or Q.
   abbrev Put : Bool → Type 0
-  Put closing = Leaves most (with-open (put-in closing left f b) bs ss) k v
+  Put closing = Leaves most (with-open b bs ss) (with-open (put-in closing left f b) bs ss) k v
 
   pub put-by : {closing o : Bool} → closing ≡ o → Put o → Put closing
   put-by e u = subst Put (sym e) u

@@ -49,7 +49,7 @@ pub fn put_back(w: &mut [u32], p: u64, closing: bool, left: usize, r: &mut [u64]
     ensures { λ _. ⌜ Sound p (take n (now (r .exit))) × (terms (take n (now (r .exit))) ≡ monic p (terms (take n (now (r .entry)))))
         × (drop n (now (r .exit)) ≡ drop n (now (r .entry))) ⌝ }
     ensures { λ k. ⌜ When-open (now (w .entry)) (λ b bs ss.
-        Leaves (capacity (now (w .entry))) (with-open (put-in closing left (take n (now (r .exit))) b) bs ss) k (view (now (w .exit)))) ⌝ }
+        Leaves (capacity (now (w .entry))) (with-open b bs ss) (with-open (put-in closing left (take n (now (r .exit))) b) bs ss) k (view (now (w .exit)))) ⌝ }
 {
     sums::monic(p, &mut r[..n]);
     if closing {

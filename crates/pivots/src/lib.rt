@@ -10,7 +10,7 @@ ghost use Rattle.polynomials.specs.Division.{degree, leader, initial, rest};
 ghost use Rattle.records.specs.Records.{view};
 ghost use Rattle.stored.specs.Stored.{Storable, member};
 ghost use Rattle.branches.specs.Words.{is-one};
-ghost use Rattle.branches.specs.Area.{Held, Leaves, Opened, capacity, with-open, split-area, When-open};
+ghost use Rattle.branches.specs.Area.{Held, Leaves, Opened, capacity, with-open, split-area, unfinished-split, When-open};
 ghost use Rattle.rules.specs.Branch.{other};
 ghost use Rattle.heads.specs.Heads.{All-hold};
 ghost use Rattle.representation.specs.Represent.{Sound, branch-of};
@@ -101,8 +101,9 @@ pub fn apply_split(
         × (terms (rest-words (now (t .entry)) (now (i .entry)) (now (r .exit))) ≡ monic p (rest k (terms (now (t .entry)))))
         × (behind-rest (now (t .entry)) (now (i .entry)) (now (r .exit)) ≡ behind-rest (now (t .entry)) (now (i .entry)) (now (r .entry))) ⌝ }
     ensures { λ q. ⌜ When-open (now (w .entry)) (λ b bs ss.
-        Leaves (capacity (now (w .entry))) (split-area place (now (i .entry)) (rest-words (now (t .entry)) (now (i .entry)) (now (r .exit))) b bs ss)
-        q (view (now (w .exit)))) ⌝ }
+        Leaves (capacity (now (w .entry)))
+        (unfinished-split (capacity (now (w .entry))) place (now (i .entry)) (rest-words (now (t .entry)) (now (i .entry)) (now (r .exit))) b bs ss)
+        (split-area place (now (i .entry)) (rest-words (now (t .entry)) (now (i .entry)) (now (r .exit))) b bs ss) q (view (now (w .exit)))) ⌝ }
 {
     let m = i.len();
     let l = t.len() - m;

@@ -64,11 +64,12 @@ pub size-free : {v : List Rec} {most : ℕ} {a : Area} (H : Held v most a) → s
 unfolding size
 size-free H = omega (arith, H .fits)
 
-pub leaves-held : {v : List Rec} {most : ℕ} {a : Area} → Held v most a → Leaves most a true v
-leaves-held {v} {most} {a} H = record { answer = sym (le-leb (size a) most (omega (arith, size-free H))); held = λ e. H }
+pub leaves-held : {v : List Rec} {most : ℕ} {a₀ a : Area} → Held v most a → Leaves most a₀ a true v
+leaves-held {v} {most} {a = a} H =
+    record { answer = sym (le-leb (size a) most (omega (arith, size-free H))); held = λ e. H; kept = λ e. absurd (false≢true (sym e)) }
 
-pub held-left : {v : List Rec} {most : ℕ} {a : Area} {r : Bool} → Leaves most a r v → size a ≤ most → Held v most a
-held-left {most = most} {a} L h = L .held (L .answer ∙ le-leb (size a) most h)
+pub held-left : {v : List Rec} {most : ℕ} {a₀ a : Area} {r : Bool} → Leaves most a₀ a r v → size a ≤ most → Held v most a
+held-left {most = most} {a = a} L h = L .held (L .answer ∙ le-leb (size a) most h)
 
 module _ {v : List Rec} {most : ℕ} {b : Stored} {bs ss : List Stored} (H : Held v most (with-open b bs ss)) where
   -- One more than a count of the open branch fits a word.
@@ -126,11 +127,12 @@ module _ {v : List Rec} {most : ℕ} {b : Stored} {bs ss : List Stored} (H : Hel
       end-inside = end-le-top H read e'
 
       pub no-room : {c : Stored} {xs : List (List ℕ)} {f : List ℕ} {ys : List (List ℕ)} → More b c xs f ys → top - end < length f / 2 + 1
-          → Leaves most (with-open c bs ss) false v
+          → Leaves most (with-open b bs ss) (with-open c bs ss) false v
       no-room {c} m h =
           record {
             answer = sym (lt-leb (size (with-open c bs ss)) most (omega (arith, more-size m bs ss, size-free H, over-free H read e' h)));
             held = λ e. absurd (false≢true e);
+            kept = λ e. H;
           }
 
     module _ {c : Stored} {xs : List (List ℕ)} {f : List ℕ} {ys : List (List ℕ)} (m : More b c xs f ys) {to : ℕ} (there : to ≡ behind bs xs)

@@ -1,17 +1,19 @@
 // A polynomial put in among those of the open branch, or taken out, at a record that is known.
 ghost use mathlib.Core.Path.{_≡_};
+ghost use mathlib.Core.List.{List};
 ghost use Prim.Native.Nat.{_<_};
 ghost use lib.ListN.{getD};
 ghost use Rattle.records.specs.Records.{room, view, zero-record};
 ghost use Rattle.stored.specs.Stored.{Storable};
-ghost use Rattle.branches.specs.Area.{Held, Leaves, capacity};
+ghost use Rattle.branches.specs.Area.{Stored, Held, Leaves, capacity, with-open};
 ghost use Rattle.places.specs.Places.{Put-at, Take-at, Some-open, Each-open, resized};
 
 // Puts f in at record `to`, so that P, Q and T have p, q and t members; whether there is room.
 pub fn put_at(w: &mut [u32], to: usize, f: &[u64], p: u32, q: u32, t: u32) -> bool
     requires { ⌜ Storable (now f) ⌝ }
     requires { ⌜ Some-open (Put-at (now w) to (now f) p q t) ⌝ }
-    ensures { λ r. ⌜ Each-open (Put-at (now (w .entry)) to (now (f .entry)) p q t) (λ a. Leaves (capacity (now (w .entry))) a r (view (now (w .exit)))) ⌝ }
+    ensures { λ r. ⌜ ((c : Stored) (bs ss : List Stored) (put : Put-at (now (w .entry)) to (now (f .entry)) p q t c bs ss)
+        → Leaves (capacity (now (w .entry))) (with-open (put .b) bs ss) (with-open c bs ss) r (view (now (w .exit)))) ⌝ }
 {
     let end = records::get1(w, 0) as usize;
     let top = records::get2(w, 0) as usize;

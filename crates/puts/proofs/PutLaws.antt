@@ -16,7 +16,7 @@ use Rattle.places.specs.Places.{More, Counts}
 use Rattle.places.proofs.PlaceLaws.{leaves-held}
 
 pub leaves-same : {v : List Rec} {most : ℕ} {b : Stored} {bs ss : List Stored} → Held v most (with-open b bs ss) → (c : Stored) → b ≡ c
-    → Leaves most (with-open c bs ss) true v
+    → Leaves most (with-open b bs ss) (with-open c bs ss) true v
 leaves-same {v} {most} {bs = bs} {ss} H c e = leaves-held (subst (λ (x : Stored). Held v most (with-open x bs ss)) e H)
 
 -- ── P ──

@@ -10,7 +10,7 @@ pub fn put_p(w: &mut [u32], f: &[u64]) -> bool
     requires { ⌜ Opened (now w) ⌝ }
     requires { ⌜ Storable (now f) ⌝ }
     ensures { λ r. ⌜ When-open (now (w .entry)) (λ b bs ss.
-        Leaves (capacity (now (w .entry))) (with-open (put-into-P (now (f .entry)) b) bs ss) r (view (now (w .exit)))) ⌝ }
+        Leaves (capacity (now (w .entry))) (with-open b bs ss) (with-open (put-into-P (now (f .entry)) b) bs ss) r (view (now (w .exit)))) ⌝ }
 {
     let at = records::get0(w, 0) as usize;
     let p = records::get0(w, at);
@@ -32,7 +32,7 @@ pub fn put_q(w: &mut [u32], left: usize, f: &[u64]) -> bool
     requires { ⌜ When-open (now w) (λ b bs ss. left ≤ length (b .Q)) ⌝ }
     requires { ⌜ Storable (now f) ⌝ }
     ensures { λ r. ⌜ When-open (now (w .entry)) (λ b bs ss.
-        Leaves (capacity (now (w .entry))) (with-open (put-into-Q left (now (f .entry)) b) bs ss) r (view (now (w .exit)))) ⌝ }
+        Leaves (capacity (now (w .entry))) (with-open b bs ss) (with-open (put-into-Q left (now (f .entry)) b) bs ss) r (view (now (w .exit)))) ⌝ }
 {
     let at = records::get0(w, 0) as usize;
     let p = records::get0(w, at);

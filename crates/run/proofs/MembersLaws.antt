@@ -108,7 +108,7 @@ pub record PutBack (p : ℕ) (closing : Bool) (left : ℕ) (s u w : List ℕ) (q
   pub monic-of : terms u ≡ monic p (terms s)
   pub puts :
       (b : Stored) (bs ss : List Stored) → Held-in w (with-open b bs ss)
-      → Leaves (capacity w) (with-open (put-in closing left u b) bs ss) q (view v)
+      → Leaves (capacity w) (with-open b bs ss) (with-open (put-in closing left u b) bs ss) q (view v)
 
 -- What is left of the step comes to S, from whatever state was held where the loop began.
 abbrev pub Comes-to : ℕ → ℕ → Poly → Bool → ℕ → ℕ → List ℕ → Stepped → Type 0
@@ -209,10 +209,10 @@ module _ {p k : ℕ} {f : Poly} {closing : Bool} {place left₀ : ℕ} {w₀ w :
         abbrev after : Stored
         after = put-in closing (left - 1) u (taken-out closing place left b)
 
-        was-put : Leaves (capacity w₀) (with-open after bs ss) q (view v)
+        was-put : Leaves (capacity w₀) (with-open (taken-out closing place left b) bs ss) (with-open after bs ss) q (view v)
         was-put =
             let c = taken-out closing place left b in
-            subst (λ (m : ℕ). Leaves m (with-open after bs ss) q (view v)) member-cap
+            subst (λ (m : ℕ). Leaves m (with-open c bs ss) (with-open after bs ss) q (view v)) member-cap
             (B .puts c bs ss (subst (λ (m : ℕ). Held (view w) m (with-open c bs ss)) (sym member-cap) (T .2)))
 
         ready-after : Ready p (with-open after bs ss)

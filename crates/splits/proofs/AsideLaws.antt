@@ -1,10 +1,11 @@
--- The branch set aside at a split: the one that stays open is what the split's definition says, and a state that finds no room on the way has none at the end.
-use mathlib.Core.Path.{_≡_, refl, sym, ap, _∙_}
-use mathlib.Core.Bool.{Bool, true, false, _||_}
+-- The branch set aside at a split: the one that stays open is what the split's definition says; a state that finds no room on the way has none at the end;
+-- and where the split stops then.
+use mathlib.Core.Path.{_≡_, refl, sym, ap, subst, _∙_}
+use mathlib.Core.Bool.{Bool, true, false, _||_, false≢true}
 use mathlib.Core.List.{List, [], _∷_, _++_, append-assoc, append-nil}
 use Prim.Native.Nat.{ℕ, suc, _+_, _-_, _≤_, _<_}
 use native.Mathlib.Omega.{arith}
-use borrow.Author.Tests.{leb-false, lt-leb}
+use borrow.Author.Tests.{leb-true, leb-false, le-leb, lt-leb}
 use lib.ListN.{length, take, drop, getD, length-append, length-drop}
 use lib.Seq.{take-at, drop-at, length-take-le, split-at}
 use Rattle.records.specs.Records.{Rec}
@@ -13,7 +14,7 @@ use Rattle.stored.specs.laws.Stored.{polys-records-append}
 use Rattle.branches.specs.Words.{put-P, remove, unless, is-zero, is-one}
 use Rattle.branches.specs.laws.Words.{put-Q-before-none}
 use Rattle.branches.specs.Area.{Stored, Area, Held, Leaves, stack, branch-records, with-open, size}
-use Rattle.branches.specs.Area.{kept-open, aside, put-into-P, put-into-Q, without-P, split-area}
+use Rattle.branches.specs.Area.{kept-open, aside, put-into-P, put-into-Q, without-P, split-area, fitting, unfinished-split}
 use Rattle.branches.proofs.AreaLaws.{p-is}
 use Rattle.branches.specs.laws.Words.{remove-in-parts, length-remove}
 use Rattle.puts.proofs.PutLaws.{put-Q-new}
@@ -77,27 +78,16 @@ length-put f b under =
     let new-length = length-append (polys-records (put-P f (b .P))) rest in
     omega (arith, ap length new, length-append (polys-records (b .P)) more)
 
-pub size-put : (f : List ℕ) (b : Stored) (bs ss : List Stored) → size (with-open b bs ss) ≤ size (with-open (put-into-P f b) bs ss)
+size-put : (f : List ℕ) (b : Stored) (bs ss : List Stored) → size (with-open b bs ss) ≤ size (with-open (put-into-P f b) bs ss)
 unfolding size
 size-put f b bs ss =
     let old-length = length-append (stack bs .0) (branch-records (stack bs .1) b) in
     let new-length = length-append (stack bs .0) (branch-records (stack bs .1) (put-into-P f b)) in
     omega (arith, length-put f b (stack bs .1))
 
-pub size-more : (b b' : Stored) (bs ss : List Stored) → size (with-open b bs ss) ≤ size (with-open b' (b ∷ bs) ss)
+size-more : (b b' : Stored) (bs ss : List Stored) → size (with-open b bs ss) ≤ size (with-open b' (b ∷ bs) ss)
 unfolding size
 size-more b b' bs ss = omega (arith, length-append (stack (b ∷ bs) .0) (branch-records (stack (b ∷ bs) .1) b'))
-
--- ── answers ──
--- Where a smaller state finds no room.
-pub failed : {a a' : Area} {most most' : ℕ} {r : Bool} {v v' : List Rec} → r ≡ false → most ≡ most' → Leaves most a r v → size a ≤ size a'
-    → Leaves most' a' false v'
-failed {a} {a'} {most} {most'} e m L h =
-    let less : most < size a = leb-false (size a) most (sym (L .answer) ∙ e) in
-    record {
-      answer = sym (lt-leb (size a') most' (omega arith));
-      held = λ t. absurd (let z : _≡_ {A = ℕ} 0 1 = cc in omega arith);
-    }
 
 -- Two states that the same records hold have as many members in P.
 pub same-members : {v : List Rec} {most most' : ℕ} {b b' : Stored} {bs bs' ss ss' : List Stored}
@@ -105,7 +95,63 @@ pub same-members : {v : List Rec} {most most' : ℕ} {b b' : Stored} {bs bs' ss 
     → length (b .P) ≡ length (b' .P)
 same-members H H' = sym (p-is H _ refl _ refl) ∙ p-is H' _ refl _ refl
 
-pub size-initial : (i : ℕ) (initial rest : List ℕ) (b : Stored) (bs ss : List Stored)
-    → size (with-open (put-into-P initial (without-P i b)) bs ss) ≤ size (split-area i initial rest b bs ss)
-size-initial i initial rest b bs ss =
-    omega (arith, size-put rest (put-into-P initial (without-P i b)) bs ss, size-more (aside i initial rest b) (put-into-Q 0 initial b) bs ss)
+-- ── answers ──
+fits-if-true : {most : ℕ} {a₀ a : Area} {r : Bool} {v : List Rec} → Leaves most a₀ a r v → r ≡ true → size a ≤ most
+fits-if-true {most} {a = a} L e = leb-true (size a) most (sym (L .answer) ∙ e)
+
+over-if-false : {most : ℕ} {a₀ a : Area} {r : Bool} {v : List Rec} → Leaves most a₀ a r v → r ≡ false → most < size a
+over-if-false {most} {a = a} L e = leb-false (size a) most (sym (L .answer) ∙ e)
+
+-- Where a smaller state finds no room.
+failed : {most : ℕ} {a₀ a a' : Area} {r : Bool} {v : List Rec} → Leaves most a₀ a r v → r ≡ false → size a ≤ size a' → Leaves most a₀ a' false v
+failed {most} {a' = a'} L e h =
+    record { answer = sym (lt-leb (size a') most (omega (arith, over-if-false L e))); held = λ t. absurd (false≢true t); kept = λ t. L .kept e }
+
+fitting-fits : (most : ℕ) (a a₀ : Area) → size a ≤ most → fitting most a a₀ ≡ a
+fitting-fits most a a₀ h = ap (λ (t : Bool). elim t as (λ t. Area) [ true ↦ a | false ↦ a₀ ]) (le-leb (size a) most h)
+
+fitting-over : (most : ℕ) (a a₀ : Area) → most < size a → fitting most a a₀ ≡ a₀
+fitting-over most a a₀ h = ap (λ (t : Bool). elim t as (λ t. Area) [ true ↦ a | false ↦ a₀ ]) (lt-leb (size a) most h)
+
+-- ── where a split stops ──
+module _ (most i : ℕ) (initial rest : List ℕ) (b : Stored) (bs ss : List Stored) where
+  -- The pivot is out of P; the initial is put in; the rest is put in too.
+  abbrev pivot-out : Area
+  pivot-out = with-open (without-P i b) bs ss
+
+  abbrev initial-in : Area
+  initial-in = with-open (put-into-P initial (without-P i b)) bs ss
+
+  abbrev rest-in : Area
+  rest-in = with-open (aside i initial rest b) bs ss
+
+  abbrev initial-fitting : Area
+  initial-fitting = fitting most initial-in pivot-out
+
+  abbrev unfinished : Area
+  unfinished = unfinished-split most i initial rest b bs ss
+
+  rest-larger : size initial-in ≤ size rest-in
+  rest-larger = size-put rest (put-into-P initial (without-P i b)) bs ss
+
+  split-larger : size rest-in ≤ size (split-area i initial rest b bs ss)
+  split-larger = size-more (aside i initial rest b) (put-into-Q 0 initial b) bs ss
+
+  stopped-in : {a a₁ : Area} {r : Bool} {v : List Rec} → unfinished ≡ a → Leaves most a a₁ r v → Leaves most unfinished a₁ r v
+  stopped-in {a₁ = a₁} {r} {v} e L = subst (λ (a : Area). Leaves most a a₁ r v) (sym e) L
+
+  module _ {r : Bool} {v : List Rec} (first : Leaves most pivot-out initial-in r v) where
+    pub no-initial : r ≡ false → Leaves most unfinished (split-area i initial rest b bs ss) false v
+    no-initial e =
+        let none = over-if-false first e in
+        stopped-in (fitting-over most rest-in initial-fitting (omega (arith, none, rest-larger)) ∙ fitting-over most initial-in pivot-out none)
+        (failed first e (omega (arith, rest-larger, split-larger)))
+
+    module _ (e : r ≡ true) {r₁ : Bool} {v₁ : List Rec} (second : Leaves most initial-in rest-in r₁ v₁) where
+      pub no-rest : r₁ ≡ false → Leaves most unfinished (split-area i initial rest b bs ss) false v₁
+      no-rest e₁ =
+          stopped-in (fitting-over most rest-in initial-fitting (over-if-false second e₁) ∙ fitting-fits most initial-in pivot-out (fits-if-true first e))
+          (failed second e₁ split-larger)
+
+  pub stops-aside : {r : Bool} {v : List Rec} → Leaves most initial-in rest-in r v → r ≡ true → rest-in ≡ unfinished
+  stops-aside L e = sym (fitting-fits most rest-in initial-fitting (fits-if-true L e))

@@ -1,6 +1,6 @@
 -- The branch that stays open at a split: where the parts of the one set aside lie, what the copies leave, and what is held then.
 use mathlib.Core.Path.{_≡_, refl, sym, ap, _∙_}
-use mathlib.Core.Bool.{true, false}
+use mathlib.Core.Bool.{true, false, false≢true}
 use mathlib.Core.List.{List, [], _∷_, _++_, append-assoc}
 use Prim.Native.Nat.{ℕ, suc, _+_, _-_, _/_, _≤_, _<_}
 use native.Mathlib.Omega.{arith}
@@ -250,11 +250,12 @@ module _ {v : List Rec} {most : ℕ} {c : Stored} {bs ss : List Stored} (H : Hel
     members-Q : q + 1 ≡ length (c .Q ++ (initial ∷ []))
     members-Q = omega (arith, length-append (c .Q) (initial ∷ []), G .q-is)
 
-    pub no-room : top - end < needed → Leaves most (with-open (kept-open i n f initial c) (c ∷ bs) ss) false v
+    pub no-room : top - end < needed → Leaves most (with-open c bs ss) (with-open (kept-open i n f initial c) (c ∷ bs) ss) false v
     no-room less =
         record {
           answer = sym (lt-leb (size (with-open (kept-open i n f initial c) (c ∷ bs) ss)) most (omega (arith, size-kept, H .fits, G)));
-          held = λ e. absurd (let z : _≡_ {A = ℕ} 0 1 = cc in omega arith);
+          held = λ e. absurd (false≢true e);
+          kept = λ e. H;
         }
 
     length-used : length used ≡ end
@@ -324,7 +325,7 @@ module _ {v : List Rec} {most : ℕ} {c : Stored} {bs ss : List Stored} (H : Hel
         )
 
     pub kept : needed ≤ top - end → Storable f → Storable initial → {v₈ : List Rec} → Copied v n at end top q t front back in-q in-t f initial v₈
-        → Leaves most (with-open (kept-open i n f initial c) (c ∷ bs) ss) true v₈
+        → Leaves most (with-open c bs ss) (with-open (kept-open i n f initial c) (c ∷ bs) ss) true v₈
     kept room sf si K =
         let behind : List Rec = systems-records ss ++ H .beyond in
         let after : List Rec = H .free ++ behind in
@@ -364,4 +365,5 @@ module _ {v : List Rec} {most : ℕ} {c : Stored} {bs ss : List Stored} (H : Hel
                 few = H .few;
                 storable = (storable-kept sf si, H .storable .1);
               };
+          kept = λ e. absurd (false≢true (sym e));
         }

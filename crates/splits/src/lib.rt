@@ -8,10 +8,10 @@ ghost use lib.Seq.{paste};
 ghost use Rattle.records.specs.Records.{room, view, moved};
 ghost use Rattle.stored.specs.Stored.{member, poly-records, Storable};
 ghost use Rattle.branches.specs.Words.{is-one};
-ghost use Rattle.branches.specs.Area.{Leaves, Opened, capacity, with-open, kept-open, split-area, When-open};
+ghost use Rattle.branches.specs.Area.{Leaves, Opened, capacity, with-open, kept-open, split-area, unfinished-split, When-open};
 
 // The initial goes into Q, and a branch is set aside with P without its member at place i, which is f, then the initial, then the rest; with Q as it
-// was; with T. Whether there is room. The open branch is made the one set aside, and the other is built on top of it.
+// was; with T. Whether there is room. The open branch is made the one set aside, and the other is built on top of it; without room this stops on the way.
 pub fn split(w: &mut [u32], i: usize, f: &[u64], initial: &[u64], rest: &[u64]) -> bool
     requires { ⌜ Opened (now w) ⌝ }
     requires { ⌜ When-open (now w) (λ b bs ss.
@@ -20,7 +20,8 @@ pub fn split(w: &mut [u32], i: usize, f: &[u64], initial: &[u64], rest: &[u64]) 
     requires { ⌜ Storable (now initial) ⌝ }
     requires { ⌜ Storable (now rest) ⌝ }
     ensures { λ r. ⌜ When-open (now (w .entry)) (λ b bs ss.
-        Leaves (capacity (now (w .entry))) (split-area i (now (initial .entry)) (now (rest .entry)) b bs ss) r (view (now (w .exit)))) ⌝ }
+        Leaves (capacity (now (w .entry))) (unfinished-split (capacity (now (w .entry))) i (now (initial .entry)) (now (rest .entry)) b bs ss)
+        (split-area i (now (initial .entry)) (now (rest .entry)) b bs ss) r (view (now (w .exit)))) ⌝ }
 {
     let at = records::get0(w, 0) as usize;
     let p = records::get0(w, at) as usize;
@@ -42,7 +43,8 @@ fn keep_open(w: &mut [u32], i: usize, n: usize, f: &[u64], initial: &[u64]) -> b
     requires { ⌜ Storable (now f) ⌝ }
     requires { ⌜ Storable (now initial) ⌝ }
     ensures { λ r. ⌜ When-open (now (w .entry)) (λ c bs ss.
-        Leaves (capacity (now (w .entry))) (with-open (kept-open i n (now (f .entry)) (now (initial .entry)) c) (c ∷ bs) ss) r (view (now (w .exit)))) ⌝ }
+        Leaves (capacity (now (w .entry))) (with-open c bs ss) (with-open (kept-open i n (now (f .entry)) (now (initial .entry)) c) (c ∷ bs) ss)
+        r (view (now (w .exit)))) ⌝ }
 {
     let at = records::get0(w, 0) as usize;
     let end = records::get1(w, 0) as usize;

@@ -54,8 +54,8 @@ module _ (p k i : ℕ) (prime : Prime p) (b : Stored) (bs ss : List Stored) (R :
     listed = R .listed;
   }
 
-  module _ (v₀ : List Rec) (most : ℕ) (H : Held v₀ most (with-open b bs ss)) (q : Bool) (v : List Rec) (u : Leaves most (split-area i ini rst b bs ss) q v)
-      (rule : rule-with k (chosen b i) (branch-of b) ≡ split k (chosen b i)) where
+  module _ (v₀ : List Rec) (most : ℕ) (H : Held v₀ most (with-open b bs ss)) (q : Bool) (v : List Rec)
+      {a₀ : Area} (u : Leaves most a₀ (split-area i ini rst b bs ss) q v) (rule : rule-with k (chosen b i) (branch-of b) ≡ split k (chosen b i)) where
     abbrev S : Stepped
     S = apply (limits-in most) p (map branch-of bs) (reverse (map system-of ss)) (rule-with k (chosen b i) (branch-of b)) (branch-of b)
 

@@ -3,8 +3,8 @@ use mathlib.Core.Path.{sym, subst}
 use mathlib.Core.Bool.{Bool}
 use borrow.Author.Needs.{needs}
 use Rattle.records.specs.Records.{view}
-use Rattle.branches.specs.Area.{Leaves, capacity, with-open}
-use Rattle.loading.specs.Started.{put-into}
+use Rattle.branches.specs.Area.{capacity}
+use Rattle.loading.proofs.FillLaws.{Puts}
 use Rattle.loading.proofs.put_one.Statement.{statement}
 use Rattle.loading.proofs.put_one.Tie as tie
 
@@ -15,10 +15,11 @@ same-length : tie.Need-same-length
 same-length c = search needs
 
 returns : tie.Need-returns
-returns c b bs ss h =
+returns c =
     let a = c .before .before .before .before .before .before .before .args in
-    subst (λ (q : Bool). Leaves (capacity (a .work .now)) (with-open (put-into q (a .f .now) b) bs ss) (c .before .before .put-q .result) (view (c .before .before .put-q .last .0)))
-    (sym (c .before .before .before .before .if1 .taken)) (c .before .before .put-q .ensures b bs ss h)
+    let k = c .before .before in
+    subst (λ (q : Bool). Puts (view (a .work .now)) (capacity (a .work .now)) q (a .f .now) (k .put-q .result) (view (k .put-q .last .0)))
+    (sym (k .before .before .if1 .taken)) (k .put-q .ensures)
 
 put-p-requires : tie.Need-put-p-requires
 put-p-requires c κs = search needs
@@ -27,10 +28,11 @@ same-length-2 : tie.Need-same-length-2
 same-length-2 c = search needs
 
 returns-2 : tie.Need-returns-2
-returns-2 c b bs ss h =
+returns-2 c =
     let a = c .before .before .before .before .before .before .before .args in
-    subst (λ (q : Bool). Leaves (capacity (a .work .now)) (with-open (put-into q (a .f .now) b) bs ss) (c .before .before .put-p .result) (view (c .before .before .put-p .last .0)))
-    (sym (c .before .before .before .before .if1 .left)) (c .before .before .put-p .ensures b bs ss h)
+    let k = c .before .before in
+    subst (λ (q : Bool). Puts (view (a .work .now)) (capacity (a .work .now)) q (a .f .now) (k .put-p .result) (view (k .put-p .last .0)))
+    (sym (k .before .before .if1 .left)) (k .put-p .ensures)
 
 pub put-one-spec : {M : Type 1} → statement M
 put-one-spec =

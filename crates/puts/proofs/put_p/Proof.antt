@@ -165,6 +165,7 @@ same-length-3 : tie.Need-same-length-3
 same-length-3 c = search needs
 
 returns-3 : tie.Need-returns-3
+unfolding put
 returns-3 c b bs ss H = let k = c .before .before in k .put-at .ensures _ _ _ (put (k .before .before) H)
 
 pub put-p-spec : {M : Type 1} → statement M

@@ -1,15 +1,15 @@
--- `split` meets its contract: what is held after each call, from the calls' contracts; `failed` where there is no room, `kept-aside` at the end.
-use mathlib.Core.Path.{_≡_, sym, ap, _∙_}
+-- `split` meets its contract: what is held after each call, from the calls' contracts; `no-initial` and `no-rest` where there is no room, `kept-aside` at the end.
+use mathlib.Core.Path.{_≡_, refl, sym, ap, _∙_}
 use mathlib.Core.List.{List, _∷_}
 use Prim.Native.Nat.{ℕ, _+_, _-_}
 use native.Mathlib.Omega.{arith}
 use borrow.Author.Tests.{not-true, not-false}
 use lib.ListN.{length}
 use Rattle.records.specs.Records.{view}
-use Rattle.branches.specs.Area.{Stored, Leaves, capacity, with-open, put-into-P, put-into-Q, without-P, aside, Held-in}
+use Rattle.branches.specs.Area.{Stored, Leaves, capacity, with-open, put-into-P, without-P, aside, Held-in}
 use Rattle.branches.proofs.AreaLaws.{at-inside, p-is}
-use Rattle.branches.proofs.LengthLaws.{same-capacity, inside-room, held-by, left-by}
-use Rattle.splits.proofs.AsideLaws.{length-aside, kept-aside, size-initial, size-more, failed, same-members}
+use Rattle.branches.proofs.LengthLaws.{inside-room, held-by, left-by}
+use Rattle.splits.proofs.AsideLaws.{length-aside, kept-aside, no-initial, no-rest, stops-aside, same-members}
 use borrow.Author.Needs.{needs}
 use Rattle.splits.proofs.split.Statement.{statement}
 use Rattle.splits.proofs.split.Tie as tie
@@ -73,6 +73,13 @@ with-rest r b = aside (i r) (initial r) (rest r) b
 abbrev Holds : List ℕ → Stored → List Stored → List Stored → Type 0
 Holds u b bs ss = Held-in u (with-open b bs ss)
 
+-- The words are as many as at the start.
+same-initial : (c : tie.After-put-p) → length (c .put-p .last .0) ≡ length (w (from-initial c))
+same-initial c = c .put-p .kept .0 ∙ remove-of c .remove-p .kept .0
+
+same-rest : (c : tie.After-put-p2) → length (c .put-p2 .last .0) ≡ length (w (from-rest c))
+same-rest c = c .put-p2 .kept .0 ∙ same-initial (initial-of c)
+
 module _ {b : Stored} {bs ss : List Stored} where
   count-is : (r : Reading) → Holds (w r) b bs ss → r .get02 .result ≡ length (b .P)
   count-is r H = p-is H _ (at-read r .get0 .ensures) _ (r .get02 .ensures)
@@ -81,31 +88,30 @@ module _ {b : Stored} {bs ss : List Stored} where
   removed c H = held-by _ _ (w (from-remove c)) (c .remove-p .last .0) (sym (c .remove-p .kept .0)) (c .remove-p .ensures b bs ss H)
 
   initial-leaves : (c : tie.After-put-p) → Holds (w (from-initial c)) b bs ss
-      → Leaves (capacity (remove-of c .remove-p .last .0)) (with-open (with-initial (from-initial c) b) bs ss) (c .put-p .result) (view (c .put-p .last .0))
-  initial-leaves c H = c .put-p .ensures _ bs ss (removed (remove-of c) H)
+      → let r = from-initial c in
+      Leaves (capacity (w r)) (with-open (without r b) bs ss) (with-open (with-initial r b) bs ss) (c .put-p .result) (view (c .put-p .last .0))
+  initial-leaves c H =
+      let m = remove-of c in
+      left-by _ _ (m .remove-p .last .0) (w (from-remove m)) (m .remove-p .kept .0) refl refl (c .put-p .ensures _ bs ss (removed m H))
 
   initial-put : (c : tie.Else1)
       → let m = c .before .before .before in Holds (w (from-initial m)) b bs ss → Holds (m .put-p .last .0) (with-initial (from-initial m) b) bs ss
   initial-put c H =
       let m = c .before .before .before in
-      held-by _ _ (remove-of m .remove-p .last .0) (m .put-p .last .0) (sym (m .put-p .kept .0)) (initial-leaves m H .held (not-false _ (c .if1 .left)))
+      held-by _ _ (w (from-initial m)) (m .put-p .last .0) (sym (same-initial m)) (initial-leaves m H .held (not-false _ (c .if1 .left)))
 
   rest-leaves : (c : tie.After-put-p2) → Holds (w (from-rest c)) b bs ss
-      → Leaves (capacity (initial-of c .put-p .last .0)) (with-open (with-rest (from-rest c) b) bs ss) (c .put-p2 .result) (view (c .put-p2 .last .0))
-  rest-leaves c H = c .put-p2 .ensures _ bs ss (initial-put (c .before .before) H)
+      → let r = from-rest c in
+      Leaves (capacity (w r)) (with-open (with-initial r b) bs ss) (with-open (with-rest r b) bs ss) (c .put-p2 .result) (view (c .put-p2 .last .0))
+  rest-leaves c H =
+      let m = initial-of c in
+      left-by _ _ (m .put-p .last .0) (w (from-initial m)) (same-initial m) refl refl (c .put-p2 .ensures _ bs ss (initial-put (c .before .before) H))
 
   rest-put : (c : tie.Else2)
       → let m = c .before .before .before in Holds (w (from-rest m)) b bs ss → Holds (m .put-p2 .last .0) (with-rest (from-rest m) b) bs ss
   rest-put c H =
       let m = c .before .before .before in
-      held-by _ _ (initial-of m .put-p .last .0) (m .put-p2 .last .0) (sym (m .put-p2 .kept .0)) (rest-leaves m H .held (not-false _ (c .if2 .left)))
-
--- The words are as many as at the start.
-same-initial : (c : tie.After-put-p) → length (c .put-p .last .0) ≡ length (w (from-initial c))
-same-initial c = c .put-p .kept .0 ∙ remove-of c .remove-p .kept .0
-
-same-rest : (c : tie.After-put-p2) → length (c .put-p2 .last .0) ≡ length (w (from-rest c))
-same-rest c = c .put-p2 .kept .0 ∙ same-initial (initial-of c)
+      held-by _ _ (w (from-rest m)) (m .put-p2 .last .0) (sym (same-rest m)) (rest-leaves m H .held (not-false _ (c .if2 .left)))
 
 -- ── the branch of which the contract speaks ──
 abbrev b₀ : Reading → Stored
@@ -146,8 +152,7 @@ returns : tie.Need-returns
 returns c b bs ss H =
     let m = c .before .before .before in
     let r = from-initial m in
-    failed (not-true _ (c .if1 .taken)) (same-capacity (remove-of m .remove-p .last .0) (w r) (remove-of m .remove-p .kept .0)) (initial-leaves m H)
-    (size-initial (i r) (initial r) (rest r) b bs ss)
+    no-initial (capacity (w r)) (i r) (initial r) (rest r) b bs ss (initial-leaves m H) (not-true _ (c .if1 .taken))
 
 put-p-requires-2 : tie.Need-put-p-requires-2
 put-p-requires-2 c κs =
@@ -161,8 +166,8 @@ returns-2 : tie.Need-returns-2
 returns-2 c b bs ss H =
     let m = c .before .before .before in
     let r = from-rest m in
-    failed (not-true _ (c .if2 .taken)) (same-capacity (initial-of m .put-p .last .0) (w r) (same-initial (initial-of m))) (rest-leaves m H)
-    (size-more (with-rest r b) (put-into-Q 0 (initial r) b) bs ss)
+    no-rest (capacity (w r)) (i r) (initial r) (rest r) b bs ss (initial-leaves (initial-of m) H) (not-false _ (m .before .before .if1 .left)) (rest-leaves m H)
+    (not-true _ (c .if2 .taken))
 
 sub-keep-open : tie.Need-sub-keep-open
 sub-keep-open c =
@@ -192,7 +197,8 @@ returns-3 c b bs ss H =
     let r = from-rest m in
     let h = start r .pre .1 .0 b bs ss H in
     let n : r .get02 .result - 1 + 1 ≡ length (b .P) = omega (arith, count-is r H, h .0) in
-    left-by _ _ _ _ (m .put-p2 .last .0) (w r) (same-rest m)
+    left-by _ _ (m .put-p2 .last .0) (w r) (same-rest m)
+    (stops-aside (capacity (w r)) (i r) (initial r) (rest r) b bs ss (rest-leaves m H) (not-false _ (k .before .before .if2 .left)))
     (ap (λ (x : Stored). with-open x (with-rest r b ∷ bs) ss) (kept-aside (i r) _ (f r) (initial r) (rest r) b (h .0) n (h .1) (h .2) (h .3)))
     (k .keep-open .ensures _ bs ss (rest-put (k .before .before) H))
 

@@ -13,7 +13,7 @@ pub fn move_up(w: &mut [u32], from: usize, n: usize, to: usize)
     let mut i = n;
     while 0 < i {
         i -= 1;
-        records::copy_rec(w, from + i, to + i);
+        records::copy(w, from + i, to + i);
     }
 }
 
@@ -25,7 +25,7 @@ pub fn move_down(w: &mut [u32], from: usize, n: usize, to: usize)
 {
     let mut i = 0;
     while i < n {
-        records::copy_rec(w, from + i, to + i);
+        records::copy(w, from + i, to + i);
         i += 1;
     }
 }

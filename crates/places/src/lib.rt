@@ -46,6 +46,6 @@ fn resize(w: &mut [u32], end: u32, p: u32, q: u32, t: u32)
     let top = records::get2(w, 0);
     let systems = records::get3(w, 0);
     let under = records::get3(w, at as usize);
-    records::put_rec(w, at as usize, p, q, t, under);
-    records::put_rec(w, 0, at, end, top, systems);
+    records::write(w, at as usize, p, q, t, under);
+    records::write(w, 0, at, end, top, systems);
 }

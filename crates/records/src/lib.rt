@@ -37,7 +37,7 @@ pub fn get3(w: &[u32], i: usize) -> u32
 }
 
 // Writes record i whole.
-pub fn put_rec(w: &mut [u32], i: usize, a: u32, b: u32, c: u32, d: u32)
+pub fn write(w: &mut [u32], i: usize, a: u32, b: u32, c: u32, d: u32)
     requires { ⌜ i < room (now w) ⌝ }
     ensures { λ _. ⌜ view (now (w .exit)) ≡ set (view (now (w .entry))) i (record-of a b c d) ⌝ }
 {
@@ -49,7 +49,7 @@ pub fn put_rec(w: &mut [u32], i: usize, a: u32, b: u32, c: u32, d: u32)
 }
 
 // Copies record `from` over record `to`.
-pub fn copy_rec(w: &mut [u32], from: usize, to: usize)
+pub fn copy(w: &mut [u32], from: usize, to: usize)
     requires { ⌜ from < room (now w) ⌝ }
     requires { ⌜ to < room (now w) ⌝ }
     ensures { λ _. ⌜ view (now (w .exit)) ≡ set (view (now (w .entry))) to (getD (view (now (w .entry))) from zero-record) ⌝ }
@@ -59,5 +59,5 @@ pub fn copy_rec(w: &mut [u32], from: usize, to: usize)
     let b = w[k + 1];
     let c = w[k + 2];
     let d = w[k + 3];
-    put_rec(w, to, a, b, c, d)
+    write(w, to, a, b, c, d)
 }

@@ -65,7 +65,7 @@ fn keep_open(w: &mut [u32], i: usize, n: usize, f: &[u64], initial: &[u64]) -> b
     if top - end < size {
         return false;
     }
-    records::put_rec(w, end, (n + 1) as u32, q + 1, t, at as u32);
+    records::write(w, end, (n + 1) as u32, q + 1, t, at as u32);
     let mut to = append_block(w, at + 1, front - (at + 1), end + 1);
     to = append(w, f, to);
     to = append_block(w, front, back - front, to);
@@ -73,7 +73,7 @@ fn keep_open(w: &mut [u32], i: usize, n: usize, f: &[u64], initial: &[u64]) -> b
     to = append(w, initial, to);
     to = append_block(w, in_t, end - in_t, to);
     let systems = records::get3(w, 0);
-    records::put_rec(w, 0, end as u32, to as u32, top as u32, systems);
+    records::write(w, 0, end as u32, to as u32, top as u32, systems);
     true
 }
 

@@ -13,13 +13,13 @@ pub fn store(w: &mut [u32], at: usize, f: &[u64])
     ensures { λ _. ⌜ view (now (w .exit)) ≡ paste (view (now (w .entry))) at (poly-records (now (f .entry))) (length (now (f .entry)) / 2 + 1) ⌝ }
 {
     let n = f.len() / 2;
-    records::put_rec(w, at, n as u32, 0, 0, 0);
+    records::write(w, at, n as u32, 0, 0, 0);
     let mut i = 0;
     while i < n {
         let m = f[2 * i + 1];
         let high = (m / 4294967296) as u32;
         let low = (m % 4294967296) as u32;
-        records::put_rec(w, at + 1 + i, f[2 * i] as u32, high, low, 0);
+        records::write(w, at + 1 + i, f[2 * i] as u32, high, low, 0);
         i += 1;
     }
 }

@@ -11,8 +11,8 @@ pub fn begin(w: &mut [u32])
     ensures { λ _. ⌜ Held (view (now (w .exit))) (capacity (now (w .entry))) (with-open empty [] []) ⌝ }
 {
     let most = branches::count_records(w);
-    records::put_rec(w, 0, 1, 2, most as u32, 0);
-    records::put_rec(w, 1, 0, 0, 0, 0);
+    records::write(w, 0, 1, 2, most as u32, 0);
+    records::write(w, 1, 0, 0, 0, 0);
 }
 
 // Whether a branch is left.
@@ -33,7 +33,7 @@ pub fn drop(w: &mut [u32])
     let under = records::get3(w, at);
     let top = records::get2(w, 0);
     let systems = records::get3(w, 0);
-    records::put_rec(w, 0, under, at as u32, top, systems);
+    records::write(w, 0, under, at as u32, top, systems);
 }
 
 // Lists the open branch, whose P is empty, as a system.
@@ -52,6 +52,6 @@ pub fn list(w: &mut [u32])
     let under = records::get3(w, at);
     let to = top - (end - at);
     moves::move_up(w, at, end - at, to);
-    records::put_rec(w, to, p, q, t, 0);
-    records::put_rec(w, 0, under, at as u32, to as u32, systems + 1);
+    records::write(w, to, p, q, t, 0);
+    records::write(w, 0, under, at as u32, to as u32, systems + 1);
 }

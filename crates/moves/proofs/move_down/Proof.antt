@@ -19,14 +19,14 @@ abbrev μ-loop : tie.MeasureT-loop
 loop-holds : tie.Need-loop-holds Inv-loop μ-loop
 loop-holds c = (omega arith, refl, paste-zero (view (c .before .args .w .now)) (c .before .args .to) (drop (c .before .args .from) (view (c .before .args .w .now))))
 
-add-copy-rec : tie.Need-add-copy-rec Inv-loop μ-loop
-add-copy-rec c = omega arith
+add-copy : tie.Need-add-copy Inv-loop μ-loop
+add-copy c = omega arith
 
-add-copy-rec-2 : tie.Need-add-copy-rec-2 Inv-loop μ-loop
-add-copy-rec-2 c = omega arith
+add-copy-2 : tie.Need-add-copy-2 Inv-loop μ-loop
+add-copy-2 c = omega arith
 
-copy-rec-requires : tie.Need-copy-rec-requires Inv-loop μ-loop
-copy-rec-requires c κs = omega arith
+copy-requires : tie.Need-copy-requires Inv-loop μ-loop
+copy-requires c κs = omega arith
 
 add-i : tie.Need-add-i Inv-loop μ-loop
 add-i c = omega arith
@@ -40,8 +40,8 @@ loop-again c =
     let a = head .before .before .args in (
       omega arith,
       omega arith,
-      down-turn zero-record (view (a .w .now)) (view (head .loop .w)) (view (c .before .before .copy-rec .last .0)) (a .from) (a .to) (head .loop .i)
-          (omega arith) (omega (arith, length-view (a .w .now))) (head .loop .inv .2) (c .before .before .copy-rec .ensures),
+      down-turn zero-record (view (a .w .now)) (view (head .loop .w)) (view (c .before .before .copy .last .0)) (a .from) (a .to) (head .loop .i)
+          (omega arith) (omega (arith, length-view (a .w .now))) (head .loop .inv .2) (c .before .before .copy .ensures),
     )
 
 same-length : tie.Need-same-length Inv-loop μ-loop
@@ -60,9 +60,9 @@ move-down-spec =
     Inv-loop
     μ-loop
     loop-holds
-    add-copy-rec
-    add-copy-rec-2
-    copy-rec-requires
+    add-copy
+    add-copy-2
+    copy-requires
     add-i
     loop-less
     loop-again

@@ -29,14 +29,14 @@ loop-holds c =
 sub-i : tie.Need-sub-i Inv-loop μ-loop
 sub-i c = omega arith
 
-add-copy-rec : tie.Need-add-copy-rec Inv-loop μ-loop
-add-copy-rec c = omega arith
+add-copy : tie.Need-add-copy Inv-loop μ-loop
+add-copy c = omega arith
 
-add-copy-rec-2 : tie.Need-add-copy-rec-2 Inv-loop μ-loop
-add-copy-rec-2 c = omega arith
+add-copy-2 : tie.Need-add-copy-2 Inv-loop μ-loop
+add-copy-2 c = omega arith
 
-copy-rec-requires : tie.Need-copy-rec-requires Inv-loop μ-loop
-copy-rec-requires c κs = omega arith
+copy-requires : tie.Need-copy-requires Inv-loop μ-loop
+copy-requires c κs = omega arith
 
 loop-less : tie.Need-loop-less Inv-loop μ-loop
 loop-less c = omega arith
@@ -47,8 +47,8 @@ loop-again c =
     let a = head .before .before .args in (
       omega arith,
       omega arith,
-      up-turn zero-record (view (a .w .now)) (view (head .loop .w)) (view (c .before .before .copy-rec .last .0)) (a .from) (a .n) (a .to) (head .loop .i)
-          (omega arith) (omega arith) (omega arith) (omega (arith, length-view (a .w .now))) (head .loop .inv .2) (c .before .before .copy-rec .ensures),
+      up-turn zero-record (view (a .w .now)) (view (head .loop .w)) (view (c .before .before .copy .last .0)) (a .from) (a .n) (a .to) (head .loop .i)
+          (omega arith) (omega arith) (omega arith) (omega (arith, length-view (a .w .now))) (head .loop .inv .2) (c .before .before .copy .ensures),
     )
 
 same-length : tie.Need-same-length Inv-loop μ-loop
@@ -70,9 +70,9 @@ move-up-spec =
     μ-loop
     loop-holds
     sub-i
-    add-copy-rec
-    add-copy-rec-2
-    copy-rec-requires
+    add-copy
+    add-copy-2
+    copy-requires
     loop-less
     loop-again
     same-length

@@ -21,14 +21,14 @@ cast-get3 c = search needs
 get3-requires-2 : tie.Need-get3-requires-2
 get3-requires-2 c κs = search needs
 
-cast-put-rec : tie.Need-cast-put-rec
-cast-put-rec c = search needs
+cast-write : tie.Need-cast-write
+cast-write c = search needs
 
-put-rec-requires : tie.Need-put-rec-requires
-put-rec-requires c κs = search needs
+write-requires : tie.Need-write-requires
+write-requires c κs = search needs
 
-put-rec-requires-2 : tie.Need-put-rec-requires-2
-put-rec-requires-2 c κs = search needs
+write-requires-2 : tie.Need-write-requires-2
+write-requires-2 c κs = search needs
 
 same-length : tie.Need-same-length
 same-length c = search needs
@@ -42,7 +42,7 @@ returns c =
     let top = systems .before .before in
     let at = top .before .before in
     let a = at .before .before .before .args in
-    rewritten (view (a .w .now)) (a .end) (a .p) (a .q) (a .t) (at .get0 .ensures) (top .get2 .ensures) (systems .get3 .ensures) (under .get32 .ensures) (o .put-rec .ensures) (s .put-rec2 .ensures)
+    rewritten (view (a .w .now)) (a .end) (a .p) (a .q) (a .t) (at .get0 .ensures) (top .get2 .ensures) (systems .get3 .ensures) (under .get32 .ensures) (o .write .ensures) (s .write2 .ensures)
 
 pub resize-spec : {M : Type 1} → statement M
 resize-spec =
@@ -53,8 +53,8 @@ resize-spec =
     get3-requires
     cast-get3
     get3-requires-2
-    cast-put-rec
-    put-rec-requires
-    put-rec-requires-2
+    cast-write
+    write-requires
+    write-requires-2
     same-length
     returns)

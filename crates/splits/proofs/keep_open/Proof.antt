@@ -109,20 +109,20 @@ returns : tie.Need-returns
 returns c b bs ss H =
     let r = words (c .before) in no-room H (i r) (n r) (members r H) (f r) (initial r) (placed (c .before) H) (c .if1 .taken)
 
-add-put-rec : tie.Need-add-put-rec
-add-put-rec c = omega (arith, in-order (c .before .before))
+add-write : tie.Need-add-write
+add-write c = omega (arith, in-order (c .before .before))
 
-cast-put-rec : tie.Need-cast-put-rec
-cast-put-rec c = omega (arith, in-order (c .before .before))
+cast-write : tie.Need-cast-write
+cast-write c = omega (arith, in-order (c .before .before))
 
-add-put-rec-2 : tie.Need-add-put-rec-2
-add-put-rec-2 c = omega (arith, in-order (c .before .before))
+add-write-2 : tie.Need-add-write-2
+add-write-2 c = omega (arith, in-order (c .before .before))
 
-cast-put-rec-2 : tie.Need-cast-put-rec-2
-cast-put-rec-2 c = search needs
+cast-write-2 : tie.Need-cast-write-2
+cast-write-2 c = search needs
 
-put-rec-requires : tie.Need-put-rec-requires
-put-rec-requires c κs = let o = in-order (c .before .before) in omega (arith, o .top-of, o .room-of, c .before .if1 .left)
+write-requires : tie.Need-write-requires
+write-requires c κs = let o = in-order (c .before .before) in omega (arith, o .top-of, o .room-of, c .before .if1 .left)
 
 add-append-block : tie.Need-add-append-block
 add-append-block c = search needs
@@ -172,22 +172,22 @@ append-block-requires-4 c κs =
 get3-requires : tie.Need-get3-requires
 get3-requires c κs = let m = c .before .before .before in omega (arith, in-order (from-6 m), same-words m)
 
-cast-put-rec-3 : tie.Need-cast-put-rec-3
-cast-put-rec-3 c = omega (arith, in-order (from-6 (c .before .before .before .before .before)))
+cast-write-3 : tie.Need-cast-write-3
+cast-write-3 c = omega (arith, in-order (from-6 (c .before .before .before .before .before)))
 
-cast-put-rec-4 : tie.Need-cast-put-rec-4
-cast-put-rec-4 c =
+cast-write-4 : tie.Need-cast-write-4
+cast-write-4 c =
     let m = c .before .before .before .before .before in
     omega (arith, m .append-block4 .ensures .0, next-small (after-5 (m .before .before .before .before)) (in-order (from-6 m) .most-of))
 
-cast-put-rec-5 : tie.Need-cast-put-rec-5
-cast-put-rec-5 c = omega (arith, in-order (from-6 (c .before .before .before .before .before)))
+cast-write-5 : tie.Need-cast-write-5
+cast-write-5 c = omega (arith, in-order (from-6 (c .before .before .before .before .before)))
 
-put-rec-requires-2 : tie.Need-put-rec-requires-2
-put-rec-requires-2 c κs = let m = c .before .before .before .before .before in omega (arith, in-order (from-6 m), same-words m)
+write-requires-2 : tie.Need-write-requires-2
+write-requires-2 c κs = let m = c .before .before .before .before .before in omega (arith, in-order (from-6 m), same-words m)
 
 same-length-2 : tie.Need-same-length-2
-same-length-2 c = let k = c .before .before in k .put-rec2 .kept .0 ∙ same-words (k .before .before .before .before .before .before)
+same-length-2 c = let k = c .before .before in k .write2 .kept .0 ∙ same-words (k .before .before .before .before .before .before)
 
 returns-2 : tie.Need-returns-2
 returns-2 c b bs ss H =
@@ -203,8 +203,8 @@ returns-2 c b bs ss H =
     let r = words p in
     kept H (i r) (n r) (members r H) (f r) (initial r) (placed p H) (o .before .before .if1 .left) (start r .pre .1 .1 .0) (start r .pre .1 .1 .1)
     (record {
-      v₁ = view (o .put-rec .last .0);
-      own-put = o .put-rec .ensures;
+      v₁ = view (o .write .last .0);
+      own-put = o .write .ensures;
       a₁ = m₁ .append-block .result;
       v₂ = view (m₁ .append-block .last .0);
       front-copied = m₁ .append-block .ensures;
@@ -225,7 +225,7 @@ returns-2 c b bs ss H =
       T-copied = m₆ .append-block4 .ensures;
       systems = k .before .before .get3 .result;
       systems-word = k .before .before .get3 .ensures;
-      control-put = k .put-rec2 .ensures;
+      control-put = k .write2 .ensures;
     })
 
 pub keep-open-spec : {M : Type 1} → statement M
@@ -264,11 +264,11 @@ keep-open-spec =
     sub-if1
     same-length
     returns
-    add-put-rec
-    cast-put-rec
-    add-put-rec-2
-    cast-put-rec-2
-    put-rec-requires
+    add-write
+    cast-write
+    add-write-2
+    cast-write-2
+    write-requires
     add-append-block
     add-append-block-2
     sub-append-block
@@ -283,9 +283,9 @@ keep-open-spec =
     sub-append-block-4
     append-block-requires-4
     get3-requires
-    cast-put-rec-3
-    cast-put-rec-4
-    cast-put-rec-5
-    put-rec-requires-2
+    cast-write-3
+    cast-write-4
+    cast-write-5
+    write-requires-2
     same-length-2
     returns-2)

@@ -18,15 +18,15 @@ Inv-loop w₀ at f n i₀ w i = (i ≤ n) × (length w ≡ length w₀) × (view
 abbrev μ-loop : tie.MeasureT-loop
 μ-loop w₀ at f n i₀ w i = n - i
 
-cast-put-rec : tie.Need-cast-put-rec Inv-loop μ-loop
-cast-put-rec c = omega arith
+cast-write : tie.Need-cast-write Inv-loop μ-loop
+cast-write c = omega arith
 
-put-rec-requires : tie.Need-put-rec-requires Inv-loop μ-loop
-put-rec-requires c κs = omega arith
+write-requires : tie.Need-write-requires Inv-loop μ-loop
+write-requires c κs = omega arith
 
 loop-holds : tie.Need-loop-holds Inv-loop μ-loop
 loop-holds c =
-    let v = view (c .before .before .put-rec .last .0) in
+    let v = view (c .before .before .write .last .0) in
     let a = c .before .before .before .before .before .before .args in (omega arith, refl, paste-zero v (a .at + 1) (term-records (a .f .now)))
 
 mul-m : tie.Need-mul-m Inv-loop μ-loop
@@ -47,28 +47,28 @@ cast-high c = omega (arith, c .shared-slice-known2 .given (2 * c .before .before
 cast-low : tie.Need-cast-low Inv-loop μ-loop
 cast-low c = omega arith
 
-add-put-rec : tie.Need-add-put-rec Inv-loop μ-loop
-add-put-rec c = omega arith
+add-write : tie.Need-add-write Inv-loop μ-loop
+add-write c = omega arith
 
-add-put-rec-2 : tie.Need-add-put-rec-2 Inv-loop μ-loop
-add-put-rec-2 c = omega arith
+add-write-2 : tie.Need-add-write-2 Inv-loop μ-loop
+add-write-2 c = omega arith
 
-mul-put-rec : tie.Need-mul-put-rec Inv-loop μ-loop
-mul-put-rec c = omega arith
+mul-write : tie.Need-mul-write Inv-loop μ-loop
+mul-write c = omega arith
 
-mul-put-rec-2 : tie.Need-mul-put-rec-2 Inv-loop μ-loop
-mul-put-rec-2 c = omega arith
+mul-write-2 : tie.Need-mul-write-2 Inv-loop μ-loop
+mul-write-2 c = omega arith
 
-shared-slice-read-put-rec : tie.Need-shared-slice-read-put-rec Inv-loop μ-loop
-shared-slice-read-put-rec c = omega arith
+shared-slice-read-write : tie.Need-shared-slice-read-write Inv-loop μ-loop
+shared-slice-read-write c = omega arith
 
-cast-put-rec-2 : tie.Need-cast-put-rec-2 Inv-loop μ-loop
-cast-put-rec-2 c =
+cast-write-2 : tie.Need-cast-write-2 Inv-loop μ-loop
+cast-write-2 c =
     let start = c .before .before .before .before .before .before .before .before .before .before .before in
     omega (arith, start .pre .0 .coefficients (c .before .before .before .before .loop .i))
 
-put-rec-requires-2 : tie.Need-put-rec-requires-2 Inv-loop μ-loop
-put-rec-requires-2 c κs = omega arith
+write-requires-2 : tie.Need-write-requires-2 Inv-loop μ-loop
+write-requires-2 c κs = omega arith
 
 add-i : tie.Need-add-i Inv-loop μ-loop
 add-i c = omega arith
@@ -78,9 +78,9 @@ loop-less c = omega arith
 
 loop-again : tie.Need-loop-again Inv-loop μ-loop
 loop-again c =
-    let again = c .before .before .put-rec2 in
+    let again = c .before .before .write2 in
     let turn = c .before .before .before .before .before .before .before in
-    let head = turn .before .before .before .put-rec in
+    let head = turn .before .before .before .write in
     let a = turn .before .before .before .before .before .before .before .args in
     let i = turn .loop .i in
     let f = a .f .now in (
@@ -96,7 +96,7 @@ same-length c = omega arith
 
 returns : tie.Need-returns Inv-loop μ-loop
 returns c =
-    let put = c .before .before .before .before .put-rec in
+    let put = c .before .before .before .before .write in
     let a = c .before .before .before .before .before .before .before .before .args in
     let S = term-records (a .f .now) in
     let n = length (a .f .now) / 2 in
@@ -111,8 +111,8 @@ store-spec =
     (tie.spec
     Inv-loop
     μ-loop
-    cast-put-rec
-    put-rec-requires
+    cast-write
+    write-requires
     loop-holds
     mul-m
     add-m
@@ -120,13 +120,13 @@ store-spec =
     shared-slice-read-m
     cast-high
     cast-low
-    add-put-rec
-    add-put-rec-2
-    mul-put-rec
-    mul-put-rec-2
-    shared-slice-read-put-rec
-    cast-put-rec-2
-    put-rec-requires-2
+    add-write
+    add-write-2
+    mul-write
+    mul-write-2
+    shared-slice-read-write
+    cast-write-2
+    write-requires-2
     add-i
     loop-less
     loop-again

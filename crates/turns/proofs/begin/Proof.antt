@@ -14,14 +14,14 @@ use Rattle.turns.proofs.begin.Tie as tie
 count-records-requires : tie.Need-count-records-requires
 count-records-requires c κs = search needs
 
-cast-put-rec : tie.Need-cast-put-rec
-cast-put-rec c = omega (arith, c .before .count-records .ensures)
+cast-write : tie.Need-cast-write
+cast-write c = omega (arith, c .before .count-records .ensures)
 
-put-rec-requires : tie.Need-put-rec-requires
-put-rec-requires c κs = search needs
+write-requires : tie.Need-write-requires
+write-requires c κs = search needs
 
-put-rec-requires-2 : tie.Need-put-rec-requires-2
-put-rec-requires-2 c κs = search needs
+write-requires-2 : tie.Need-write-requires-2
+write-requires-2 c κs = search needs
 
 same-length : tie.Need-same-length
 same-length c = search needs
@@ -33,8 +33,8 @@ returns c =
     let v = view w in
     let p = c .before .before .before .before .before .before in
     begun v _ _ (capacity w) (s .pre) (omega (arith, length-view w)) (omega arith)
-    (p .put-rec .ensures ∙ ap (λ (k : ℕ). set v 0 (record-of 1 2 k 0)) (p .before .before .count-records .ensures)) (c .before .before .put-rec2 .ensures)
+    (p .write .ensures ∙ ap (λ (k : ℕ). set v 0 (record-of 1 2 k 0)) (p .before .before .count-records .ensures)) (c .before .before .write2 .ensures)
 
 pub begin-spec : {M : Type 1} → statement M
 begin-spec =
-    tie.close (tie.spec count-records-requires cast-put-rec put-rec-requires put-rec-requires-2 same-length returns)
+    tie.close (tie.spec count-records-requires cast-write write-requires write-requires-2 same-length returns)

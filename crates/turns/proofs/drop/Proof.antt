@@ -24,11 +24,11 @@ get2-requires c κs = search needs
 get3-requires-2 : tie.Need-get3-requires-2
 get3-requires-2 c κs = search needs
 
-cast-put-rec : tie.Need-cast-put-rec
-cast-put-rec c = search needs
+cast-write : tie.Need-cast-write
+cast-write c = search needs
 
-put-rec-requires : tie.Need-put-rec-requires
-put-rec-requires c κs = search needs
+write-requires : tie.Need-write-requires
+write-requires c κs = search needs
 
 same-length : tie.Need-same-length
 same-length c = search needs
@@ -41,7 +41,7 @@ returns c b bs ss H =
     let at = under .before .before in
     let control = first-is (lies H) in
     dropped H _ _ _ _ _ (w3-is (own-read H _ (at .get0 .ensures)) (under .get3 .ensures)) (at-is H _ (at .get0 .ensures)) (w2-is control (top .get2 .ensures))
-    (w3-is control (systems .get32 .ensures)) (c .before .before .put-rec .ensures)
+    (w3-is control (systems .get32 .ensures)) (c .before .before .write .ensures)
 
 pub drop-spec : {M : Type 1} → statement M
 drop-spec =
@@ -52,7 +52,7 @@ drop-spec =
     get3-requires
     get2-requires
     get3-requires-2
-    cast-put-rec
-    put-rec-requires
+    cast-write
+    write-requires
     same-length
     returns)

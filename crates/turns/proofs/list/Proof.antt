@@ -57,13 +57,13 @@ p-read c = q-read c .before .before
 abbrev from-move : tie.After-move-up → Reading
 from-move c = from-own (c .before .before)
 
-abbrev move-before-own : tie.After-put-rec-arg → tie.After-move-up
+abbrev move-before-own : tie.After-write-arg → tie.After-move-up
 move-before-own c = c .before .before .before
 
-abbrev own-before-control : tie.After-put-rec-arg2 → tie.After-put-rec
+abbrev own-before-control : tie.After-write-arg2 → tie.After-write
 own-before-control c = c .before .before .before
 
-abbrev move-of : tie.After-put-rec → tie.After-move-up
+abbrev move-of : tie.After-write → tie.After-move-up
 move-of c = move-before-own (c .before)
 
 -- ── what is read ──
@@ -152,20 +152,20 @@ sub-move-up c = omega (arith, inside (from-own (c .before)))
 move-up-requires : tie.Need-move-up-requires
 move-up-requires c κs = let h = inside (from-own (c .before)) in (omega (arith, h), omega (arith, h))
 
-put-rec-requires : tie.Need-put-rec-requires
-put-rec-requires c κs = let m = move-before-own c in omega (arith, inside (from-move m), m .move-up .kept)
+write-requires : tie.Need-write-requires
+write-requires c κs = let m = move-before-own c in omega (arith, inside (from-move m), m .move-up .kept)
 
-cast-put-rec : tie.Need-cast-put-rec
-cast-put-rec c = search needs
+cast-write : tie.Need-cast-write
+cast-write c = search needs
 
-cast-put-rec-2 : tie.Need-cast-put-rec-2
-cast-put-rec-2 c = search needs
+cast-write-2 : tie.Need-cast-write-2
+cast-write-2 c = search needs
 
-add-put-rec : tie.Need-add-put-rec
-add-put-rec c = let r = from-move (move-of (own-before-control c)) in omega (arith, systems-is r (opened r), few-systems (opened r))
+add-write : tie.Need-add-write
+add-write c = let r = from-move (move-of (own-before-control c)) in omega (arith, systems-is r (opened r), few-systems (opened r))
 
-put-rec-requires-2 : tie.Need-put-rec-requires-2
-put-rec-requires-2 c κs = search needs
+write-requires-2 : tie.Need-write-requires-2
+write-requires-2 c κs = search needs
 
 same-length : tie.Need-same-length
 same-length c = search needs
@@ -175,7 +175,7 @@ returns c b bs ss H =
     let o = own-before-control (c .before .before .before) in
     let m = move-of o in
     let r = from-move m in
-    listed H (bounds r) (top-read r .get2 .ensures) (own-is (m .before .before) H) (systems-is r H) (m .move-up .ensures) (o .put-rec .ensures) (c .before .before .put-rec2 .ensures)
+    listed H (bounds r) (top-read r .get2 .ensures) (own-is (m .before .before) H) (systems-is r H) (m .move-up .ensures) (o .write .ensures) (c .before .before .write2 .ensures)
 
 pub list-spec : {M : Type 1} → statement M
 list-spec =
@@ -196,10 +196,10 @@ list-spec =
     sub-to-2
     sub-move-up
     move-up-requires
-    put-rec-requires
-    cast-put-rec
-    cast-put-rec-2
-    add-put-rec
-    put-rec-requires-2
+    write-requires
+    cast-write
+    cast-write-2
+    add-write
+    write-requires-2
     same-length
     returns)

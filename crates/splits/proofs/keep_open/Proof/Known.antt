@@ -64,7 +64,7 @@ abbrev pub words : Parts → Words
 words c = from-P (P-read c)
 
 -- There is room. The record of the new branch is written, and its pieces are, one behind the other.
-abbrev pub from-own : tie.After-put-rec → Parts
+abbrev pub from-own : tie.After-write → Parts
 from-own c = c .before .before .before
 
 abbrev pub from-1 : tie.After-append-block → Parts
@@ -228,14 +228,14 @@ x-initial c = length (initial (words c)) / 2 + 1
 abbrev pub Up-to : Parts → ℕ → ℕ → List ℕ → ℕ → Type 0
 Up-to c x left u a = Reached (w (words c)) (end (words c)) (top (words c)) x left u a
 
-pub after-own : (c : tie.After-put-rec)
+pub after-own : (c : tie.After-write)
     → let p = from-own c in
-    Up-to p (x-front p) (x-f p + (x-back p + (x-Q p + (x-initial p + x-T p)))) (c .put-rec .last .0) (end (words p) + 1)
+    Up-to p (x-front p) (x-f p + (x-back p + (x-Q p + (x-initial p + x-T p)))) (c .write .last .0) (end (words p) + 1)
 after-own c =
     let p = from-own c in
     let o = in-order p in
     first-fits _ _ (at (words p)) _ _ (front p) (back p) (x-f p) (x-Q p) (x-initial p) (x-T p) (o .front-of) (o .back-of) (o .top-of) (o .room-of)
-    (c .put-rec .kept .0) (c .before .before .if1 .left)
+    (c .write .kept .0) (c .before .before .if1 .left)
 
 pub after-1 : (c : tie.After-append-block)
     → let p = from-1 c in

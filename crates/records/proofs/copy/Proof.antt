@@ -1,11 +1,11 @@
--- `copy_rec` meets its contract: the four words read are the record that is put.
+-- `copy` meets its contract: the four words read are the record that is written.
 use mathlib.Core.Path.{sym, ap, _∙_}
 use lib.ListN.{set}
 use Rattle.records.specs.Records.{view}
 use Rattle.records.proofs.Rows.{getD-view}
 use borrow.Author.Needs.{needs}
-use Rattle.records.proofs.copy_rec.Statement.{statement}
-use Rattle.records.proofs.copy_rec.Tie as tie
+use Rattle.records.proofs.copy.Statement.{statement}
+use Rattle.records.proofs.copy.Tie as tie
 
 mul-k : tie.Need-mul-k
 mul-k c = search needs
@@ -43,8 +43,8 @@ mul-d c = search needs
 slice-read-d : tie.Need-slice-read-d
 slice-read-d c = search needs
 
-put-rec-requires : tie.Need-put-rec-requires
-put-rec-requires c κs = search needs
+write-requires : tie.Need-write-requires
+write-requires c κs = search needs
 
 same-length : tie.Need-same-length
 same-length c = search needs
@@ -52,10 +52,10 @@ same-length c = search needs
 returns : tie.Need-returns
 returns c =
     let start = c .before .before .before .before .before .before .before .before .before in
-    c .before .before .put-rec .ensures ∙ ap (set (view (start .args .w .now)) (start .args .to)) (sym (getD-view (start .args .w .now) (start .args .from) (start .pre .0)))
+    c .before .before .write .ensures ∙ ap (set (view (start .args .w .now)) (start .args .to)) (sym (getD-view (start .args .w .now) (start .args .from) (start .pre .0)))
 
-pub copy-rec-spec : {M : Type 1} → statement M
-copy-rec-spec =
+pub copy-spec : {M : Type 1} → statement M
+copy-spec =
     tie.close
     (tie.spec
     mul-k
@@ -70,6 +70,6 @@ copy-rec-spec =
     add-d
     mul-d
     slice-read-d
-    put-rec-requires
+    write-requires
     same-length
     returns)

@@ -1,10 +1,10 @@
--- `put_rec` meets its contract: the four words stored are the record stored in the view.
+-- `write` meets its contract: the four words stored are the record stored in the view.
 use native.Mathlib.Omega.{arith}
 use lib.ListN.{length-set}
 use Rattle.records.proofs.Rows.{view-store}
 use borrow.Author.Needs.{needs}
-use Rattle.records.proofs.put_rec.Statement.{statement}
-use Rattle.records.proofs.put_rec.Tie as tie
+use Rattle.records.proofs.write.Statement.{statement}
+use Rattle.records.proofs.write.Tie as tie
 
 mul-k : tie.Need-mul-k
 mul-k c = search needs
@@ -48,8 +48,8 @@ same-length c = simp length-set
 returns : tie.Need-returns
 returns c = view-store (c .args .w .now) (c .args .i) (c .args .a) (c .args .b) (c .args .c) (c .args .d) (c .pre)
 
-pub put-rec-spec : {M : Type 1} → statement M
-put-rec-spec =
+pub write-spec : {M : Type 1} → statement M
+write-spec =
     tie.close
     (tie.spec
     mul-k

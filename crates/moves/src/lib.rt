@@ -2,13 +2,13 @@
 ghost use mathlib.Core.Path.{_≡_};
 ghost use Prim.Native.Nat.{_+_, _≤_};
 ghost use lib.ListN.{length, replicate};
-ghost use Rattle.records.specs.Records.{room, view, moved};
+ghost use Rattle.records.specs.Records.{room, view, moved, Records-become};
 
 // Moves the n records from `from` on up to `to`.
 pub fn move_up(w: &mut [u32], from: usize, n: usize, to: usize)
     requires { ⌜ from ≤ to ⌝ }
     requires { ⌜ to + n ≤ room (now w) ⌝ }
-    ensures { λ _. ⌜ view (now (w .exit)) ≡ moved (view (now (w .entry))) from n to ⌝ }
+    ensures { λ _. ⌜ Records-become (moved (view (now (w .entry))) from n to) (now (w .entry)) (now (w .exit)) ⌝ }
 {
     let mut i = n;
     while 0 < i {
@@ -21,7 +21,7 @@ pub fn move_up(w: &mut [u32], from: usize, n: usize, to: usize)
 pub fn move_down(w: &mut [u32], from: usize, n: usize, to: usize)
     requires { ⌜ to ≤ from ⌝ }
     requires { ⌜ from + n ≤ room (now w) ⌝ }
-    ensures { λ _. ⌜ view (now (w .exit)) ≡ moved (view (now (w .entry))) from n to ⌝ }
+    ensures { λ _. ⌜ Records-become (moved (view (now (w .entry))) from n to) (now (w .entry)) (now (w .exit)) ⌝ }
 {
     let mut i = 0;
     while i < n {

@@ -3,7 +3,7 @@ ghost use mathlib.Core.Path.{_≡_};
 ghost use mathlib.Core.List.{List};
 ghost use Prim.Native.Nat.{_<_};
 ghost use lib.ListN.{getD};
-ghost use Rattle.records.specs.Records.{room, view, zero-record};
+ghost use Rattle.records.specs.Records.{room, view, zero-record, Records-become};
 ghost use Rattle.stored.specs.Stored.{Storable};
 ghost use Rattle.branches.specs.Area.{Stored, Held, Leaves, capacity, with-open};
 ghost use Rattle.places.specs.Places.{Put-at, Take-at, Some-open, Each-open, resized};
@@ -40,7 +40,7 @@ pub fn take_at(w: &mut [u32], from: usize, p: u32, q: u32, t: u32)
 // Writes where the open branch ends, and how many members P, Q and T have.
 fn resize(w: &mut [u32], end: u32, p: u32, q: u32, t: u32)
     requires { ⌜ getD (view (now w)) 0 zero-record .w0 < room (now w) ⌝ }
-    ensures { λ _. ⌜ view (now (w .exit)) ≡ resized (view (now (w .entry))) end p q t ⌝ }
+    ensures { λ _. ⌜ Records-become (resized (view (now (w .entry))) end p q t) (now (w .entry)) (now (w .exit)) ⌝ }
 {
     let at = records::get0(w, 0);
     let top = records::get2(w, 0);

@@ -1,13 +1,13 @@
--- The laws of `view`: its length, its record at an index, and what a store of a record's four words does to it.
+-- The laws of `view`: its length, its record at an index, and what a store of a record's four words does to it and to the words behind.
 use mathlib.Core.Path.{_≡_, refl, sym, ap, _∙_}
 use mathlib.Core.List.{List, _∷_}
 use mathlib.Core.Logic.{_≢_}
 use Prim.Native.Nat.{ℕ, zero, suc, _+_, _*_, _/_, _<_}
 use native.Mathlib.Nat.{not-suc-le-zero, le-of-suc-le-suc, suc-ne-zero, suc-inj}
 use native.Mathlib.Omega.{arith}
-use lib.ListN.{length, getD, set, length-set}
-use lib.Seq.{getD-set-same, getD-set-other}
-use Rattle.records.specs.Records.{record-of, zero-record, tabulate, room, record-at, view}
+use lib.ListN.{length, getD, set, drop, length-set}
+use lib.Seq.{getD-set-same, getD-set-other, drop-set-lt}
+use Rattle.records.specs.Records.{record-of, zero-record, tabulate, room, record-at, view, records-end, words-behind, Records-become}
 
 pub length-tabulate : {A : Type 0} (n : ℕ) (f : ℕ → A) → length (tabulate n f) ≡ n
 length-tabulate zero f = refl
@@ -77,3 +77,14 @@ module _ (w : List ℕ) (i a b c d : ℕ) (h : i < room w) where
   pub view-store : view (store w i a b c d) ≡ set (view w) i (record-of a b c d)
   unfolding view
   view-store = ap (λ n. tabulate (n / 4) (record-at (store w i a b c d))) length-store ∙ tabulate-set (room w) (record-at w) (record-at (store w i a b c d)) i (record-of a b c d) same other
+
+  drop-store : (n : ℕ) → 4 * i + 3 < n → drop n (store w i a b c d) ≡ drop n w
+  drop-store n h =
+      drop-set-lt n (s3 w i a b c) (4 * i + 3) d h ∙ drop-set-lt n (s2 w i a b) (4 * i + 2) c (omega arith)
+      ∙ drop-set-lt n (s1 w i a) (4 * i + 1) b (omega arith) ∙ drop-set-lt n w (4 * i) a (omega arith)
+
+  words-behind-store : words-behind (store w i a b c d) ≡ words-behind w
+  words-behind-store = rw length-store (drop-store (records-end w) (omega arith))
+
+  pub records-become-store : Records-become (set (view w) i (record-of a b c d)) w (store w i a b c d)
+  records-become-store = (view-store, words-behind-store)

@@ -1,4 +1,5 @@
 -- The work area as a list of records of four words. `view` is the one place that knows how a record lies in the words.
+use mathlib.Core.Path.{_≡_}
 use Prim.Native.Nat.{ℕ, zero, suc, _+_, _*_, _/_}
 use mathlib.Core.List.{List, [], _∷_}
 use lib.ListN.{length, getD, drop}
@@ -34,6 +35,18 @@ record-at w i = record-of (getD w (4 * i) 0) (getD w (4 * i + 1) 0) (getD w (4 *
 
 unfoldable pub view : List ℕ → List Rec
 view w = tabulate (room w) (record-at w)
+
+-- Where the last whole record ends.
+abbrev pub records-end : List ℕ → ℕ
+records-end w = 4 * room w
+
+-- The words behind it, at most three.
+abbrev pub words-behind : List ℕ → List ℕ
+words-behind w = drop (records-end w) w
+
+-- The words w become w': their records are v then, and the words behind these stay.
+abbrev pub Records-become : List Rec → List ℕ → List ℕ → Type 0
+Records-become v w w' = (view w' ≡ v) × (words-behind w' ≡ words-behind w)
 
 -- The n records from `from` on, copied over those from `to` on.
 abbrev pub moved : List Rec → ℕ → ℕ → ℕ → List Rec

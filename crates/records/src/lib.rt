@@ -2,7 +2,7 @@
 ghost use mathlib.Core.Path.{_≡_};
 ghost use Prim.Native.Nat.{_<_};
 ghost use lib.ListN.{getD, set};
-ghost use Rattle.records.specs.Records.{record-of, zero-record, room, view};
+ghost use Rattle.records.specs.Records.{record-of, zero-record, room, view, Records-become};
 
 // Word 0 of record i.
 pub fn get0(w: &[u32], i: usize) -> u32
@@ -39,7 +39,7 @@ pub fn get3(w: &[u32], i: usize) -> u32
 // Writes record i whole.
 pub fn write(w: &mut [u32], i: usize, a: u32, b: u32, c: u32, d: u32)
     requires { ⌜ i < room (now w) ⌝ }
-    ensures { λ _. ⌜ view (now (w .exit)) ≡ set (view (now (w .entry))) i (record-of a b c d) ⌝ }
+    ensures { λ _. ⌜ Records-become (set (view (now (w .entry))) i (record-of a b c d)) (now (w .entry)) (now (w .exit)) ⌝ }
 {
     let k = 4 * i;
     w[k] = a;
@@ -52,7 +52,7 @@ pub fn write(w: &mut [u32], i: usize, a: u32, b: u32, c: u32, d: u32)
 pub fn copy(w: &mut [u32], from: usize, to: usize)
     requires { ⌜ from < room (now w) ⌝ }
     requires { ⌜ to < room (now w) ⌝ }
-    ensures { λ _. ⌜ view (now (w .exit)) ≡ set (view (now (w .entry))) to (getD (view (now (w .entry))) from zero-record) ⌝ }
+    ensures { λ _. ⌜ Records-become (set (view (now (w .entry))) to (getD (view (now (w .entry))) from zero-record)) (now (w .entry)) (now (w .exit)) ⌝ }
 {
     let k = 4 * from;
     let a = w[k];

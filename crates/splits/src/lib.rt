@@ -5,7 +5,7 @@ ghost use mathlib.Core.List.{[], _∷_};
 ghost use Prim.Native.Nat.{_+_, _/_, _≤_, _<_};
 ghost use lib.ListN.{length, getD};
 ghost use lib.Seq.{paste};
-ghost use Rattle.records.specs.Records.{room, view, moved};
+ghost use Rattle.records.specs.Records.{room, view, moved, Records-become};
 ghost use Rattle.stored.specs.Stored.{member, poly-records, Storable};
 ghost use Rattle.branches.specs.Words.{is-one};
 ghost use Rattle.branches.specs.Area.{Leaves, Opened, capacity, with-open, kept-open, split-area, unfinished-split, When-open};
@@ -80,7 +80,7 @@ fn keep_open(w: &mut [u32], i: usize, n: usize, f: &[u64], initial: &[u64]) -> b
 // Copies the n records from `from` on to those from `to` on; where they end.
 fn append_block(w: &mut [u32], from: usize, n: usize, to: usize) -> usize
     requires { ⌜ (from ≤ to) × (to + n ≤ room (now w)) ⌝ }
-    ensures { λ r. ⌜ (r ≡ to + n) × (view (now (w .exit)) ≡ moved (view (now (w .entry))) from n to) ⌝ }
+    ensures { λ r. ⌜ (r ≡ to + n) × Records-become (moved (view (now (w .entry))) from n to) (now (w .entry)) (now (w .exit)) ⌝ }
 {
     moves::move_up(w, from, n, to);
     to + n
@@ -90,7 +90,8 @@ fn append_block(w: &mut [u32], from: usize, n: usize, to: usize) -> usize
 fn append(w: &mut [u32], f: &[u64], to: usize) -> usize
     requires { ⌜ Storable (now f) ⌝ }
     requires { ⌜ to + (length (now f) / 2 + 1) ≤ room (now w) ⌝ }
-    ensures { λ r. ⌜ (r ≡ to + (length (now (f .entry)) / 2 + 1)) × (view (now (w .exit)) ≡ paste (view (now (w .entry))) to (poly-records (now (f .entry))) (length (now (f .entry)) / 2 + 1)) ⌝ }
+    ensures { λ r. ⌜ (r ≡ to + (length (now (f .entry)) / 2 + 1))
+        × Records-become (paste (view (now (w .entry))) to (poly-records (now (f .entry))) (length (now (f .entry)) / 2 + 1)) (now (w .entry)) (now (w .exit)) ⌝ }
 {
     storing::store(w, to, f);
     to + (f.len() / 2 + 1)

@@ -3,14 +3,14 @@ ghost use mathlib.Core.Path.{_≡_};
 ghost use Prim.Native.Nat.{_+_, _-_, _/_, _≤_};
 ghost use lib.ListN.{length};
 ghost use lib.Seq.{paste};
-ghost use Rattle.records.specs.Records.{room, view};
+ghost use Rattle.records.specs.Records.{room, view, Records-become};
 ghost use Rattle.stored.specs.Stored.{poly-records, inserted, removed, Storable};
 
 // Stores f from record `at` on.
 pub fn store(w: &mut [u32], at: usize, f: &[u64])
     requires { ⌜ Storable (now f) ⌝ }
     requires { ⌜ at + (length (now f) / 2 + 1) ≤ room (now w) ⌝ }
-    ensures { λ _. ⌜ view (now (w .exit)) ≡ paste (view (now (w .entry))) at (poly-records (now (f .entry))) (length (now (f .entry)) / 2 + 1) ⌝ }
+    ensures { λ _. ⌜ Records-become (paste (view (now (w .entry))) at (poly-records (now (f .entry))) (length (now (f .entry)) / 2 + 1)) (now (w .entry)) (now (w .exit)) ⌝ }
 {
     let n = f.len() / 2;
     records::write(w, at, n as u32, 0, 0, 0);
@@ -28,7 +28,7 @@ pub fn store(w: &mut [u32], at: usize, f: &[u64])
 pub fn insert(w: &mut [u32], at: usize, end: usize, f: &[u64])
     requires { ⌜ Storable (now f) ⌝ }
     requires { ⌜ (at ≤ end) × (end + (length (now f) / 2 + 1) ≤ room (now w)) ⌝ }
-    ensures { λ _. ⌜ view (now (w .exit)) ≡ inserted (view (now (w .entry))) at (end - at) (poly-records (now (f .entry))) ⌝ }
+    ensures { λ _. ⌜ Records-become (inserted (view (now (w .entry))) at (end - at) (poly-records (now (f .entry)))) (now (w .entry)) (now (w .exit)) ⌝ }
 {
     moves::move_up(w, at, end - at, at + (f.len() / 2 + 1));
     store(w, at, f)
@@ -37,7 +37,7 @@ pub fn insert(w: &mut [u32], at: usize, end: usize, f: &[u64])
 // Takes n records out at `at`, with the records behind them up to `end` moved down.
 pub fn remove(w: &mut [u32], at: usize, n: usize, end: usize)
     requires { ⌜ (at + n ≤ end) × (end ≤ room (now w)) ⌝ }
-    ensures { λ _. ⌜ view (now (w .exit)) ≡ removed (view (now (w .entry))) at n (end - at - n) ⌝ }
+    ensures { λ _. ⌜ Records-become (removed (view (now (w .entry))) at n (end - at - n)) (now (w .entry)) (now (w .exit)) ⌝ }
 {
     moves::move_down(w, at + n, end - at - n, at)
 }

@@ -4,14 +4,14 @@ use Prim.Native.Nat.{ℕ, _+_, _-_, _≤_}
 use native.Mathlib.Omega.{arith}
 use lib.ListN.{length, drop}
 use lib.Seq.{paste, paste-zero}
-use Rattle.records.specs.Records.{zero-record, view}
+use Rattle.records.specs.Records.{zero-record, view, Records-become}
 use Rattle.records.proofs.Rows.{length-view}
 use Rattle.moves.proofs.Laws.{up-turn}
 use Rattle.moves.proofs.move_up.Statement.{statement}
 use Rattle.moves.proofs.move_up.Tie as tie
 
 abbrev Inv-loop : tie.InvT-loop
-Inv-loop w₀ from n to i₀ w i = (i ≤ n) × (length w ≡ length w₀) × (view w ≡ paste (view w₀) (to + i) (drop (from + i) (view w₀)) (n - i))
+Inv-loop w₀ from n to i₀ w i = (i ≤ n) × (length w ≡ length w₀) × Records-become (paste (view w₀) (to + i) (drop (from + i) (view w₀)) (n - i)) w₀ w
 
 abbrev μ-loop : tie.MeasureT-loop
 μ-loop w₀ from n to i₀ w i = i
@@ -22,8 +22,11 @@ loop-holds c =
     let none : 0 ≡ a .n - a .n = omega arith in (
       omega arith,
       refl,
-      paste-zero (view (a .w .now)) (a .to + a .n) (drop (a .from + a .n) (view (a .w .now)))
-          ∙ ap (λ (j : ℕ). paste (view (a .w .now)) (a .to + a .n) (drop (a .from + a .n) (view (a .w .now))) j) none,
+      (
+        paste-zero (view (a .w .now)) (a .to + a .n) (drop (a .from + a .n) (view (a .w .now)))
+            ∙ ap (λ (j : ℕ). paste (view (a .w .now)) (a .to + a .n) (drop (a .from + a .n) (view (a .w .now))) j) none,
+        refl,
+      ),
     )
 
 sub-i : tie.Need-sub-i Inv-loop μ-loop
@@ -44,11 +47,15 @@ loop-less c = omega arith
 loop-again : tie.Need-loop-again Inv-loop μ-loop
 loop-again c =
     let head = c .before .before .before .before .before in
+    let copied = c .before .before .copy in
     let a = head .before .before .args in (
       omega arith,
       omega arith,
-      up-turn zero-record (view (a .w .now)) (view (head .loop .w)) (view (c .before .before .copy .last .0)) (a .from) (a .n) (a .to) (head .loop .i)
-          (omega arith) (omega arith) (omega arith) (omega (arith, length-view (a .w .now))) (head .loop .inv .2) (c .before .before .copy .ensures),
+      (
+        up-turn zero-record (view (a .w .now)) (view (head .loop .w)) (view (copied .last .0)) (a .from) (a .n) (a .to) (head .loop .i)
+            (omega arith) (omega arith) (omega arith) (omega (arith, length-view (a .w .now))) (head .loop .inv .2 .0) (copied .ensures .0),
+        copied .ensures .1 ∙ head .loop .inv .2 .1,
+      ),
     )
 
 same-length : tie.Need-same-length Inv-loop μ-loop
@@ -60,7 +67,8 @@ returns c =
     let to' : a .to + c .before .loop .i ≡ a .to = omega arith in
     let from' : a .from + c .before .loop .i ≡ a .from = omega arith in
     let n' : a .n - c .before .loop .i ≡ a .n = omega arith in
-    c .before .loop .inv .2 ∙ (λ t. paste (view (a .w .now)) (to' t) (drop (from' t) (view (a .w .now))) (n' t))
+    let now = c .before .loop .inv .2 in
+    (now .0 ∙ (λ t. paste (view (a .w .now)) (to' t) (drop (from' t) (view (a .w .now))) (n' t)), now .1)
 
 pub move-up-spec : {M : Type 1} → statement M
 move-up-spec =

@@ -81,7 +81,7 @@ resize-requires c κs =
     let s = room-of i in
     let r = s .before in
     let A = opened r in
-    let h = put-start (A .held) (end-read r .get1 .ensures) (A .adds) (A .there) (r .get2 .ensures) (s .if1 .left) (i .insert .ensures) in
+    let h = put-start (A .held) (end-read r .get1 .ensures) (A .adds) (A .there) (r .get2 .ensures) (s .if1 .left) (i .insert .ensures .0) in
     still-inside (w r) (i .insert .last .0) h (i .insert .kept .0)
 
 same-length-2 : tie.Need-same-length-2
@@ -94,8 +94,8 @@ returns-2 c b bs ss A =
     let s = room-of i in
     let r = s .before in
     leaves-held
-    (held-put (A .held) (end-read r .get1 .ensures) (A .adds) (A .there) (r .get2 .ensures) (s .if1 .left) (i .insert .ensures) (start r .pre .0) (A .counts)
-    (k .resize .ensures))
+    (held-put (A .held) (end-read r .get1 .ensures) (A .adds) (A .there) (r .get2 .ensures) (s .if1 .left) (i .insert .ensures .0) (start r .pre .0) (A .counts)
+    (k .resize .ensures .0))
 
 pub put-at-spec : {M : Type 1} → statement M
 put-at-spec =

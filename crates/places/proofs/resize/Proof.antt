@@ -1,4 +1,5 @@
 -- `resize` meets its contract: all that stays of the two records is read before either is written.
+use mathlib.Core.Path.{_∙_}
 use Rattle.records.specs.Records.{view}
 use Rattle.places.proofs.PlaceLaws.{rewritten}
 use borrow.Author.Needs.{needs}
@@ -42,7 +43,12 @@ returns c =
     let top = systems .before .before in
     let at = top .before .before in
     let a = at .before .before .before .args in
-    rewritten (view (a .w .now)) (a .end) (a .p) (a .q) (a .t) (at .get0 .ensures) (top .get2 .ensures) (systems .get3 .ensures) (under .get32 .ensures) (o .write .ensures) (s .write2 .ensures)
+    let own = o .write .ensures in
+    let control = s .write2 .ensures in (
+      rewritten (view (a .w .now)) (a .end) (a .p) (a .q) (a .t)
+          (at .get0 .ensures) (top .get2 .ensures) (systems .get3 .ensures) (under .get32 .ensures) (own .0) (control .0),
+      control .1 ∙ own .1,
+    )
 
 pub resize-spec : {M : Type 1} → statement M
 resize-spec =

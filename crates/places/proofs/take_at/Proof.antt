@@ -79,7 +79,7 @@ resize-requires c κs =
     let n = size-of m in
     let r = from-size n in
     let A = opened r in
-    still-inside (w r) (m .remove .last .0) (take-start (A .held) (r .get1 .ensures) (A .takes) (A .there) (n .get0 .ensures) (m .remove .ensures)) (m .remove .kept .0)
+    still-inside (w r) (m .remove .last .0) (take-start (A .held) (r .get1 .ensures) (A .takes) (A .there) (n .get0 .ensures) (m .remove .ensures .0)) (m .remove .kept .0)
 
 same-length : tie.Need-same-length
 same-length c = search needs
@@ -90,7 +90,7 @@ returns c b bs ss A =
     let m = remove-of (s .before) in
     let n = size-of m in
     let r = from-size n in
-    held-take (A .held) (r .get1 .ensures) (A .takes) (A .there) (n .get0 .ensures) (m .remove .ensures) (A .counts) (s .resize .ensures)
+    held-take (A .held) (r .get1 .ensures) (A .takes) (A .there) (n .get0 .ensures) (m .remove .ensures .0) (A .counts) (s .resize .ensures .0)
 
 pub take-at-spec : {M : Type 1} → statement M
 take-at-spec =

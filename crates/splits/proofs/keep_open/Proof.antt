@@ -204,28 +204,28 @@ returns-2 c b bs ss H =
     kept H (i r) (n r) (members r H) (f r) (initial r) (placed p H) (o .before .before .if1 .left) (start r .pre .1 .1 .0) (start r .pre .1 .1 .1)
     (record {
       v₁ = view (o .write .last .0);
-      own-put = o .write .ensures;
+      own-put = o .write .ensures .0;
       a₁ = m₁ .append-block .result;
       v₂ = view (m₁ .append-block .last .0);
-      front-copied = m₁ .append-block .ensures;
+      front-copied = (m₁ .append-block .ensures .0, m₁ .append-block .ensures .1 .0);
       a₂ = m₂ .append .result;
       v₃ = view (m₂ .append .last .0);
-      f-put = m₂ .append .ensures;
+      f-put = (m₂ .append .ensures .0, m₂ .append .ensures .1 .0);
       a₃ = m₃ .append-block2 .result;
       v₄ = view (m₃ .append-block2 .last .0);
-      back-copied = m₃ .append-block2 .ensures;
+      back-copied = (m₃ .append-block2 .ensures .0, m₃ .append-block2 .ensures .1 .0);
       a₄ = m₄ .append-block3 .result;
       v₅ = view (m₄ .append-block3 .last .0);
-      Q-copied = m₄ .append-block3 .ensures;
+      Q-copied = (m₄ .append-block3 .ensures .0, m₄ .append-block3 .ensures .1 .0);
       a₅ = m₅ .append2 .result;
       v₆ = view (m₅ .append2 .last .0);
-      initial-put = m₅ .append2 .ensures;
+      initial-put = (m₅ .append2 .ensures .0, m₅ .append2 .ensures .1 .0);
       a₆ = m₆ .append-block4 .result;
       v₇ = view (m₆ .append-block4 .last .0);
-      T-copied = m₆ .append-block4 .ensures;
+      T-copied = (m₆ .append-block4 .ensures .0, m₆ .append-block4 .ensures .1 .0);
       systems = k .before .before .get3 .result;
       systems-word = k .before .before .get3 .ensures;
-      control-put = k .write2 .ensures;
+      control-put = k .write2 .ensures .0;
     })
 
 pub keep-open-spec : {M : Type 1} → statement M

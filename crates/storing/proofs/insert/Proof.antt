@@ -38,9 +38,12 @@ returns c =
     let a = start .args in
     let b = poly-records (a .f .now) in
     let n = length (a .f .now) / 2 + 1 in
-    c .before .before .store .ensures
-    ∙ ap (λ (v : List Rec). paste v (a .at) b n) (c .before .before .before .before .before .before .move-up .ensures)
-    ∙ moved-then-stored (view (a .w .now)) b (a .at) (a .end - a .at) n (length-poly-records (a .f .now)) (omega (arith, length-view (a .w .now), start .pre .1))
+    let stored = c .before .before .store .ensures in
+    let up = c .before .before .before .before .before .before .move-up .ensures in (
+      stored .0 ∙ ap (λ (v : List Rec). paste v (a .at) b n) (up .0)
+          ∙ moved-then-stored (view (a .w .now)) b (a .at) (a .end - a .at) n (length-poly-records (a .f .now)) (omega (arith, length-view (a .w .now), start .pre .1)),
+      stored .1 ∙ up .1,
+    )
 
 pub insert-spec : {M : Type 1} → statement M
 insert-spec =

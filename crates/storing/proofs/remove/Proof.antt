@@ -28,7 +28,8 @@ returns c =
     let a = c .before .before .before .before .before .args in
     let v = view (a .w .now) in
     let m = a .end - a .at - a .n in
-    c .before .before .move-down .ensures ∙ append-assoc (take (a .at) v) (take m (drop (a .at + a .n) v)) (drop (a .at + m) v)
+    let down = c .before .before .move-down .ensures in
+    (down .0 ∙ append-assoc (take (a .at) v) (take m (drop (a .at + a .n) v)) (drop (a .at + m) v), down .1)
 
 pub remove-spec : {M : Type 1} → statement M
 remove-spec =

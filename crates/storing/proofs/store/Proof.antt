@@ -4,7 +4,7 @@ use Prim.Native.Nat.{_+_, _*_, _-_, _/_, _≤_}
 use native.Mathlib.Omega.{arith}
 use lib.ListN.{length, getD}
 use lib.Seq.{paste, paste-zero}
-use Rattle.records.specs.Records.{zero-record, view}
+use Rattle.records.specs.Records.{zero-record, view, Records-become}
 use Rattle.records.proofs.Rows.{length-view}
 use Rattle.stored.specs.Stored.{head, term-record, term-records}
 use Rattle.stored.specs.laws.Stored.{length-term-records}
@@ -13,7 +13,7 @@ use Rattle.storing.proofs.store.Statement.{statement}
 use Rattle.storing.proofs.store.Tie as tie
 
 abbrev Inv-loop : tie.InvT-loop
-Inv-loop w₀ at f n i₀ w i = (i ≤ n) × (length w ≡ length w₀) × (view w ≡ paste (view w₀) (at + 1) (term-records f) i)
+Inv-loop w₀ at f n i₀ w i = (i ≤ n) × (length w ≡ length w₀) × Records-become (paste (view w₀) (at + 1) (term-records f) i) w₀ w
 
 abbrev μ-loop : tie.MeasureT-loop
 μ-loop w₀ at f n i₀ w i = n - i
@@ -27,7 +27,7 @@ write-requires c κs = omega arith
 loop-holds : tie.Need-loop-holds Inv-loop μ-loop
 loop-holds c =
     let v = view (c .before .before .write .last .0) in
-    let a = c .before .before .before .before .before .before .args in (omega arith, refl, paste-zero v (a .at + 1) (term-records (a .f .now)))
+    let a = c .before .before .before .before .before .before .args in (omega arith, refl, (paste-zero v (a .at + 1) (term-records (a .f .now)), refl))
 
 mul-m : tie.Need-mul-m Inv-loop μ-loop
 mul-m c = omega arith
@@ -86,9 +86,12 @@ loop-again c =
     let f = a .f .now in (
       omega arith,
       omega arith,
-      paste-turn zero-record (view (head .last .0)) (view (turn .loop .w)) (view (again .last .0)) (term-records f) (a .at + 1) i
-          (term-record (getD f (2 * i) 0) (getD f (2 * i + 1) 0)) (omega (arith, length-view (head .last .0))) (omega (arith, length-term-records f))
-          (turn .loop .inv .2) (again .ensures) (getD-term-records f i (omega arith)),
+      (
+        paste-turn zero-record (view (head .last .0)) (view (turn .loop .w)) (view (again .last .0)) (term-records f) (a .at + 1) i
+            (term-record (getD f (2 * i) 0) (getD f (2 * i + 1) 0)) (omega (arith, length-view (head .last .0))) (omega (arith, length-term-records f))
+            (turn .loop .inv .2 .0) (again .ensures .0) (getD-term-records f i (omega arith)),
+        again .ensures .1 ∙ turn .loop .inv .2 .1,
+      ),
     )
 
 same-length : tie.Need-same-length Inv-loop μ-loop
@@ -101,9 +104,11 @@ returns c =
     let S = term-records (a .f .now) in
     let n = length (a .f .now) / 2 in
     let done : c .before .loop .i ≡ n = omega arith in
-    c .before .loop .inv .2
-    ∙ (λ t. paste (put .ensures t) (a .at + 1) S (done t))
-    ∙ head-then-terms (view (a .w .now)) S (head n) (a .at) n (omega (arith, length-view (a .w .now)))
+    let now = c .before .loop .inv .2 in (
+      now .0 ∙ (λ t. paste (put .ensures .0 t) (a .at + 1) S (done t))
+          ∙ head-then-terms (view (a .w .now)) S (head n) (a .at) n (omega (arith, length-view (a .w .now))),
+      now .1 ∙ put .ensures .1,
+    )
 
 pub store-spec : {M : Type 1} → statement M
 store-spec =

@@ -33,7 +33,7 @@ returns c =
     let v = view w in
     let p = c .before .before .before .before .before .before in
     begun v _ _ (capacity w) (s .pre) (omega (arith, length-view w)) (omega arith)
-    (p .write .ensures ∙ ap (λ (k : ℕ). set v 0 (record-of 1 2 k 0)) (p .before .before .count-records .ensures)) (c .before .before .write2 .ensures)
+    (p .write .ensures .0 ∙ ap (λ (k : ℕ). set v 0 (record-of 1 2 k 0)) (p .before .before .count-records .ensures)) (c .before .before .write2 .ensures .0)
 
 pub begin-spec : {M : Type 1} → statement M
 begin-spec =

@@ -41,7 +41,7 @@ returns c b bs ss H =
     let at = under .before .before in
     let control = first-is (lies H) in
     dropped H _ _ _ _ _ (w3-is (own-read H _ (at .get0 .ensures)) (under .get3 .ensures)) (at-is H _ (at .get0 .ensures)) (w2-is control (top .get2 .ensures))
-    (w3-is control (systems .get32 .ensures)) (c .before .before .write .ensures)
+    (w3-is control (systems .get32 .ensures)) (c .before .before .write .ensures .0)
 
 pub drop-spec : {M : Type 1} → statement M
 drop-spec =

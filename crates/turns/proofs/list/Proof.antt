@@ -175,7 +175,7 @@ returns c b bs ss H =
     let o = own-before-control (c .before .before .before) in
     let m = move-of o in
     let r = from-move m in
-    listed H (bounds r) (top-read r .get2 .ensures) (own-is (m .before .before) H) (systems-is r H) (m .move-up .ensures) (o .write .ensures) (c .before .before .write2 .ensures)
+    listed H (bounds r) (top-read r .get2 .ensures) (own-is (m .before .before) H) (systems-is r H) (m .move-up .ensures .0) (o .write .ensures .0) (c .before .before .write2 .ensures .0)
 
 pub list-spec : {M : Type 1} → statement M
 list-spec =

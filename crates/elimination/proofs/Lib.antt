@@ -1,3 +1,1 @@
--- `StretchLaws` has the stretches that make the run; `WholeLaws` elimination by its parts.
-pub mod StretchLaws
 pub mod WholeLaws

@@ -20,7 +20,7 @@ use Rattle.run.specs.Stretch.{Ran}
 use Rattle.loading.specs.Started.{Started}
 use Rattle.loading.proofs.MonicLaws.{readable-modulus}
 use Rattle.tables.specs.laws.Accepted.{TableRead, table-read}
-use Rattle.elimination.proofs.StretchLaws.{Runs, runs-from-0}
+use Rattle.scratch.proofs.StretchLaws.{Runs, runs-from-0}
 use Rattle.elimination.proofs.WholeLaws.{no-room, begins, run-is, in-words}
 use Rattle.elimination.proofs.eliminate_accepted.Statement.{statement}
 use Rattle.elimination.proofs.eliminate_accepted.Tie as tie

@@ -1,9 +1,9 @@
 -- `run_short` meets its contract: its stretch ends as the run does, or pauses, and the long stretch goes on.
 use native.Mathlib.Omega.{arith}
 use borrow.Author.Needs.{needs}
-use Rattle.elimination.proofs.StretchLaws.{Told, runs-from-0, stretch-ends, pause-within, pause-holds, stretch-goes-on}
-use Rattle.elimination.proofs.run_short.Statement.{statement}
-use Rattle.elimination.proofs.run_short.Tie as tie
+use Rattle.scratch.proofs.StretchLaws.{Told, runs-from-0, stretch-ends, pause-within, pause-holds, stretch-goes-on}
+use Rattle.scratch.proofs.run_short.Statement.{statement}
+use Rattle.scratch.proofs.run_short.Tie as tie
 
 slice-aggregate-run : tie.Need-slice-aggregate-run
 slice-aggregate-run c = search needs

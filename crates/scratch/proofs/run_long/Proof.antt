@@ -2,9 +2,9 @@
 use mathlib.Core.Logic.{⊎-elim}
 use native.Mathlib.Omega.{arith}
 use borrow.Author.Needs.{needs}
-use Rattle.elimination.proofs.StretchLaws.{Told, stretch-ends}
-use Rattle.elimination.proofs.run_long.Statement.{statement}
-use Rattle.elimination.proofs.run_long.Tie as tie
+use Rattle.scratch.proofs.StretchLaws.{Told, stretch-ends}
+use Rattle.scratch.proofs.run_long.Statement.{statement}
+use Rattle.scratch.proofs.run_long.Tie as tie
 
 slice-aggregate-run : tie.Need-slice-aggregate-run
 slice-aggregate-run c = search needs

@@ -49,7 +49,7 @@ use Rattle.monomials.proofs.highest.Met as highest-thm
 use Rattle.tables.specs.Words.{word, records}
 use Rattle.tables.specs.Read.{good, read-head}
 use Rattle.tables.specs.Walk.{Readable}
-use Rattle.lists.proofs.ListLaws.{leader-none, first-inside, leader-some}
+use Rattle.systems.proofs.SystemLaws.{leader-none, first-inside, leader-some}
 use Rattle.readers.proofs.Locals.{local, one, two, takes, takes-result, last-first, free-held, with-u32, with-usize, with-u64}
 use Rattle.readers.proofs.Calls.{Returned, called, calls-held, forks}
 use Rattle.readers.proofs.Readers.{New, IsOver, Words, Steps, slice, Held, reading, reader, reader-typed}
@@ -66,10 +66,10 @@ use Rattle.readers.proofs.word.Met as word-thm
 use Rattle.readers.proofs.step.Symbol as step-def
 use Rattle.readers.proofs.step.Symbol.{name as #step}
 use Rattle.readers.proofs.step.Met as step-thm
-use Rattle.lists.proofs.leader_at.Key.{name as #leader-at}
-use Rattle.lists.proofs.leader_at as leader-at
-use Rattle.lists.proofs.leader_at.Statement as stated
-use Rattle.lists.proofs.leader_at.Code as code
+use Rattle.systems.proofs.leader_at.Key.{name as #leader-at}
+use Rattle.systems.proofs.leader_at as leader-at
+use Rattle.systems.proofs.leader_at.Statement as stated
+use Rattle.systems.proofs.leader_at.Code as code
 
 abbrev stayed : Stays (leader-at.ended .signature .params) (leader-at.ended .kept)
 stayed =

@@ -13,9 +13,9 @@ use Rattle.tables.specs.Solve.{checked}
 use Rattle.tables.specs.Walk.{next}
 use Rattle.tables.specs.laws.Chains.{checked-good, checked-refused, next-inside, whole-records, triangle-chain}
 use Rattle.tables.specs.laws.Chains.{Reached, reached-first, reached-end, reached-astray, reached-refused, reached-on}
-use Rattle.lists.proofs.ListLaws.{led-refused, led-broken, led-good}
-use Rattle.lists.proofs.check_triangle.Statement.{statement}
-use Rattle.lists.proofs.check_triangle.Tie as tie
+use Rattle.systems.proofs.SystemLaws.{led-refused, led-broken, led-good}
+use Rattle.systems.proofs.check_triangle.Statement.{statement}
+use Rattle.systems.proofs.check_triangle.Tie as tie
 
 abbrev Inv-loop : tie.InvT-loop
 Inv-loop table p n system at₀ i₀ last₀ at i last =

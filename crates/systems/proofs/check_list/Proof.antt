@@ -11,11 +11,11 @@ use Rattle.tables.specs.Read.{read-header}
 use Rattle.tables.specs.Solve.{checked}
 use Rattle.tables.specs.Walk.{Readable, accepted}
 use Rattle.tables.specs.laws.Chains.{header-readable, readable-words}
-use Rattle.lists.specs.declared.Counted.the-variants.{Systems}
-use Rattle.lists.specs.Count.{counted}
-use Rattle.lists.proofs.ListLaws.{listed, list-header-refused, list-refused, list-good, list-broken}
-use Rattle.lists.proofs.check_list.Statement.{statement}
-use Rattle.lists.proofs.check_list.Tie as tie
+use Rattle.systems.specs.declared.Counted.the-variants.{Systems}
+use Rattle.systems.specs.Count.{counted}
+use Rattle.systems.proofs.SystemLaws.{listed, list-header-refused, list-refused, list-good, list-broken}
+use Rattle.systems.proofs.check_list.Statement.{statement}
+use Rattle.systems.proofs.check_list.Tie as tie
 
 -- ── the header is accepted ──
 module _ (c : tie.After-enum-told) where

@@ -2,8 +2,8 @@
 use mathlib.Core.List.{List}
 use lib.ListN.{length}
 use Rattle.tables.specs.Read.{Read, good, refused, System}
-use Rattle.lists.specs.declared.Counted.{Counted}
-use Rattle.lists.specs.declared.Counted.the-variants.{Systems, Refused}
+use Rattle.systems.specs.declared.Counted.{Counted}
+use Rattle.systems.specs.declared.Counted.the-variants.{Systems, Refused}
 
 -- The count of systems, or the refusal.
 abbrev pub counted : Read (List System) → Counted

@@ -9,11 +9,11 @@ use Rattle.tables.specs.declared.Next.the-variants.{To}
 use Rattle.tables.specs.Words.{word, records, follow}
 use Rattle.tables.specs.Read.{read-systems}
 use Rattle.tables.specs.Walk.{next}
-use Rattle.lists.specs.Count.{counted}
+use Rattle.systems.specs.Count.{counted}
 use Rattle.tables.specs.laws.Chains.{checked-good, checked-refused, next-inside, whole-records}
-use Rattle.lists.proofs.ListLaws.{Counting, counting-first, counting-end, counting-astray, counting-refused, counting-on}
-use Rattle.lists.proofs.check_systems.Statement.{statement}
-use Rattle.lists.proofs.check_systems.Tie as tie
+use Rattle.systems.proofs.SystemLaws.{Counting, counting-first, counting-end, counting-astray, counting-refused, counting-on}
+use Rattle.systems.proofs.check_systems.Statement.{statement}
+use Rattle.systems.proofs.check_systems.Tie as tie
 
 abbrev Inv-loop : tie.InvT-loop
 Inv-loop table p n at₀ i₀ count₀ at i count = Counting table p n at i count (counted (read-systems table p n (records table) 0 (word table 0 2)))

@@ -4,9 +4,9 @@ use native.Mathlib.Omega.{arith}
 use borrow.Author.Needs.{needs}
 use Rattle.tables.specs.Solve.{checked}
 use Rattle.tables.specs.laws.Chains.{checked-good, checked-refused, whole-records}
-use Rattle.lists.proofs.ListLaws.{system-broken, system-refused, system-checked}
-use Rattle.lists.proofs.check_system.Statement.{statement}
-use Rattle.lists.proofs.check_system.Tie as tie
+use Rattle.systems.proofs.SystemLaws.{system-broken, system-refused, system-checked}
+use Rattle.systems.proofs.check_system.Statement.{statement}
+use Rattle.systems.proofs.check_system.Tie as tie
 
 word-requires : tie.Need-word-requires
 word-requires c κs = search needs

@@ -18,10 +18,10 @@ fn is_solved(table: &[u32], p: u32, n: u32, i: usize, point: &[u32]) -> bool
     requires { ⌜ Point p (now point) ⌝ }
     ensures { λ r. ⌜ ((s : System) → read-system (now (table .entry)) p n i ≡ good s → r ≡ solves p (now (point .entry)) (s .T) (s .U)) ⌝ }
 {
-    if !points::all_match(table, p, n, i, words::word(table, i, 0), point, true) {
+    if !evaluation::all_match(table, p, n, i, words::word(table, i, 0), point, true) {
         return false;
     }
-    points::all_match(table, p, n, i, words::word(table, i, 1), point, false)
+    evaluation::all_match(table, p, n, i, words::word(table, i, 1), point, false)
 }
 
 // The place of the first system that the point solves, from 1; 0 for none.

@@ -46,24 +46,24 @@ use Rattle.polynomials.specs.Value.{value-modulo, Point}
 use Rattle.tables.specs.Words.{word, records}
 use Rattle.tables.specs.Read.{good, read-head, read-heads}
 use Rattle.tables.specs.Walk.{Readable}
-use Rattle.points.specs.Walks.{all-match}
+use Rattle.evaluation.specs.Walks.{all-match}
 use Rattle.tables.specs.laws.Linked.{good-same, left, Member, chain-next, chain-less}
-use Rattle.points.proofs.PointLaws.{MatchLeft, match-start, match-end, match-on, match-fails}
-use Rattle.points.proofs.PointLaws.{differ, agree}
+use Rattle.evaluation.proofs.ValueLaws.{MatchLeft, match-start, match-end, match-on, match-fails}
+use Rattle.evaluation.proofs.ValueLaws.{differ, agree}
 use Rattle.readers.proofs.Locals.{empty, holds, local, one, two, takes, takes-result, takes-last, last-first, free-held, with-u32, with-usize}
 use Rattle.readers.proofs.Calls.{Returned, calls-held, forks, while-more, says-both, needs-both}
 use Rattle.readers.proofs.Readers.{Known, knows}
 use Rattle.readers.proofs.Readers.{slice, Own, Held, lent, reading, reader, reader-typed, Both, tokens, Owns, apart, at-exit, called-at-both}
 use Rattle.readers.proofs.Readers.{Reading, reads, makes-reader, asks-over, asks-at, goes-on-last}
-use Rattle.points.proofs.value_at as value-at
-use Rattle.points.proofs.value_at.Symbol as value-at-def
-use Rattle.points.proofs.value_at.Symbol.{name as #value-at}
-use Rattle.points.proofs.value_at.Met as value-at-thm
-use Rattle.points.proofs.all_match.Key.{name as #all-match}
-use Rattle.points.proofs.all_match as all-matches
-use Rattle.points.proofs.all_match.Statement as stated
-use Rattle.points.proofs.all_match.Code as code
-use Rattle.points.proofs.all_match.Code.Mir as body
+use Rattle.evaluation.proofs.value_at as value-at
+use Rattle.evaluation.proofs.value_at.Symbol as value-at-def
+use Rattle.evaluation.proofs.value_at.Symbol.{name as #value-at}
+use Rattle.evaluation.proofs.value_at.Met as value-at-thm
+use Rattle.evaluation.proofs.all_match.Key.{name as #all-match}
+use Rattle.evaluation.proofs.all_match as all-matches
+use Rattle.evaluation.proofs.all_match.Statement as stated
+use Rattle.evaluation.proofs.all_match.Code as code
+use Rattle.evaluation.proofs.all_match.Code.Mir as body
 
 abbrev stayed : Stays (all-matches.ended .signature .params) (all-matches.ended .kept)
 stayed = (
@@ -370,4 +370,4 @@ all-match-spec 𝓤 H 𝓜 𝓖 𝓡 =
     (meets 𝓤 H (𝓖 .A) (givenOf 𝓤 H 𝓜 𝓖) (𝓜 .mem) (𝓡 .run) (tablesOf 𝓤 H 𝓜 (tables 𝓤 H 𝓜 𝓡 code.env))
     (knows 𝓤 H 𝓜 𝓖 𝓡 code.env code.calls-readers·new code.calls-readers·at code.calls-readers·is-over code.calls-readers·step)
     (cited 𝓤 H (ValueAt 𝓤 H (𝓖 .A) (𝓜 .mem) (𝓡 .run)) 𝓜 𝓡 code.env
-    #value-at value-at-def.routine code.calls-points·value-at (value-at-thm.met 𝓤 H 𝓜 𝓖 𝓡)))
+    #value-at value-at-def.routine code.calls-evaluation·value-at (value-at-thm.met 𝓤 H 𝓜 𝓖 𝓡)))

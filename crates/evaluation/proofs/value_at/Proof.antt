@@ -46,24 +46,24 @@ use Rattle.polynomials.specs.Value.{value-modulo, Point}
 use Rattle.tables.specs.Words.{word, records}
 use Rattle.tables.specs.Read.{good, read-head}
 use Rattle.tables.specs.Walk.{Readable}
-use Rattle.points.specs.Walks.{plus-term}
+use Rattle.evaluation.specs.Walks.{plus-term}
 use Rattle.tables.specs.laws.Linked.{left, chain-next, chain-less}
 use Rattle.tables.specs.laws.Accepted.{readable-numbers}
-use Rattle.points.proofs.PointLaws.{ValueLeft, value-start, value-end, value-residue, value-next}
+use Rattle.evaluation.proofs.ValueLaws.{ValueLeft, value-start, value-end, value-residue, value-next}
 use Rattle.readers.proofs.Locals.{empty, holds, local, one, two, takes, takes-result, takes-last, last-first, free-held, with-u32, with-usize, with-u64}
 use Rattle.readers.proofs.Calls.{Returned, calls-held, while-more, says-both, needs-both}
 use Rattle.readers.proofs.Readers.{Known, knows, slice, Own, Held, lent, reading, reader, reader-typed}
 use Rattle.readers.proofs.Readers.{Both, tokens, Owns, apart, at-exit, called-at-both}
 use Rattle.readers.proofs.Readers.{Reading, reads, makes-reader, asks-over, asks-at, goes-on, goes-on-last}
-use Rattle.points.proofs.add_term as add-term
-use Rattle.points.proofs.add_term.Symbol as add-term-def
-use Rattle.points.proofs.add_term.Symbol.{name as #add-term}
-use Rattle.points.proofs.add_term.Met as add-term-thm
-use Rattle.points.proofs.value_at.Key.{name as #value-at}
-use Rattle.points.proofs.value_at as value-at
-use Rattle.points.proofs.value_at.Statement as stated
-use Rattle.points.proofs.value_at.Code as code
-use Rattle.points.proofs.value_at.Code.Mir as body
+use Rattle.evaluation.proofs.add_term as add-term
+use Rattle.evaluation.proofs.add_term.Symbol as add-term-def
+use Rattle.evaluation.proofs.add_term.Symbol.{name as #add-term}
+use Rattle.evaluation.proofs.add_term.Met as add-term-thm
+use Rattle.evaluation.proofs.value_at.Key.{name as #value-at}
+use Rattle.evaluation.proofs.value_at as value-at
+use Rattle.evaluation.proofs.value_at.Statement as stated
+use Rattle.evaluation.proofs.value_at.Code as code
+use Rattle.evaluation.proofs.value_at.Code.Mir as body
 
 abbrev stayed : Stays (value-at.ended .signature .params) (value-at.ended .kept)
 stayed = (
@@ -354,4 +354,4 @@ value-at-spec 𝓤 H 𝓜 𝓖 𝓡 =
     (meets 𝓤 H (𝓖 .A) (givenOf 𝓤 H 𝓜 𝓖) (𝓜 .mem) (𝓡 .run) (tablesOf 𝓤 H 𝓜 (tables 𝓤 H 𝓜 𝓡 code.env))
     (knows 𝓤 H 𝓜 𝓖 𝓡 code.env code.calls-readers·new code.calls-readers·at code.calls-readers·is-over code.calls-readers·step)
     (cited 𝓤 H (AddTerm 𝓤 H (𝓖 .A) (𝓜 .mem) (𝓡 .run)) 𝓜 𝓡 code.env
-    #add-term add-term-def.routine code.calls-points·add-term (add-term-thm.met 𝓤 H 𝓜 𝓖 𝓡)))
+    #add-term add-term-def.routine code.calls-evaluation·add-term (add-term-thm.met 𝓤 H 𝓜 𝓖 𝓡)))

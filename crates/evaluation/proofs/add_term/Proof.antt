@@ -8,8 +8,8 @@ use Rattle.residues.specs.Residue.{sum}
 use Rattle.polynomials.specs.Packed.{bytes, exponents}
 use Rattle.polynomials.specs.Value.{monomial-valueℕ}
 use Rattle.tables.specs.Words.{word}
-use Rattle.points.proofs.add_term.Statement.{statement}
-use Rattle.points.proofs.add_term.Tie as tie
+use Rattle.evaluation.proofs.add_term.Statement.{statement}
+use Rattle.evaluation.proofs.add_term.Tie as tie
 
 word-requires : tie.Need-word-requires
 word-requires c κs = search needs

@@ -19,8 +19,8 @@ use Rattle.extent.specs.Extent.{extent}
 use Rattle.extent.specs.laws.Extent.{extent-of-list}
 use Rattle.decoding.specs.Words.{words-of}
 use Rattle.lines.specs.Text.{line-text}
-use Rattle.triangularize.specs.Said.{records-text, said-of, said}
-use Rattle.triangularize.specs.Response.{answer-text, response}
+use Rattle.responses.specs.Said.{records-text, said-of, said}
+use Rattle.responses.specs.Response.{answer-text, response}
 
 -- The lines of the first records say nothing of what follows.
 records-alone : (w rest : List ℕ) (i n : ℕ) → 4 * (i + n) ≤ length w → records-text (w ++ rest) i n ≡ records-text w i n

@@ -9,7 +9,7 @@ use Rattle.rules.specs.Written.{list-records}
 use Rattle.rules.specs.Eliminate.{Eliminated, listed, turned-back, eliminated}
 use Rattle.decoding.specs.Words.{words-of}
 use Rattle.lines.specs.Text.{line-text}
-use Rattle.triangularize.specs.Said.{records-text}
+use Rattle.responses.specs.Said.{records-text}
 
 -- "It prints outcome (0 or the refusal), steps, then systems or the record; after an outcome of 0, each written record on a line."
 unfoldable pub answer-text : Eliminated → List ℕ

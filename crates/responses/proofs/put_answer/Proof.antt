@@ -2,9 +2,9 @@
 use native.Mathlib.Omega.{arith}
 use borrow.Author.Needs.{needs}
 use lib.ListN.{take}
-use Rattle.triangularize.proofs.SaidLaws.{said-refused, said-systems}
-use Rattle.triangularize.proofs.put_answer.Statement.{statement}
-use Rattle.triangularize.proofs.put_answer.Tie as tie
+use Rattle.responses.proofs.SaidLaws.{said-refused, said-systems}
+use Rattle.responses.proofs.put_answer.Statement.{statement}
+use Rattle.responses.proofs.put_answer.Tie as tie
 
 enum-known-outcome : tie.Need-enum-known-outcome
 enum-known-outcome c = search needs

@@ -20,8 +20,8 @@ use Rattle.rules.specs.Written.{terms-words, heads-words, systems-words, list-w
 use Rattle.rules.specs.Eliminate.{room-of, limits-of, eliminated}
 use Rattle.decoding.specs.Words.{words-from, words-of}
 use Rattle.lines.specs.Text.{digits-of, decimal, rest-text, line-text}
-use Rattle.triangularize.specs.Said.{records-text}
-use Rattle.triangularize.specs.Response.{answer-text, response}
+use Rattle.responses.specs.Said.{records-text}
+use Rattle.responses.specs.Response.{answer-text, response}
 
 -- "Input 7 2 1 0, 2 0 0 0, 1 0 257 3, 6 0 0 0", each word in four bytes.
 abbrev job : List ℕ

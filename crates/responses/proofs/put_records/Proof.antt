@@ -5,10 +5,10 @@ use Prim.Native.Nat.{_+_, _*_, _-_, _≤_}
 use native.Mathlib.Omega.{arith}
 use borrow.Author.Needs.{needs}
 use lib.ListN.{length, take, drop, length-take}
-use Rattle.triangularize.specs.Said.{records-text}
-use Rattle.triangularize.proofs.SaidLaws.{Recorded, recorded-first, recorded-on, recorded-end}
-use Rattle.triangularize.proofs.put_records.Statement.{statement}
-use Rattle.triangularize.proofs.put_records.Tie as tie
+use Rattle.responses.specs.Said.{records-text}
+use Rattle.responses.proofs.SaidLaws.{Recorded, recorded-first, recorded-on, recorded-end}
+use Rattle.responses.proofs.put_records.Statement.{statement}
+use Rattle.responses.proofs.put_records.Tie as tie
 
 abbrev Inv-loop : tie.InvT-loop
 Inv-loop text₀ end list n last₀ i₀ text last i = (i ≤ n) × (length text ≡ length text₀) × (last ≤ end + 85 * i) × Recorded list n (take end text₀ ++ records-text list 0 n) i (take last text)

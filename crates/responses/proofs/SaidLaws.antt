@@ -11,7 +11,7 @@ use Rattle.tables.specs.declared.Reason.{Reason}
 use Rattle.run.specs.declared.Outcome.{Outcome}
 use Rattle.run.specs.declared.Outcome.the-variants.{Systems, Refused}
 use Rattle.extent.specs.Extent.{extent}
-use Rattle.triangularize.specs.Said.{records-text, said-of}
+use Rattle.responses.specs.Said.{records-text, said-of}
 
 -- The text x and the lines of the records that are left, from record i on, are the whole.
 abbrev pub Recorded : List ℕ → ℕ → List ℕ → ℕ → List ℕ → Type 0

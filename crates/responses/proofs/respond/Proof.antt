@@ -5,9 +5,9 @@ use native.Mathlib.Omega.{arith}
 use borrow.Author.Needs.{needs}
 use lib.ListN.{length, take}
 use lib.Seq.{length-take-le}
-use Rattle.triangularize.proofs.ResponseLaws.{too-long, broken, answered}
-use Rattle.triangularize.proofs.respond.Statement.{statement}
-use Rattle.triangularize.proofs.respond.Tie as tie
+use Rattle.responses.proofs.ResponseLaws.{too-long, broken, answered}
+use Rattle.responses.proofs.respond.Statement.{statement}
+use Rattle.responses.proofs.respond.Tie as tie
 
 -- ── the places, and the ways back from one to another ──
 -- The bytes are whole words, which are decoded; then the elimination runs.

@@ -5,15 +5,12 @@
 // area are not zero afterwards; a line with all words of the output; and for each point a line with four numbers: 0 and 1 or 0 for yes or no
 // from the table, 0 and the place from the list, or in place of either a refusal's number and record.
 // The run ends with the input, or at a job that is cut short or too long for the buffers; what it printed before stays.
-mod job;
-mod tries;
-
 ghost use Prim.Native.Nat.{_≤_};
 ghost use lib.ListN.{length};
 ghost use Rattle.lines.specs.Text.{Ends};
 use input::Input;
-use job::Job;
-use job::Shape;
+use jobs::Job;
+use jobs::Shape;
 use lines::Turn;
 use lines::text;
 
@@ -31,10 +28,10 @@ fn answer(
     requires { ⌜ (length (now work) ≤ 262400) × (end ≤ length (now text)) × (128 ≤ length (now text)) ⌝ }
     ensures { λ r. ⌜ Ends r (now (text .exit)) ⌝ }
 {
-    let heading = job::run(table, work, output, shape.limit, shape.filling);
-    let first = job::print(text, end, heading);
+    let heading = jobs::run(table, work, output, shape.limit, shape.filling);
+    let first = jobs::print(text, end, heading);
     let second = text::print_line(text, first, output);
-    let m = job::shorter(shape.list, output.len());
+    let m = jobs::shorter(shape.list, output.len());
     tries::run_all(bytes, from, table, &output[..m], shape.points, text, second)
 }
 
@@ -51,7 +48,7 @@ fn run_job(
     requires { ⌜ (length (now work) ≤ 262400) × (end ≤ length (now text)) × (128 ≤ length (now text)) ⌝ }
     ensures { λ r. ⌜ Ends r (now (text .exit)) ⌝ }
 {
-    let Job::Next(shape, rest) = job::read(bytes, from, table) else {
+    let Job::Next(shape, rest) = jobs::read(bytes, from, table) else {
         return Turn::End(end);
     };
     let n = shape.table;

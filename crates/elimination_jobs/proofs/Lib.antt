@@ -1,3 +1,0 @@
-pub mod HeadingLaws
-pub mod TriedLaws
-pub mod RunLaws

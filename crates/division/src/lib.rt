@@ -53,7 +53,7 @@ fn times_initial(p: u64, i: &[u64], f: &[u64], x: &mut [u64], z: &mut [u64]) -> 
     ensures { λ r. ⌜ Forms (bounded-product standard p (terms (now (i .entry))) (terms (now (f .entry)))) r (now (x .exit)) ⌝ }
 {
     if i.len() == 2 && i[0] == 1 && i[1] == 0 {
-        sums::copy(f, 0, x, 0);
+        polynomials::copy(f, 0, x, 0);
         return Formed::Words(f.len());
     }
     products::product(p, i, f, x, z)

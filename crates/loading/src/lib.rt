@@ -40,7 +40,7 @@ fn load_monic(table: &[u32], p: u32, n: u32, head: usize, out: &mut [u64]) -> us
     ensures { λ r. ⌜ ((f : Poly) → read-head (now (table .entry)) p n head ≡ good f → Loaded p f r (now (out .exit))) ⌝ }
 {
     let m = load_head(table, p, n, head, out);
-    sums::monic(p as u64, &mut out[..m]);
+    scaling::monic(p as u64, &mut out[..m]);
     m
 }
 

@@ -51,7 +51,7 @@ pub fn put_back(w: &mut [u32], p: u64, closing: bool, left: usize, r: &mut [u64]
     ensures { λ k. ⌜ When-open (now (w .entry)) (λ b bs ss.
         Leaves (capacity (now (w .entry))) (with-open b bs ss) (with-open (put-in closing left (take n (now (r .exit))) b) bs ss) k (view (now (w .exit)))) ⌝ }
 {
-    sums::monic(p, &mut r[..n]);
+    scaling::monic(p, &mut r[..n]);
     if closing {
         return puts::put_q(w, left, &r[..n]);
     }

@@ -107,7 +107,7 @@ pub fn apply_split(
 {
     let m = i.len();
     let l = t.len() - m;
-    sums::copy(t, m, r, 0);
-    sums::monic(p, &mut r[..l]);
+    polynomials::copy(t, m, r, 0);
+    scaling::monic(p, &mut r[..l]);
     splits::split(w, place, t, i, &r[..l])
 }

@@ -86,7 +86,7 @@ fn make_monic(p: u64, f: &[u64], x: &mut [u64])
     requires { ⌜ Holds p (now f) ⌝ }
     requires { ⌜ now x ≡ now f ⌝ }
 {
-    sums::monic(p, x);
+    scaling::monic(p, x);
     print::polynomial(b"monic", x);
     print::truth(b"equal", forms::equal(x, f));
 }
@@ -96,7 +96,7 @@ fn copy(f: &[u64], x: &mut [u64]) -> usize
     requires { ⌜ length (now f) ≤ length (now x) ⌝ }
     ensures { λ r. ⌜ (r ≡ length (now (f .entry))) × (take r (now (x .exit)) ≡ now (f .entry)) ⌝ }
 {
-    sums::copy(f, 0, x, 0);
+    polynomials::copy(f, 0, x, 0);
     f.len()
 }
 

@@ -69,7 +69,7 @@ fn gather_apart(p: u64, f: &[u64], g: &[u64], x: &mut [u64]) -> Formed
     let ended = gathering::gather(p, f, g, &mut a, &mut b);
     match ended {
         Gathered::Words(n) => {
-            sums::copy(&a[..n], 0, x, 0);
+            polynomials::copy(&a[..n], 0, x, 0);
             Formed::Words(n)
         }
         Gathered::OverTerms => Formed::OverTerms,
@@ -90,7 +90,7 @@ fn gather_large(p: u64, f: &[u64], g: &[u64], x: &mut [u64]) -> Formed
     let ended = gathering::gather(p, f, g, &mut a, &mut b);
     match ended {
         Gathered::Words(n) => {
-            sums::copy(&a[..n], 0, x, 0);
+            polynomials::copy(&a[..n], 0, x, 0);
             Formed::Words(n)
         }
         Gathered::OverTerms => Formed::OverTerms,

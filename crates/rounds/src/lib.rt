@@ -44,10 +44,10 @@ fn round_apart(
     let mut x = [0u64; 1024];
     let mut y = [0u64; 1024];
     let mut z = [0u64; 1024];
-    sums::copy(&r[..n], 0, &mut a, 0);
+    polynomials::copy(&r[..n], 0, &mut a, 0);
     match division::round(p, k, d, e, i, t, &mut a, n, &mut x, &mut y, &mut z) {
         Formed::Words(m) => {
-            sums::copy(&a[..m], 0, r, 0);
+            polynomials::copy(&a[..m], 0, r, 0);
             Formed::Words(m)
         }
         Formed::OverDegree => Formed::OverDegree,

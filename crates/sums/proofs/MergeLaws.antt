@@ -1,20 +1,17 @@
--- What the code of `sums` plugs its places into: the merge on words, the tested difference, and the monic polynomial. What holds at a
--- loop's head, and each turn.
+-- What the code of `sums` plugs its places into: the merge on words, what holds at its head and each turn; and the tested difference.
 use mathlib.Core.Path.{_≡_, refl, sym, _∙_, ap, ap₂, subst}
 use mathlib.Core.Logic.{_≢_}
-use mathlib.Core.List.{List, [], _∷_, _++_, append-assoc, append-nil}
+use mathlib.Core.List.{List, [], _∷_, _++_}
 use mathlib.Core.Bool.{Bool, true, false}
 use Prim.Native.Nat.{ℕ, zero, suc, _+_, _-_, _*_, _/_, _%_, _^_, _≤_, _<_, Ordering·lt}
 use native.Mathlib.Nat.{pow-suc, div-lt-iff-lt-mul}
 use native.Mathlib.Omega.{arith}
 use borrow.Author.Tests.{ltb-true, ltb-false}
 use lib.Dec.{ltb}
-use lib.ListN.{length, take, drop, getD, set, length-drop, length-set, drop-of-length-le}
-use lib.Seq.{paste, length-paste, take-paste, take-all, length-take-le, drop-set-lt, getD-set-other, set-getD}
+use lib.ListN.{length, take, drop, getD, set, length-drop, drop-of-length-le}
+use lib.Seq.{paste, length-paste, take-paste, take-all, length-take-le}
 use Rattle.residues.specs.laws.Pairs.{drop-pair}
-use Rattle.residues.specs.Prime.{Prime}
-use Rattle.residues.specs.Residue.{inverse}
-use Rattle.polynomials.specs.Poly.{Poly, order, join, keep, add-multiple, difference, monic}
+use Rattle.polynomials.specs.Poly.{Poly, order, join, keep, add-multiple, difference}
 use Rattle.polynomials.specs.Canonical.{Under, Canonical, All}
 use Rattle.polynomials.specs.Bounds.{standard, over, within, terms-passed, tested}
 use Rattle.polynomials.specs.declared.Formed.the-variants.{Words, OverTerms}
@@ -22,10 +19,10 @@ use Rattle.polynomials.specs.Packed.{bytes, term, terms, Fits, AllFit}
 use Rattle.polynomials.specs.Working.{Pairs, Written, Forms}
 use Rattle.polynomials.specs.laws.Order.{compare-is}
 use Rattle.polynomials.specs.laws.Canonical.{under-first}
-use Rattle.polynomials.specs.laws.Merge.{Below, below-first, below-trans, multiple-left, multiple-right, multiple-both, multiple-zeros, keep-none, keep-some, scaled, monic-scaled}
+use Rattle.polynomials.specs.laws.Merge.{Below, below-first, below-trans, multiple-left, multiple-right, multiple-both, multiple-zeros, keep-none, keep-some}
 use Rattle.polynomials.specs.laws.Packed.{fewer-bytes, order-bytes, join-bytes}
 use Rattle.polynomials.specs.laws.Places.{places-terms}
-use Rattle.polynomials.specs.laws.Terms.{terms-at, terms-push, terms-append, words-of-terms}
+use Rattle.polynomials.specs.laws.Terms.{terms-at, terms-push-before, terms-append, words-of-terms}
 
 -- ── words ──
 -- Monomials of which no exponent passes 255 have a sum that fits.
@@ -109,12 +106,6 @@ pub start : (p c m : ℕ) (g f out : List ℕ) → Canonical p (terms f) → Can
 unfolding terms
 start p c m g f out n h a = record { i-even = refl; j-even = refl; k-even = refl; i≤ = omega arith; j≤ = omega arith; k≤ = omega arith; f-canonical = n; g-canonical = h; fits = a; same = refl }
 
--- A pair is written behind the k words.
-pushed : (out : List ℕ) (k a v : ℕ) (x y : Poly) → k % 2 ≡ 0 → k + 1 < length out → x ≡ term a v ∷ y →
-    terms (take (k + 2) (set (set out k a) (k + 1) v)) ++ y ≡ terms (take k out) ++ x
-pushed out k a v x y e h q =
-    ap (λ z. z ++ y) (terms-push out k a v e h) ∙ append-assoc (terms (take k out)) (term a v ∷ []) y ∙ ap (λ z. terms (take k out) ++ z) (sym q)
-
 module _ {p c m : ℕ} {g f out : List ℕ} {i j k : ℕ} (H : Head p c m g f out i j k) (pairs-f : Pairs f) (pairs-g : Pairs g) (in-g : j < length g) where
   j-pair : j + 1 < length g
   j-pair = omega (arith, H .j-even)
@@ -146,7 +137,7 @@ module _ {p c m : ℕ} {g f out : List ℕ} {i j k : ℕ} (H : Head p c m g f ou
       f-canonical = front-canonical in-f .3;
       g-canonical = H .g-canonical;
       fits = H .fits;
-      same = pushed out k (getD f i 0) (getD f (i + 1) 0) (left p c m g f i j) (left p c m g f (i + 2) j) (H .k-even) room ahead ∙ H .same;
+      same = terms-push-before out k (getD f i 0) (getD f (i + 1) 0) (left p c m g f i j) (left p c m g f (i + 2) j) (H .k-even) room ahead ∙ H .same;
     }
       where
         ahead : left p c m g f i j ≡ term (getD f i 0) (getD f (i + 1) 0) ∷ left p c m g f (i + 2) j
@@ -217,7 +208,7 @@ module _ {p c m : ℕ} {g f out : List ℕ} {i j k : ℕ} (H : Head p c m g f ou
     f-canonical = K .canonical;
     g-canonical = next-canonical .3;
     fits = next-fits .1;
-    same = pushed out k s (m + getD g (j + 1) 0) (left p c m g f i j) (left p c m g f i′ (j + 2)) (H .k-even) room
+    same = terms-push-before out k s (m + getD g (j + 1) 0) (left p c m g f i j) (left p c m g f i′ (j + 2)) (H .k-even) room
         (K .sum ∙ keep-some s (bytes 8 (m + getD g (j + 1) 0)) (left p c m g f i′ (j + 2)) z) ∙ H .same;
   }
 
@@ -280,63 +271,3 @@ over-terms-refused f x many = go (ltb 256 (length f)) (ltb-false 256 (length f))
     go : (b : Bool) → (b ≡ false → length f ≤ 256) → Forms (elim b [ true ↦ terms-passed | false ↦ within f ]) OverTerms x
     go true h = refl
     go false h = absurd (omega (arith, h refl))
-
--- ── the monic polynomial ──
--- At the loop's head: the coefficients of the first i words are times c.
-pub record Scaled (p c : ℕ) (f₀ f : List ℕ) (i : ℕ) : Type 0 where
-  pub even : i % 2 ≡ 0
-  pub same-length : length f ≡ length f₀
-  pub within : i ≤ length f
-  pub canonical : Canonical p (terms (drop i f))
-  pub same : terms (take i f) ++ scaled p c (terms (drop i f)) ≡ scaled p c (terms f₀)
-
-pub scaled-none : (p c : ℕ) (f : List ℕ) → Canonical p (terms f) → Scaled p c f f 0
-unfolding terms
-scaled-none p c f n = record { even = refl; same-length = refl; within = omega arith; canonical = n; same = refl }
-
-module _ {p c : ℕ} {f₀ f : List ℕ} {i : ℕ} (S : Scaled p c f₀ f i) (pairs-f : Pairs f₀) where
-  module _ (in-f : i < length f) where
-    pair : i + 1 < length f
-    pair = omega (arith, S .even, S .same-length)
-
-    pub scaled-next : Canonical p (term (getD f i 0) (getD f (i + 1) 0) ∷ terms (drop (i + 2) f))
-    scaled-next = subst (Canonical p) (terms-at f i pair) (S .canonical)
-
-    pub scaled-turn : Scaled p c f₀ (set f i (c * getD f i 0 % p)) (i + 2)
-    unfolding scaled
-    scaled-turn = record {
-      even = omega (arith, S .even);
-      same-length = length-set f i x ∙ S .same-length;
-      within = simp length-set (omega (arith, pair));
-      canonical = subst (λ s. Canonical p (terms s)) (sym behind) (scaled-next .3);
-      same = ap₂ (λ a b. terms a ++ scaled p c (terms b)) (ap (take (i + 2)) (sym kept)) behind
-          ∙ pushed f i x (getD f (i + 1) 0) (scaled p c (terms (drop i f))) (scaled p c (terms (drop (i + 2) f))) (S .even) pair (ap (scaled p c) (terms-at f i pair)) ∙ S .same;
-    }
-      where
-        x : ℕ
-        x = c * getD f i 0 % p
-
-        other : i + 1 ≢ i
-        other e = omega arith
-
-        behind : drop (i + 2) (set f i (c * getD f i 0 % p)) ≡ drop (i + 2) f
-        behind = drop-set-lt (i + 2) f i (c * getD f i 0 % p) (omega arith)
-
-        kept : set (set f i (c * getD f i 0 % p)) (i + 1) (getD f (i + 1) 0) ≡ set f i (c * getD f i 0 % p)
-        kept = ap (set (set f i (c * getD f i 0 % p)) (i + 1)) (sym (getD-set-other f i (i + 1) (c * getD f i 0 % p) 0 other)) ∙ set-getD (set f i (c * getD f i 0 % p)) (i + 1) 0
-
-  pub scaled-all : length f ≤ i → terms f ≡ scaled p c (terms f₀)
-  unfolding terms scaled
-  scaled-all end =
-      sym (append-nil (terms f)) ∙ ap₂ (λ a b. terms a ++ scaled p c (terms b)) (sym (take-all i f end)) (sym (drop-of-length-le f end)) ∙ S .same
-
-pub monic-none : (p : ℕ) (f : List ℕ) → length f ≡ 0 → terms f ≡ monic p (terms f)
-unfolding terms monic
-monic-none p [] h = refl
-monic-none p (c ∷ s) h = absurd (omega arith)
-
-pub monic-of : (p : ℕ) (f : List ℕ) → Prime p → Canonical p (terms f) → 1 < length f → monic p (terms f) ≡ scaled p (inverse p (getD f 0 0)) (terms f)
-unfolding terms
-monic-of p [] P n h = absurd (omega arith)
-monic-of p (c ∷ []) P n h = absurd (omega arith)
-monic-of p (c ∷ (m ∷ s)) P n h = monic-scaled p (term c m) (terms s) P n

@@ -1,29 +1,12 @@
-// Sums of polynomials by one merge, f plus a term times g; the difference, the monic polynomial, and words copied.
-ghost use mathlib.Core.Path.{_≡_};
+// Sums of polynomials by one merge, f plus a term times g; and the difference.
 ghost use Prim.Native.Nat.{_+_, _-_, _≤_, _<_};
-ghost use lib.ListN.{length, drop};
-ghost use lib.Seq.{paste};
-ghost use Rattle.residues.specs.Prime.{Prime};
-ghost use Rattle.polynomials.specs.Poly.{add-multiple, monic};
+ghost use lib.ListN.{length};
+ghost use Rattle.polynomials.specs.Poly.{add-multiple};
 ghost use Rattle.polynomials.specs.Bounds.{standard, bounded-difference};
 ghost use Rattle.polynomials.specs.Canonical.{Canonical};
 ghost use Rattle.polynomials.specs.Packed.{terms, bytes, AllFit};
 ghost use Rattle.polynomials.specs.Working.{Pairs, Holds, Written, Forms};
 use polynomials::Formed;
-
-// Copies the words of f from `from` on to the words of `out` from `at` on.
-pub fn copy(f: &[u64], from: usize, out: &mut [u64], at: usize)
-    requires { ⌜ from ≤ length (now f) ⌝ }
-    requires { ⌜ at + (length (now f) - from) ≤ length (now out) ⌝ }
-    ensures { λ _. ⌜ now (out .exit) ≡ paste (now (out .entry)) at (drop from (now (f .entry))) (length (now (f .entry)) - from) ⌝ }
-{
-    let n = f.len() - from;
-    let mut i = 0;
-    while i < n {
-        out[at + i] = f[from + i];
-        i += 1;
-    }
-}
 
 // f plus c·m times g, into the first words of `out`; how many. g's exponents, with those of m, stay below 256.
 pub fn add_multiple(p: u64, c: u64, m: u64, g: &[u64], f: &[u64], out: &mut [u64]) -> usize
@@ -57,7 +40,7 @@ pub fn add_multiple(p: u64, c: u64, m: u64, g: &[u64], f: &[u64], out: &mut [u64
             j += 2;
         }
     }
-    copy(f, i, out, k);
+    polynomials::copy(f, i, out, k);
     k + (f.len() - i)
 }
 
@@ -74,21 +57,4 @@ pub fn difference(p: u64, f: &[u64], g: &[u64], out: &mut [u64]) -> Formed
         return Formed::OverTerms;
     }
     Formed::Words(n)
-}
-
-// Makes f monic.
-pub fn monic(p: u64, f: &mut [u64])
-    requires { ⌜ Prime p × (p < 2147483648) ⌝ }
-    requires { ⌜ Pairs (now f) × Canonical p (terms (now f)) ⌝ }
-    ensures { λ _. ⌜ terms (now (f .exit)) ≡ monic p (terms (now (f .entry))) ⌝ }
-{
-    if f.len() == 0 {
-        return;
-    }
-    let c = residues::invert(p, f[0]);
-    let mut i = 0;
-    while i < f.len() {
-        f[i] = residues::multiply(p, c, f[i]);
-        i += 2;
-    }
 }

@@ -1,11 +1,12 @@
 -- The polynomial that pairs of words hold, by parts of the words: pairs taken, left out, read, and written at the end.
 use mathlib.Core.Path.{_≡_, refl, sym, _∙_, ap}
-use mathlib.Core.List.{List, [], _∷_, _++_}
+use mathlib.Core.List.{List, [], _∷_, _++_, append-assoc}
 use Prim.Native.Nat.{ℕ, zero, suc, _+_, _*_, _/_, _%_, _<_}
 use native.Mathlib.Omega.{arith}
 use lib.ListN.{length, take, drop, getD, set, length-take}
 use lib.Seq.{drop-nil}
 use Rattle.residues.specs.laws.Pairs.{drop-pair, take-set-pair}
+use Rattle.polynomials.specs.Poly.{Poly}
 use Rattle.polynomials.specs.Packed.{term, terms}
 use Rattle.polynomials.specs.Working.{Pairs}
 
@@ -45,3 +46,9 @@ terms-at s i h = ap terms (drop-pair s i h)
 pub terms-push : (s : List ℕ) (k c m : ℕ) → k % 2 ≡ 0 → k + 1 < length s → terms (take (k + 2) (set (set s k c) (k + 1) m)) ≡ terms (take k s) ++ (term c m ∷ [])
 unfolding terms
 terms-push s k c m e h = ap terms (take-set-pair s k c m h) ∙ terms-append (take k s) (c ∷ (m ∷ [])) (simp length-take (omega arith))
+
+-- The same, with y behind the pair.
+pub terms-push-before : (s : List ℕ) (k c m : ℕ) (x y : Poly) → k % 2 ≡ 0 → k + 1 < length s → x ≡ term c m ∷ y
+    → terms (take (k + 2) (set (set s k c) (k + 1) m)) ++ y ≡ terms (take k s) ++ x
+terms-push-before s k c m x y e h q =
+    ap (λ z. z ++ y) (terms-push s k c m e h) ∙ append-assoc (terms (take k s)) (term c m ∷ []) y ∙ ap (λ z. terms (take k s) ++ z) (sym q)

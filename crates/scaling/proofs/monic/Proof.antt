@@ -1,4 +1,4 @@
--- `sums::monic` meets its contract. The invariant: the coefficients of the first i words are times the inverse.
+-- `monic` meets its contract. The invariant: the coefficients of the first i words are times the inverse.
 use mathlib.Core.Path.{sym, ap, _∙_, subst}
 use Prim.Native.Nat.{_+_, _-_, _<_}
 use native.Mathlib.Omega.{arith}
@@ -7,9 +7,9 @@ use Rattle.residues.specs.Residue.{product}
 use Rattle.residues.specs.laws.Inverse.{inverse-lt}
 use Rattle.polynomials.specs.Packed.{terms}
 use Rattle.polynomials.specs.laws.Merge.{scaled}
-use Rattle.sums.proofs.MergeLaws.{Scaled, scaled-none, scaled-next, scaled-turn, scaled-all, monic-none, monic-of}
-use Rattle.sums.proofs.monic.Statement.{statement}
-use Rattle.sums.proofs.monic.Tie as tie
+use Rattle.scaling.proofs.ScaledLaws.{Scaled, scaled-none, scaled-next, scaled-turn, scaled-all, monic-none, monic-of}
+use Rattle.scaling.proofs.monic.Statement.{statement}
+use Rattle.scaling.proofs.monic.Tie as tie
 
 abbrev Inv-loop : tie.InvT-loop
 Inv-loop p f₀ c i₀ f i = Scaled p c f₀ f i

@@ -1,4 +1,4 @@
--- `sums::copy` meets its contract. The invariant: the first i words are copied.
+-- `copy` meets its contract. The invariant: the first i words are copied.
 use mathlib.Core.Path.{_≡_, refl, sym, ap, ap₂, _∙_}
 use mathlib.Core.List.{List}
 use Prim.Native.Nat.{ℕ, _+_, _-_, _≤_, _<_}
@@ -6,8 +6,8 @@ use native.Mathlib.Numerals.{add-one}
 use native.Mathlib.Omega.{arith}
 use lib.ListN.{length, drop, getD, set, length-drop, length-set}
 use lib.Seq.{paste, paste-zero, paste-suc, getD-drop}
-use Rattle.sums.proofs.copy.Statement.{statement}
-use Rattle.sums.proofs.copy.Tie as tie
+use Rattle.polynomials.proofs.copy.Statement.{statement}
+use Rattle.polynomials.proofs.copy.Tie as tie
 
 abbrev Inv-loop : tie.InvT-loop
 Inv-loop f from out₀ at n i₀ out i = (i ≤ n) × (n ≡ length f - from) × (length out ≡ length out₀) × (out ≡ paste out₀ at (drop from f) i)

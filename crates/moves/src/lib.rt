@@ -30,6 +30,15 @@ pub fn move_down(w: &mut [u32], from: usize, n: usize, to: usize)
     }
 }
 
+// Copies the n records from `from` on to those from `to` on; where they end.
+pub fn append_block(w: &mut [u32], from: usize, n: usize, to: usize) -> usize
+    requires { ⌜ (from ≤ to) × (to + n ≤ room (now w)) ⌝ }
+    ensures { λ r. ⌜ (r ≡ to + n) × Records-become (moved (view (now (w .entry))) from n to) (now (w .entry)) (now (w .exit)) ⌝ }
+{
+    move_up(w, from, n, to);
+    to + n
+}
+
 // Clears every word.
 pub fn clear(w: &mut [u32])
     ensures { λ _. ⌜ now (w .exit) ≡ replicate (length (now (w .entry))) 0 ⌝ }

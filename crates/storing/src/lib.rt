@@ -24,6 +24,17 @@ pub fn store(w: &mut [u32], at: usize, f: &[u64])
     }
 }
 
+// Stores f from record `to` on; where it ends.
+pub fn append(w: &mut [u32], f: &[u64], to: usize) -> usize
+    requires { ⌜ Storable (now f) ⌝ }
+    requires { ⌜ to + (length (now f) / 2 + 1) ≤ room (now w) ⌝ }
+    ensures { λ r. ⌜ (r ≡ to + (length (now (f .entry)) / 2 + 1))
+        × Records-become (paste (view (now (w .entry))) to (poly-records (now (f .entry))) (length (now (f .entry)) / 2 + 1)) (now (w .entry)) (now (w .exit)) ⌝ }
+{
+    store(w, to, f);
+    to + (f.len() / 2 + 1)
+}
+
 // Stores f at record `at`, with the records there up to `end` moved up behind it.
 pub fn insert(w: &mut [u32], at: usize, end: usize, f: &[u64])
     requires { ⌜ Storable (now f) ⌝ }

@@ -11,9 +11,9 @@ use Rattle.branches.specs.Area.{Stored, with-open, Held-in}
 use Rattle.branches.proofs.LengthLaws.{inside-room}
 use Rattle.branches.proofs.AreaLaws as area
 use Rattle.branches.proofs.ControlLaws.{w2-is, Read, start-is, ends, free-is}
-use Rattle.splits.proofs.SplitLaws.{end-front, end-back, end-P, end-Q, Placed, Ordered, ordered, to-back, to-Q, to-T, parts-inside, kept}
-use Rattle.splits.proofs.PieceLaws.{Reached, reach, reach-last, first-fits}
-use Rattle.splits.proofs.keep_open.Tie as tie
+use Rattle.keeping.proofs.KeptLaws.{end-front, end-back, end-P, end-Q, Placed, Ordered, ordered, to-back, to-Q, to-T, parts-inside, kept}
+use Rattle.keeping.proofs.PieceLaws.{Reached, reach, reach-last, first-fits}
+use Rattle.keeping.proofs.keep_open.Tie as tie
 
 -- ── the places, and the ways back from one to another ──
 -- The words of both records are read.
@@ -119,8 +119,8 @@ front c = front-read c .skip .result
 abbrev pub back : Parts → ℕ
 back c = back-read c .skip2 .result
 
-abbrev pub in-q : Parts → ℕ
-in-q c = P-read c .skip3 .result
+abbrev pub from-q : Parts → ℕ
+from-q c = P-read c .skip3 .result
 
 pub bounds : (r : Words) → Read (view (w r)) (at r) (end r)
 bounds r = record { at-word = at-read r .get0 .ensures; end-word = end-read r .get1 .ensures }
@@ -159,7 +159,7 @@ module _ {b : Stored} {bs ss : List Stored} where
 
   pub placed : (c : Parts) (H : Entry (words c) b bs ss)
       → let r = words c in
-      Placed b bs (i r) (n r) (length (H .free)) (at r) (end r) (top r) (q r) (r .get22 .result) (front c) (back c) (in-q c) (c .skip4 .result)
+      Placed b bs (i r) (n r) (length (H .free)) (at r) (end r) (top r) (q r) (r .get22 .result) (front c) (back c) (from-q c) (c .skip4 .result)
   placed c H = let r = words c in record {
     at-is = start-is H (bounds r);
     end-is = ends H (bounds r) ∙ sym (area.end-is b bs);
@@ -168,8 +168,8 @@ module _ {b : Stored} {bs ss : List Stored} where
     t-is = t-is r H;
     front-is = front-read c .skip .ensures ∙ to-front-is r H;
     back-is = back-read c .skip2 .ensures ∙ to-back-is (front-read c) H;
-    in-q-is = P-read c .skip3 .ensures ∙ to-P-is (back-read c) H;
-    in-t-is = c .skip4 .ensures ∙ to-Q-is (P-read c) H;
+    from-q-is = P-read c .skip3 .ensures ∙ to-P-is (back-read c) H;
+    from-t-is = c .skip4 .ensures ∙ to-Q-is (P-read c) H;
   }
 
 -- ── what follows for the branch of which the contract speaks ──
@@ -190,14 +190,14 @@ at-inside c =
 
 pub in-order : (c : Parts)
     → let r = words c in
-    Ordered (n r) (at r) (end r) (top r) (q r) (front c) (back c) (in-q c) (c .skip4 .result) (room (w r))
+    Ordered (n r) (at r) (end r) (top r) (q r) (front c) (back c) (from-q c) (c .skip4 .result) (room (w r))
 in-order c =
     let r = words c in
     let H = opened r in
     ordered H (i r) (n r) (members r H) (f r) (initial r) (placed c H) (room (w r)) (length-view (w r))
 
 -- Where the pieces of P and Q are copied from is before the end.
-pub before-end : (c : Parts) → (front c ≤ end (words c)) × (in-q c ≤ end (words c))
+pub before-end : (c : Parts) → (front c ≤ end (words c)) × (from-q c ≤ end (words c))
 before-end c = let o = in-order c in (omega (arith, o), omega (arith, o))
 
 -- The polynomials that are stored are of few words.
@@ -213,7 +213,7 @@ abbrev pub x-back : Parts → ℕ
 x-back c = back c - front c
 
 abbrev pub x-Q : Parts → ℕ
-x-Q c = c .skip4 .result - in-q c
+x-Q c = c .skip4 .result - from-q c
 
 abbrev pub x-T : Parts → ℕ
 x-T c = end (words c) - c .skip4 .result

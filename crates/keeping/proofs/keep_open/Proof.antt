@@ -4,11 +4,11 @@ use mathlib.Core.Path.{refl, _∙_}
 use Prim.Native.Nat.{_-_}
 use native.Mathlib.Omega.{arith}
 use Rattle.records.specs.Records.{view}
-use Rattle.splits.proofs.SplitLaws.{no-room, kept}
-use Rattle.splits.proofs.PieceLaws.{next-fits, next-small, copied-up}
+use Rattle.keeping.proofs.KeptLaws.{no-room, kept}
+use Rattle.keeping.proofs.PieceLaws.{next-fits, next-small, copied-up}
 use borrow.Author.Needs.{needs}
-use Rattle.splits.proofs.keep_open.Statement.{statement}
-use Rattle.splits.proofs.keep_open.Tie as tie
+use Rattle.keeping.proofs.keep_open.Statement.{statement}
+use Rattle.keeping.proofs.keep_open.Tie as tie
 use Known.*
 
 -- ── the needs ──

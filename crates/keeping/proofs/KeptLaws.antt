@@ -13,7 +13,7 @@ use Rattle.records.specs.Records.{Rec, record-of, zero-record, moved}
 use Rattle.stored.specs.Stored.{poly-records, polys-records, skip-to, Storable}
 use Rattle.stored.specs.laws.Stored.{skip-to-polys-records, polys-records-append, polys-records-snoc, length-poly-records, length-le-polys-records}
 use Rattle.branches.specs.Area.{Stored, Held, Leaves, stack, branch-records, systems-records, with-open, size, kept-open, Storable-branch}
-use Rattle.splits.proofs.PieceLaws.{Grown, grow-copied, grow-stored, top-left, last-part}
+use Rattle.keeping.proofs.PieceLaws.{Grown, grow-copied, grow-stored, top-left, last-part}
 use Rattle.branches.proofs.AreaLaws.{at-of, own-of, most-inside}
 
 -- ── the parts of P ──
@@ -74,7 +74,7 @@ abbrev pub end-Q : ℕ → ℕ → Stored → List Stored → ℕ
 end-Q i n c bs = end-P i n c bs + length (polys-records (c .Q))
 
 -- The numbers that the code reads, with so many free records.
-pub record Placed (c : Stored) (bs : List Stored) (i n free at end top q t front back in-q in-t : ℕ) : Type 0 where
+pub record Placed (c : Stored) (bs : List Stored) (i n free at end top q t front back from-q from-t : ℕ) : Type 0 where
   pub at-is : at ≡ at-of bs
   pub end-is : end ≡ at-of (c ∷ bs)
   pub top-is : top ≡ at-of (c ∷ bs) + free
@@ -82,12 +82,12 @@ pub record Placed (c : Stored) (bs : List Stored) (i n free at end top q t front
   pub t-is : t ≡ length (c .T)
   pub front-is : front ≡ end-front i c bs
   pub back-is : back ≡ end-back i n c bs
-  pub in-q-is : in-q ≡ end-P i n c bs
-  pub in-t-is : in-t ≡ end-Q i n c bs
+  pub from-q-is : from-q ≡ end-P i n c bs
+  pub from-t-is : from-t ≡ end-Q i n c bs
 
 -- What the code writes: the new branch's own record behind the open one, then its six pieces one behind the other, each up to a record that the code knows,
 -- and last the control record. The words of each piece are copied from where they lie, or stored.
-pub record Copied (v : List Rec) (n at end top q t front back in-q in-t : ℕ) (f initial : List ℕ) (v₈ : List Rec) : Type 0 where
+pub record Copied (v : List Rec) (n at end top q t front back from-q from-t : ℕ) (f initial : List ℕ) (v₈ : List Rec) : Type 0 where
   pub v₁ : List Rec
   pub own-put : v₁ ≡ set v end (record-of (n + 1) (q + 1) t at)
   pub a₁ : ℕ
@@ -101,29 +101,29 @@ pub record Copied (v : List Rec) (n at end top q t front back in-q in-t : ℕ) (
   pub back-copied : (a₃ ≡ a₂ + (back - front)) × (v₄ ≡ moved v₃ front (back - front) a₂)
   pub a₄ : ℕ
   pub v₅ : List Rec
-  pub Q-copied : (a₄ ≡ a₃ + (in-t - in-q)) × (v₅ ≡ moved v₄ in-q (in-t - in-q) a₃)
+  pub Q-copied : (a₄ ≡ a₃ + (from-t - from-q)) × (v₅ ≡ moved v₄ from-q (from-t - from-q) a₃)
   pub a₅ : ℕ
   pub v₆ : List Rec
   pub initial-put : (a₅ ≡ a₄ + (length initial / 2 + 1)) × (v₆ ≡ paste v₅ a₄ (poly-records initial) (length initial / 2 + 1))
   pub a₆ : ℕ
   pub v₇ : List Rec
-  pub T-copied : (a₆ ≡ a₅ + (end - in-t)) × (v₇ ≡ moved v₆ in-t (end - in-t) a₅)
+  pub T-copied : (a₆ ≡ a₅ + (end - from-t)) × (v₇ ≡ moved v₆ from-t (end - from-t) a₅)
   pub systems : ℕ
   pub systems-word : systems ≡ getD v₇ 0 zero-record .w3
   pub control-put : v₈ ≡ set v₇ 0 (record-of end a₆ top systems)
 
 -- They lie in this order, in a work area with so many records, and there are few members.
-pub record Ordered (n at end top q front back in-q in-t room : ℕ) : Type 0 where
+pub record Ordered (n at end top q front back from-q from-t room : ℕ) : Type 0 where
   pub front-of : at + 1 ≤ front
   pub back-of : front ≤ back
-  pub Q-of : back ≤ in-q
-  pub T-of : in-q ≤ in-t
-  pub end-of : in-t ≤ end
+  pub Q-of : back ≤ from-q
+  pub T-of : from-q ≤ from-t
+  pub end-of : from-t ≤ end
   pub top-of : end ≤ top
   pub room-of : top ≤ room
   pub most-of : top ≤ 65536
   pub few-P : n + (at + 1) ≤ back
-  pub few-Q : q + in-q ≤ in-t
+  pub few-Q : q + from-q ≤ from-t
 
 module _ {v : List Rec} {most : ℕ} {c : Stored} {bs ss : List Stored} (H : Held v most (with-open c bs ss)) (i n : ℕ) (h : (i ≤ n) × (n ≤ length (c .P))) where
   -- The control record, and all records in use.
@@ -220,25 +220,25 @@ module _ {v : List Rec} {most : ℕ} {c : Stored} {bs ss : List Stored} (H : Hel
   members-P f = omega (arith, length-append (take i (c .P)) (f ∷ take (n - i) (drop i (c .P))), length-front, length-back)
 
   -- ── what is held then ──
-  module _ (f initial : List ℕ) {at end top q t front back in-q in-t : ℕ}
-      (G : Placed c bs i n (length (H .free)) at end top q t front back in-q in-t) where
-    pub ordered : (room : ℕ) → length v ≡ room → Ordered n at end top q front back in-q in-t room
+  module _ (f initial : List ℕ) {at end top q t front back from-q from-t : ℕ}
+      (G : Placed c bs i n (length (H .free)) at end top q t front back from-q from-t) where
+    pub ordered : (room : ℕ) → length v ≡ room → Ordered n at end top q front back from-q from-t room
     ordered room e =
         record {
           front-of = omega (arith, G .at-is, G .front-is);
           back-of = omega (arith, G .front-is, G .back-is);
-          Q-of = omega (arith, G .back-is, G .in-q-is);
-          T-of = omega (arith, G .in-q-is, G .in-t-is);
-          end-of = omega (arith, G .end-is, G .in-t-is, length-parts);
+          Q-of = omega (arith, G .back-is, G .from-q-is);
+          T-of = omega (arith, G .from-q-is, G .from-t-is);
+          end-of = omega (arith, G .end-is, G .from-t-is, length-parts);
           top-of = omega (arith, G .end-is, G .top-is);
           room-of = omega (arith, most-inside H, H .fits, G .top-is);
           most-of = omega (arith, H .fits, H .few, G .top-is);
           few-P = omega (arith, few-members, G .at-is, G .back-is);
-          few-Q = omega (arith, few-members, G .q-is, G .in-q-is, G .in-t-is);
+          few-Q = omega (arith, few-members, G .q-is, G .from-q-is, G .from-t-is);
         }
 
     abbrev needed : ℕ
-    needed = 1 + (back - (at + 1)) + (length f / 2 + 1) + (in-t - in-q) + (length initial / 2 + 1) + (end - in-t)
+    needed = 1 + (back - (at + 1)) + (length f / 2 + 1) + (from-t - from-q) + (length initial / 2 + 1) + (end - from-t)
 
     length-needed : length (branch-records (at-of bs) (kept-open i n f initial c)) ≡ needed
     length-needed = omega (arith, length-kept i n (at-of bs) f initial c, G, length-parts)
@@ -280,19 +280,19 @@ module _ {v : List Rec} {most : ℕ} {c : Stored} {bs ss : List Stored} (H : Hel
       omega (arith, G .front-is, G .back-is),
     )
 
-    Q-block : (used ≡ to-new ++ (polys-records (c .Q) ++ polys-records (c .T))) × (length to-new ≡ in-q) × (length (polys-records (c .Q)) ≡ in-t - in-q)
-    Q-block = (Q-in-order, omega (arith, length-to-new, G .in-q-is), omega (arith, G .in-q-is, G .in-t-is))
+    Q-block : (used ≡ to-new ++ (polys-records (c .Q) ++ polys-records (c .T))) × (length to-new ≡ from-q) × (length (polys-records (c .Q)) ≡ from-t - from-q)
+    Q-block = (Q-in-order, omega (arith, length-to-new, G .from-q-is), omega (arith, G .from-q-is, G .from-t-is))
 
-    T-block : (used ≡ to-new ++ polys-records (c .Q) ++ (polys-records (c .T) ++ [])) × (length (to-new ++ polys-records (c .Q)) ≡ in-t)
-        × (length (polys-records (c .T)) ≡ end - in-t)
+    T-block : (used ≡ to-new ++ polys-records (c .Q) ++ (polys-records (c .T) ++ [])) × (length (to-new ++ polys-records (c .Q)) ≡ from-t)
+        × (length (polys-records (c .T)) ≡ end - from-t)
     T-block = (
       Q-in-order ∙ last-part to-new (polys-records (c .Q)) (polys-records (c .T)),
-      omega (arith, length-append to-new (polys-records (c .Q)), length-to-new, G .in-t-is),
-      omega (arith, G .end-is, G .in-t-is, length-parts),
+      omega (arith, length-append to-new (polys-records (c .Q)), length-to-new, G .from-t-is),
+      omega (arith, G .end-is, G .from-t-is, length-parts),
     )
 
     abbrev pieces : ℕ
-    pieces = 1 + (front - (at + 1)) + (length f / 2 + 1) + (back - front) + (in-t - in-q) + (length initial / 2 + 1) + (end - in-t)
+    pieces = 1 + (front - (at + 1)) + (length f / 2 + 1) + (back - front) + (from-t - from-q) + (length initial / 2 + 1) + (end - from-t)
 
     pieces-needed : pieces ≡ needed
     pieces-needed = let a : (front - (at + 1)) + (back - front) ≡ back - (at + 1) = omega (arith, G .at-is, G .front-is, G .back-is) in omega arith
@@ -324,7 +324,7 @@ module _ {v : List Rec} {most : ℕ} {c : Stored} {bs ss : List Stored} (H : Hel
           H .storable .0,
         )
 
-    pub kept : needed ≤ top - end → Storable f → Storable initial → {v₈ : List Rec} → Copied v n at end top q t front back in-q in-t f initial v₈
+    pub kept : needed ≤ top - end → Storable f → Storable initial → {v₈ : List Rec} → Copied v n at end top q t front back from-q from-t f initial v₈
         → Leaves most (with-open c bs ss) (with-open (kept-open i n f initial c) (c ∷ bs) ss) true v₈
     kept room sf si K =
         let behind : List Rec = systems-records ss ++ H .beyond in

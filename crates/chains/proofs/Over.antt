@@ -1,10 +1,10 @@
 -- A block written over a part of a list, and two blocks side by side.
 use mathlib.Core.Path.{_≡_, refl, sym, ap, _∙_}
 use mathlib.Core.List.{List, [], _∷_, _++_, append-assoc}
-use Prim.Native.Nat.{ℕ, suc, _+_, _*_, _≤_}
+use Prim.Native.Nat.{ℕ, _+_, _*_, _≤_}
 use native.Mathlib.Omega.{arith}
-use lib.ListN.{length, take, drop, set, length-append, take-append-drop}
-use lib.Seq.{paste, sets-eq, take-all, length-take-le, take-at, drop-at, drop-append-add, drop-drop, take-append-le, take-take}
+use lib.ListN.{length, take, drop, length-append, take-append-drop}
+use lib.Seq.{paste, take-all, length-take-le, take-at, drop-at, drop-append-add, drop-drop, take-append-le, take-take}
 
 -- d with s in the places from `at` on.
 pub over : List ℕ → ℕ → List ℕ → List ℕ
@@ -55,15 +55,6 @@ over-before d at s j t e h =
 pub over-front : (d s : List ℕ) → over d 0 s ≡ s ++ drop (length s) d
 unfolding over
 over-front d s = let same : 0 + length s ≡ length s = omega arith in ap (λ (k : ℕ). s ++ drop k d) same
-
--- Four words stored one after the other.
-pub four-stores : (d : List ℕ) (k a b x y : ℕ) → k + 4 ≤ length d
-    → set (set (set (set d k a) (k + 1) b) (k + 2) x) (k + 3) y ≡ paste d k (a ∷ b ∷ x ∷ y ∷ []) 4
-four-stores d k a b x y h =
-    let e₁ : k + 1 ≡ suc k = omega arith in
-    let e₂ : k + 2 ≡ suc (suc k) = omega arith in
-    let e₃ : k + 3 ≡ suc (suc (suc k)) = omega arith in
-    (λ t. set (set (set (set d k a) (e₁ t) b) (e₂ t) x) (e₃ t) y) ∙ sets-eq (a ∷ b ∷ x ∷ y ∷ []) d k h
 
 -- What is written right behind a record that was written.
 pub record-behind : (out out' : List ℕ) (p p' a b x y : ℕ) (t : List ℕ) → out' ≡ paste out (4 * p) (a ∷ b ∷ x ∷ y ∷ []) 4 → p' ≡ p + 1

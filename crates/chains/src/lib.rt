@@ -1,6 +1,6 @@
 // Stored polynomials written as a chain: from the work area, where each is a head and its terms in a row, to the records of the output, linked.
 ghost use mathlib.Core.Path.{_≡_};
-ghost use mathlib.Core.List.{[], _∷_, map};
+ghost use mathlib.Core.List.{map};
 ghost use Prim.Native.Nat.{_+_, _*_, _-_, _≤_, _<_};
 ghost use lib.ListN.{length};
 ghost use lib.Seq.{paste};
@@ -8,18 +8,6 @@ ghost use Rattle.polynomials.specs.Packed.{terms};
 ghost use Rattle.rules.specs.Written.{terms-words, heads-words};
 ghost use Rattle.records.specs.Records.{room, view};
 ghost use Rattle.stored.specs.Stored.{size-at, words-at, skip-to, polys-at};
-
-// Writes a record of the output.
-pub fn put_record(out: &mut [u32], i: usize, a: u32, b: u32, c: u32, d: u32)
-    requires { ⌜ 4 * i + 4 ≤ length (now out) ⌝ }
-    ensures { λ _. ⌜ now (out .exit) ≡ paste (now (out .entry)) (4 * i) (a ∷ b ∷ c ∷ d ∷ []) 4 ⌝ }
-{
-    let at = 4 * i;
-    out[at] = a;
-    out[at + 1] = b;
-    out[at + 2] = c;
-    out[at + 3] = d;
-}
 
 // Writes the terms of the polynomial at record `from` of the work area to the records from `to` on.
 fn write_terms(w: &[u32], from: usize, out: &mut [u32], to: usize)
@@ -34,7 +22,7 @@ fn write_terms(w: &[u32], from: usize, out: &mut [u32], to: usize)
         let high = records::get1(w, from + 1 + i);
         let low = records::get2(w, from + 1 + i);
         let next = if i + 1 < n { (to + i + 1) as u32 } else { 0 };
-        put_record(out, to + i, c, high, low, next);
+        records::write(out, to + i, c, high, low, next);
         i += 1;
     }
 }
@@ -53,7 +41,7 @@ pub fn write_heads(w: &[u32], from: usize, k: usize, out: &mut [u32], to: usize)
         let n = records::get0(w, i) as usize;
         let first = if n == 0 { 0 } else { (at + 1) as u32 };
         let next = if left == 1 { 0 } else { (at + 1 + n) as u32 };
-        put_record(out, at, first, 0, 0, next);
+        records::write(out, at, first, 0, 0, next);
         write_terms(w, i, out, at + 1);
         i = i + 1 + n;
         at = at + 1 + n;

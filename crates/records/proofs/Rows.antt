@@ -1,13 +1,13 @@
--- The laws of `view`: its length, its record at an index, and what a store of a record's four words does to it and to the words behind.
+-- The laws of `view`: its length, its record at an index, and what a store of a record's four words does to it, to the words behind, and to all words.
 use mathlib.Core.Path.{_≡_, refl, sym, ap, _∙_}
-use mathlib.Core.List.{List, _∷_}
+use mathlib.Core.List.{List, [], _∷_}
 use mathlib.Core.Logic.{_≢_}
 use Prim.Native.Nat.{ℕ, zero, suc, _+_, _*_, _/_, _<_}
 use native.Mathlib.Nat.{not-suc-le-zero, le-of-suc-le-suc, suc-ne-zero, suc-inj}
 use native.Mathlib.Omega.{arith}
 use lib.ListN.{length, getD, set, drop, length-set}
-use lib.Seq.{getD-set-same, getD-set-other, drop-set-lt}
-use Rattle.records.specs.Records.{record-of, zero-record, tabulate, room, record-at, view, records-end, words-behind, Records-become}
+use lib.Seq.{paste, getD-set-same, getD-set-other, drop-set-lt, sets-eq}
+use Rattle.records.specs.Records.{record-of, zero-record, tabulate, room, record-at, view, records-end, words-behind, Record-written}
 
 pub length-tabulate : {A : Type 0} (n : ℕ) (f : ℕ → A) → length (tabulate n f) ≡ n
 length-tabulate zero f = refl
@@ -86,5 +86,13 @@ module _ (w : List ℕ) (i a b c d : ℕ) (h : i < room w) where
   words-behind-store : words-behind (store w i a b c d) ≡ words-behind w
   words-behind-store = rw length-store (drop-store (records-end w) (omega arith))
 
-  pub records-become-store : Records-become (set (view w) i (record-of a b c d)) w (store w i a b c d)
-  records-become-store = (view-store, words-behind-store)
+  -- stored one after the other, the four words are a block
+  store-is-paste : store w i a b c d ≡ paste w (4 * i) (a ∷ b ∷ c ∷ d ∷ []) 4
+  store-is-paste =
+      let e₁ : 4 * i + 1 ≡ suc (4 * i) = omega arith in
+      let e₂ : 4 * i + 2 ≡ suc (suc (4 * i)) = omega arith in
+      let e₃ : 4 * i + 3 ≡ suc (suc (suc (4 * i))) = omega arith in
+      (λ t. set (set (set (s1 w i a) (e₁ t) b) (e₂ t) c) (e₃ t) d) ∙ sets-eq (a ∷ b ∷ c ∷ d ∷ []) w (4 * i) (omega arith)
+
+  pub record-written-store : Record-written i a b c d w (store w i a b c d)
+  record-written-store = (view-store, words-behind-store, store-is-paste)

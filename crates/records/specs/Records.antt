@@ -1,8 +1,8 @@
--- The work area as a list of records of four words. `view` is the one place that knows how a record lies in the words.
+-- The work area as a list of records of four words. `view` and `Record-written` alone know how a record lies in the words.
 use mathlib.Core.Path.{_≡_}
 use Prim.Native.Nat.{ℕ, zero, suc, _+_, _*_, _/_}
 use mathlib.Core.List.{List, [], _∷_}
-use lib.ListN.{length, getD, drop}
+use lib.ListN.{length, getD, set, drop}
 use lib.Seq.{paste}
 
 -- A record's four words.
@@ -47,6 +47,10 @@ words-behind w = drop (records-end w) w
 -- The words w become w': their records are v then, and the words behind these stay.
 abbrev pub Records-become : List Rec → List ℕ → List ℕ → Type 0
 Records-become v w w' = (view w' ≡ v) × (words-behind w' ≡ words-behind w)
+
+-- The words w become w' with a, b, c and d as record i: what that is among the records, behind them, and word for word.
+abbrev pub Record-written : ℕ → ℕ → ℕ → ℕ → ℕ → List ℕ → List ℕ → Type 0
+Record-written i a b c d w w' = (view w' ≡ set (view w) i (record-of a b c d)) × (words-behind w' ≡ words-behind w) × (w' ≡ paste w (4 * i) (a ∷ b ∷ c ∷ d ∷ []) 4)
 
 -- The n records from `from` on, copied over those from `to` on.
 abbrev pub moved : List Rec → ℕ → ℕ → ℕ → List Rec

@@ -2,7 +2,7 @@
 ghost use mathlib.Core.Path.{_≡_};
 ghost use Prim.Native.Nat.{_<_};
 ghost use lib.ListN.{getD, set};
-ghost use Rattle.records.specs.Records.{record-of, zero-record, room, view, Records-become};
+ghost use Rattle.records.specs.Records.{zero-record, room, view, Records-become, Record-written};
 
 // Word 0 of record i.
 pub fn get0(w: &[u32], i: usize) -> u32
@@ -36,10 +36,10 @@ pub fn get3(w: &[u32], i: usize) -> u32
     w[4 * i + 3]
 }
 
-// Writes record i whole.
+// Writes record i whole, of the work area or of the output; the output is followed word by word.
 pub fn write(w: &mut [u32], i: usize, a: u32, b: u32, c: u32, d: u32)
     requires { ⌜ i < room (now w) ⌝ }
-    ensures { λ _. ⌜ Records-become (set (view (now (w .entry))) i (record-of a b c d)) (now (w .entry)) (now (w .exit)) ⌝ }
+    ensures { λ _. ⌜ Record-written i a b c d (now (w .entry)) (now (w .exit)) ⌝ }
 {
     let k = 4 * i;
     w[k] = a;

@@ -34,7 +34,7 @@ fn write_system(w: &[u32], i: usize, out: &mut [u32], at: usize, next: u32)
     let to_u = at + 1 + (end - in_t);
     let first_t = if t == 0 { 0 } else { (at + 1) as u32 };
     let first_u = if u == 0 { 0 } else { to_u as u32 };
-    chains::put_record(out, at, first_t, first_u, 0, next);
+    records::write(out, at, first_t, first_u, 0, next);
     chains::write_heads(w, in_t, t, out, at + 1);
     chains::write_heads(w, i + 1, u, out, to_u);
 }
@@ -51,7 +51,7 @@ pub fn write_list(w: &[u32], p: u32, n: u32, out: &mut [u32])
     let count = records::get3(w, 0);
     let most = branches::count_records(w);
     let first = if count == 0 { 0 } else { 1 };
-    chains::put_record(out, 0, p, n, first, count);
+    records::write(out, 0, p, n, first, count);
     let mut i = top;
     let mut end = 1 + (most - top);
     let mut next: u32 = 0;

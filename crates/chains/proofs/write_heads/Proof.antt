@@ -65,8 +65,8 @@ add-next-2 c = omega (arith, within (c .before .before .before))
 cast-next : tie.Need-cast-next Inv-loop μ-loop
 cast-next c = omega (arith, within (c .before .before .before))
 
-put-record-requires : tie.Need-put-record-requires Inv-loop μ-loop
-put-record-requires c κs = omega (arith, within (c .before .before .before .before))
+write-requires : tie.Need-write-requires Inv-loop μ-loop
+write-requires c κs = omega (arith, within (c .before .before .before .before))
 
 add-write-terms : tie.Need-add-write-terms Inv-loop μ-loop
 add-write-terms c = omega (arith, within (c .before .before .before .before .before .before .before .before))
@@ -95,7 +95,7 @@ loop-less c = omega arith
 loop-again : tie.Need-loop-again Inv-loop μ-loop
 loop-again c =
     let body = c .before .before .write-terms in
-    let put = c .before .before .before .before .before .before .put-record in
+    let put = c .before .before .before .before .before .before .write in
     let if2 = c .before .before .before .before .before .before .before .before .if2 in
     let if1 = c .before .before .before .before .before .before .before .before .before .if1 in
     let get0 = c .before .before .before .before .before .before .before .before .before .before .get0 in
@@ -112,7 +112,7 @@ loop-again c =
       omega arith,
       omega arith,
       ap (λ (k : ℕ). skip-to v (i + 1 + k) (left - 1)) is ∙ sym (skip-to-turn v i left (left - 1) less) ∙ turn .inv .2,
-      heads-turn v (turn .out) (put .last .0) (body .last .1 .1 .0) at (at + 1 + n) i left (left - 1) n (if1 .first) (if2 .next) (put .ensures) (body .ensures)
+      heads-turn v (turn .out) (put .last .0) (body .last .1 .1 .0) at (at + 1 + n) i left (left - 1) n (if1 .first) (if2 .next) (put .ensures .2) (body .ensures)
           (omega arith) is refl less (omega (arith, length-view (a .w .now))) (omega arith)
           (λ h. ⊎-elim (λ w. omega arith) (λ w. omega arith) (if1 .came)) (λ h. ⊎-elim (λ w. omega arith) (λ w. omega arith) (if1 .came))
           (λ h. ⊎-elim (λ w. omega arith) (λ w. omega arith) (if2 .came)) (λ h. ⊎-elim (λ w. omega arith) (λ w. omega arith) (if2 .came))
@@ -148,7 +148,7 @@ write-heads-spec =
     add-next
     add-next-2
     cast-next
-    put-record-requires
+    write-requires
     add-write-terms
     write-terms-requires
     add-i

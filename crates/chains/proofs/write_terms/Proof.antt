@@ -79,11 +79,11 @@ add-next-2 c = omega arith
 cast-next : tie.Need-cast-next Inv-loop μ-loop
 cast-next c = omega arith
 
-add-put-record : tie.Need-add-put-record Inv-loop μ-loop
-add-put-record c = omega arith
+add-write : tie.Need-add-write Inv-loop μ-loop
+add-write c = omega arith
 
-put-record-requires : tie.Need-put-record-requires Inv-loop μ-loop
-put-record-requires c κs = omega arith
+write-requires : tie.Need-write-requires Inv-loop μ-loop
+write-requires c κs = omega arith
 
 add-i : tie.Need-add-i Inv-loop μ-loop
 add-i c = omega arith
@@ -93,7 +93,7 @@ loop-less c = omega arith
 
 loop-again : tie.Need-loop-again Inv-loop μ-loop
 loop-again c =
-    let put = c .before .before .put-record in
+    let put = c .before .before .write in
     let if1 = c .before .before .before .before .if1 in
     let low = c .before .before .before .before .before .get2 in
     let high = c .before .before .before .before .before .before .get1 in
@@ -106,7 +106,7 @@ loop-again c =
       omega arith,
       omega arith,
       terms-turn (view (a .w .now)) (turn .out) (put .last .0) (a .to + i) (a .to + (i + 1)) (j + i) (j + (i + 1)) (n - i) (n - (i + 1))
-          (coefficient .result) (high .result) (low .result) (if1 .next) (put .ensures)
+          (coefficient .result) (high .result) (low .result) (if1 .next) (put .ensures .2)
           (omega arith) (omega arith) (omega arith) (omega (arith, length-view (a .w .now))) (omega arith)
           (coefficient .ensures) (high .ensures) (low .ensures) (omega arith) (omega arith)
           (λ h. ⊎-elim (λ w. omega arith) (λ w. omega arith) (if1 .came)) (λ h. ⊎-elim (λ w. omega arith) (λ w. omega arith) (if1 .came))
@@ -150,8 +150,8 @@ write-terms-spec =
     add-next
     add-next-2
     cast-next
-    add-put-record
-    put-record-requires
+    add-write
+    write-requires
     add-i
     loop-less
     loop-again

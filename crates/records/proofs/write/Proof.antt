@@ -1,7 +1,7 @@
--- `write` meets its contract: the four words stored are the record stored in the view, and all lie before the words behind.
+-- `write` meets its contract: the four words stored are the record stored in the view and a block of the words, and all lie before the words behind.
 use native.Mathlib.Omega.{arith}
 use lib.ListN.{length-set}
-use Rattle.records.proofs.Rows.{records-become-store}
+use Rattle.records.proofs.Rows.{record-written-store}
 use borrow.Author.Needs.{needs}
 use Rattle.records.proofs.write.Statement.{statement}
 use Rattle.records.proofs.write.Tie as tie
@@ -46,7 +46,7 @@ same-length : tie.Need-same-length
 same-length c = simp length-set
 
 returns : tie.Need-returns
-returns c = records-become-store (c .args .w .now) (c .args .i) (c .args .a) (c .args .b) (c .args .c) (c .args .d) (c .pre)
+returns c = record-written-store (c .args .w .now) (c .args .i) (c .args .a) (c .args .b) (c .args .c) (c .args .d) (c .pre)
 
 pub write-spec : {M : Type 1} → statement M
 write-spec =

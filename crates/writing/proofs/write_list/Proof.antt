@@ -26,7 +26,7 @@ abbrev μ-loop : tie.MeasureT-loop
 abbrev At : tie.In-loop Inv-loop μ-loop → List Stored → Type 0
 At c ss =
     let turn = c .before .loop in
-    let put = c .before .before .before .before .put-record in
+    let put = c .before .before .before .before .write in
     let most = c .before .before .before .before .before .before .before .count-records .result in
     let a = c .before .before .before .before .before .before .before .before .before .before .before .before .args in
     Turn (view (a .w .now)) most ss (put .last .0) (turn .out) (turn .i) (turn .end) (turn .next)
@@ -35,7 +35,7 @@ turn-of : (c : tie.In-loop Inv-loop μ-loop) (ss : List Stored)
     → let w = c .before .before .before .before .before .before .before .before .before .before .before .before .args .w .now in Held-in w (record { branches = []; systems = ss }) → At c ss
 turn-of c ss h =
     let loop = c .before .loop in
-    let put = c .before .before .before .before .put-record in
+    let put = c .before .before .before .before .write in
     let most = c .before .before .before .before .before .before .before .count-records .result in
     let a = c .before .before .before .before .before .before .before .before .before .before .before .before .args in
     let w = loop .inv .1 ss h in
@@ -68,8 +68,8 @@ get3-requires c κs =
 count-records-requires : tie.Need-count-records-requires Inv-loop μ-loop
 count-records-requires c κs = search needs
 
-put-record-requires : tie.Need-put-record-requires Inv-loop μ-loop
-put-record-requires c κs =
+write-requires : tie.Need-write-requires Inv-loop μ-loop
+write-requires c κs =
     let start = c .before .before .before .before .before .before .before in
     omega (arith, start .pre .1 (start .pre .0 .0) (start .pre .0 .1) .0, list-some (reverse (map system-of (start .pre .0 .0))))
 
@@ -93,7 +93,7 @@ add-end c =
 
 loop-holds : tie.Need-loop-holds Inv-loop μ-loop
 loop-holds c =
-    let d = c .before .before .put-record .last .0 in
+    let d = c .before .before .write .last .0 in
     let all = c .before .before .before .before .before in
     let get2 = c .before .before .before .before .before .before .before .get2 in
     let start = c .before .before .before .before .before .before .before .before .before .before in
@@ -166,10 +166,10 @@ returns c ss h =
     let loop = c .before .loop in
     let w = loop .inv .1 ss h in
     let most = c .before .before .before .before .before .before .before .count-records .result in
-    let put = c .before .before .before .before .put-record in
+    let put = c .before .before .before .before .write in
     let first = c .before .before .before .before .before .before .if1 in
     list-written ss (a .p) (a .n) (first .first) (c .before .before .before .before .before .before .before .before .get3 .result) (a .out .now) (put .last .0) (loop .out)
-    (put .ensures)
+    (put .ensures .2)
     (omega (arith, start .pre .1 ss h .0, list-some (reverse (map system-of ss))))
     (c .before .before .before .before .before .before .before .before .get3 .ensures ∙ control v (capacity (a .w .now)) ss h .count)
     (λ h. ⊎-elim (λ w. omega arith) (λ w. omega arith) (first .came))
@@ -186,7 +186,7 @@ write-list-spec =
     cast-top
     get3-requires
     count-records-requires
-    put-record-requires
+    write-requires
     sub-end
     add-end
     loop-holds

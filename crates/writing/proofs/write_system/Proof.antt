@@ -92,8 +92,8 @@ cast-first-t c = search needs
 cast-first-u : tie.Need-cast-first-u
 cast-first-u c = let e = asked (c .before .before) in omega arith
 
-put-record-requires : tie.Need-put-record-requires
-put-record-requires c κs = let e = asked (c .before .before .before) in omega arith
+write-requires : tie.Need-write-requires
+write-requires c κs = let e = asked (c .before .before .before) in omega arith
 
 add-write-heads : tie.Need-add-write-heads
 add-write-heads c = search needs
@@ -123,7 +123,7 @@ returns : tie.Need-returns
 returns c s h =
     let second = c .before .before .write-heads2 in
     let first = c .before .before .before .before .before .before .write-heads in
-    let put = c .before .before .before .before .before .before .before .before .before .before .put-record in
+    let put = c .before .before .before .before .before .before .before .before .before .before .write in
     let if2 = c .before .before .before .before .before .before .before .before .before .before .before .before .if2 in
     let if1 = c .before .before .before .before .before .before .before .before .before .before .before .before .before .if1 in
     let k = c .before .before .before .before .before .before .before .before .before .before .before .before .before .before in
@@ -139,7 +139,7 @@ returns c s h =
     let o₂ = first .last .1 .1 .1 .0 in
     let o₃ = second .last .1 .1 .1 .0 in
     system-written s (a .out .now) o₁ o₂ o₃ (a .at) to (a .next) (if1 .first-t) (if2 .first-u)
-    (put .ensures)
+    (put .ensures .2)
     (heads-over o₁ o₂ (a .at + 1) (skip-to v in-t t - in-t) _ (s .T) (first .ensures) (e .polys-T) (omega (arith, k .skip2 .ensures)))
     (heads-over o₂ o₃ to (skip-to v (a .i + 1) u - (a .i + 1)) _ (s .Q) (second .ensures) (e .polys-U) (omega (arith, k .before .skip .ensures)))
     (omega arith)
@@ -167,7 +167,7 @@ write-system-spec =
     add-first-t
     cast-first-t
     cast-first-u
-    put-record-requires
+    write-requires
     add-write-heads
     write-heads-requires
     add-write-heads-2

@@ -17,7 +17,7 @@ use Rattle.rules.specs.Eliminate.{Eliminated, listed, turned-back, delivered}
 use Rattle.branches.specs.Area.{Stored, Held}
 use Rattle.representation.specs.Represent.{All-listed, system-of}
 use Rattle.writing.specs.Listed.{listing-of}
-use Rattle.delivery.specs.declared.Answer.{Answer}
+use Rattle.run.specs.declared.Answer.{Answer}
 use Rattle.run.specs.declared.Outcome.the-variants.{Systems, Refused}
 use Rattle.run.specs.Stretch.{outcome-of, Ran}
 use Rattle.delivery.specs.Delivered.{Delivered}

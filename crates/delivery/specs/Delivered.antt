@@ -3,7 +3,7 @@ use mathlib.Core.Path.{_≡_}
 use mathlib.Core.List.{List}
 use Prim.Native.Nat.{ℕ}
 use Rattle.rules.specs.Eliminate.{Eliminated, output-after}
-use Rattle.delivery.specs.declared.Answer.{Answer}
+use Rattle.run.specs.declared.Answer.{Answer}
 use Rattle.delivery.specs.Answer.{answer-of}
 
 pub record Delivered (d : Eliminated) (r : Answer) (before after : List ℕ) : Type 0 where

@@ -12,14 +12,9 @@ ghost use Rattle.branches.specs.Area.{Stored, capacity, Held-in};
 ghost use Rattle.representation.specs.Represent.{All-listed, system-of};
 ghost use Rattle.run.specs.Stretch.{Ran};
 ghost use Rattle.delivery.specs.Delivered.{Delivered};
+use run::Answer;
 use run::Outcome;
 use tables::Reason;
-
-// The whole steps finished, and the outcome.
-pub struct Answer {
-    pub steps: u32,
-    pub outcome: Outcome,
-}
 
 // How many records the list of the systems in the work area needs.
 fn list_size(work: &[u32]) -> usize

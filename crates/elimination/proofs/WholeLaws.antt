@@ -15,7 +15,7 @@ use Rattle.rules.specs.Run.{Ended, after-step, run, start, run-of}
 use Rattle.rules.specs.Eliminate.{delivered, limits-of}
 use Rattle.branches.specs.Area.{Area, Held, capacity}
 use Rattle.representation.specs.Represent.{state-of}
-use Rattle.delivery.specs.declared.Answer.{Answer}
+use Rattle.run.specs.declared.Answer.{Answer}
 use Rattle.run.specs.declared.Outcome.the-variants.{Refused}
 use Rattle.representation.specs.Ready.{Ready, limits-in}
 use Rattle.run.specs.Stretch.{Ran}

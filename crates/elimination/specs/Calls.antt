@@ -13,7 +13,7 @@ use Rattle.rules.specs.Eliminate.{Eliminated, listed, turned-back, steps-of, el
 use Rattle.rules.specs.Cause.{Cause}
 use Rattle.rules.specs.Claims.{steps-within, refused-cause, cause-refuses, accepted-alike}
 use Rattle.run.specs.declared.Outcome.the-variants.{Systems, Refused}
-use Rattle.delivery.specs.declared.Answer.{Answer}
+use Rattle.run.specs.declared.Answer.{Answer}
 use Rattle.delivery.specs.Answer.{answer-of}
 use Rattle.elimination.specs.Eliminates.{Eliminates}
 

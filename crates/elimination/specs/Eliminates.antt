@@ -4,7 +4,7 @@ use mathlib.Core.List.{List}
 use Prim.Native.Nat.{ℕ}
 use lib.ListN.{length, replicate}
 use Rattle.rules.specs.Eliminate.{eliminated, output-after}
-use Rattle.delivery.specs.declared.Answer.{Answer}
+use Rattle.run.specs.declared.Answer.{Answer}
 use Rattle.delivery.specs.Answer.{answer-of}
 
 pub record Eliminates (table work output : List ℕ) (limit : ℕ) (a : Answer) (work-after output-left : List ℕ) : Type 0 where

@@ -23,7 +23,7 @@ use Rattle.rules.specs.Written.{list-records}
 use Rattle.rules.specs.Eliminate.{Eliminated, listed, turned-back, eliminated, output-after}
 use Rattle.rules.specs.laws.Promised.{good-iff}
 use Rattle.rules.specs.Promise.{ListPromise, PointPromise, promise}
-use Rattle.delivery.specs.declared.Answer.{Answer}
+use Rattle.run.specs.declared.Answer.{Answer}
 use Rattle.run.specs.declared.Outcome.the-variants.{Systems}
 use Rattle.delivery.specs.Answer.{answer-of}
 use Rattle.elimination.specs.Eliminates.{Eliminates}

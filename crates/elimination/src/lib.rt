@@ -7,7 +7,7 @@ ghost use Rattle.rules.specs.Run.{run-of};
 ghost use Rattle.rules.specs.Eliminate.{delivered, limits-of};
 ghost use Rattle.delivery.specs.Delivered.{Delivered};
 ghost use Rattle.elimination.specs.Eliminates.{Eliminates};
-pub use delivery::Answer;
+pub use run::Answer;
 pub use run::Outcome;
 use tables::ReadOutcome;
 use tables::Reason;

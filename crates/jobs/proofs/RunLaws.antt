@@ -4,7 +4,7 @@ use mathlib.Core.List.{List}
 use Prim.Native.Nat.{ℕ, zero, suc}
 use lib.ListN.{length, replicate, length-replicate}
 use Rattle.rules.specs.Eliminate.{eliminated, output-after}
-use Rattle.delivery.specs.declared.Answer.{Answer}
+use Rattle.run.specs.declared.Answer.{Answer}
 use Rattle.delivery.specs.Answer.{answer-of}
 use Rattle.jobs.specs.declared.Heading.{Heading}
 use Rattle.jobs.specs.Heading.{nonzero, heading-of}

@@ -4,7 +4,7 @@ use mathlib.Core.List.{List, [], _∷_}
 use Prim.Native.Nat.{ℕ, suc, _≤_}
 use lib.Dec.{eqb}
 use lib.ListN.{length}
-use Rattle.delivery.specs.declared.Answer.{Answer}
+use Rattle.run.specs.declared.Answer.{Answer}
 use Rattle.run.specs.declared.Outcome.{Outcome}
 use Rattle.elimination.specs.Numbers.{outcome-numbers}
 use Rattle.jobs.specs.declared.Heading.{Heading}

@@ -13,7 +13,7 @@ use Rattle.rules.specs.Written.{list-records}
 use Rattle.rules.specs.Eliminate.{Eliminated, listed, turned-back, eliminated, output-after}
 use Rattle.rules.specs.laws.Lengths.{length-list}
 use Rattle.rules.specs.laws.WrittenAgain.{listed-delivered}
-use Rattle.delivery.specs.declared.Answer.{Answer}
+use Rattle.run.specs.declared.Answer.{Answer}
 use Rattle.delivery.specs.Answer.{answer-of}
 use Rattle.extent.specs.Extent.{extent}
 use Rattle.extent.specs.laws.Extent.{extent-of-list}

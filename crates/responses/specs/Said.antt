@@ -3,7 +3,7 @@ use mathlib.Core.List.{List, [], _∷_, _++_}
 use Prim.Native.Nat.{ℕ, zero, suc, _*_}
 use lib.ListN.{take, drop}
 use Rattle.lines.specs.Text.{line-text}
-use Rattle.delivery.specs.declared.Answer.{Answer}
+use Rattle.run.specs.declared.Answer.{Answer}
 use Rattle.run.specs.declared.Outcome.{Outcome}
 use Rattle.run.specs.declared.Outcome.the-variants.{Systems, Refused}
 use Rattle.elimination.specs.Numbers.{outcome-numbers}

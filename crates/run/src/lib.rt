@@ -20,6 +20,12 @@ pub enum Outcome {
     Refused(Reason, u32),
 }
 
+// The answer of an elimination: the whole steps finished, and the outcome.
+pub struct Answer {
+    pub steps: u32,
+    pub outcome: Outcome,
+}
+
 // How a stretch of the run ends: with the run's outcome, or with a pause between two steps, where the lent scratch is too short.
 pub enum Ending {
     Final(Outcome),

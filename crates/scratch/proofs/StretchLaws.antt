@@ -10,7 +10,7 @@ use Rattle.branches.proofs.LengthLaws.{same-capacity}
 use Rattle.rules.specs.Run.{Ended, run}
 use Rattle.representation.specs.Represent.{state-of}
 use Rattle.representation.specs.Ready.{Ready, limits-in}
-use Rattle.delivery.specs.declared.Answer.{Answer}
+use Rattle.run.specs.declared.Answer.{Answer}
 use Rattle.run.specs.declared.Outcome.{Outcome}
 use Rattle.run.specs.declared.Ending.{Ending}
 use Rattle.run.specs.declared.Ending.the-variants.{Final, Paused}

@@ -7,7 +7,7 @@ ghost use Rattle.rules.specs.Run.{run};
 ghost use Rattle.representation.specs.Represent.{state-of};
 ghost use Rattle.representation.specs.Ready.{Ready, Modulus, limits-in};
 ghost use Rattle.run.specs.Stretch.{Ran};
-use delivery::Answer;
+use run::Answer;
 use run::Ending;
 use run::Outcome;
 use tables::Reason;

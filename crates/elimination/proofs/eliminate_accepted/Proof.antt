@@ -15,7 +15,7 @@ use Rattle.rules.specs.Run.{Ended, start, run-of}
 use Rattle.branches.specs.Area.{Area, capacity, Held-in}
 use Rattle.branches.proofs.LengthLaws.{same-capacity}
 use Rattle.representation.specs.Ready.{Ready, Modulus, limits-in}
-use Rattle.delivery.specs.declared.Answer.{Answer}
+use Rattle.run.specs.declared.Answer.{Answer}
 use Rattle.run.specs.Stretch.{Ran}
 use Rattle.loading.specs.Started.{Started}
 use Rattle.loading.proofs.MonicLaws.{readable-modulus}

@@ -19,7 +19,7 @@ pub fn count_records(w: &[u32]) -> usize
 }
 
 // Whether Q holds f.
-pub fn find_q(w: &[u32], f: &[u64]) -> bool
+pub fn q_contains(w: &[u32], f: &[u64]) -> bool
     requires { ⌜ Opened (now w) ⌝ }
     requires { ⌜ Storable (now f) ⌝ }
     ensures { λ r. ⌜ When-open (now (w .entry)) (λ b bs ss. r ≡ member (now (f .entry)) (b .Q)) ⌝ }
@@ -28,7 +28,7 @@ pub fn find_q(w: &[u32], f: &[u64]) -> bool
     let p = records::get0(w, at) as usize;
     let q = records::get1(w, at) as usize;
     let from = stored::skip(w, at + 1, p);
-    finding::find(w, from, q, f)
+    finding::contains(w, from, q, f)
 }
 
 // How many words the member of P at place i takes.

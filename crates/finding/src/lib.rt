@@ -28,7 +28,7 @@ fn equal_at(w: &[u32], at: usize, f: &[u64]) -> bool
 }
 
 // Whether one of the k polynomials from record `at` on is f.
-pub fn find(w: &[u32], at: usize, k: usize, f: &[u64]) -> bool
+pub fn contains(w: &[u32], at: usize, k: usize, f: &[u64]) -> bool
     requires { ⌜ skip-to (view (now w)) at k ≤ room (now w) ⌝ }
     requires { ⌜ Storable (now f) ⌝ }
     ensures { λ r. ⌜ r ≡ member (now (f .entry)) (polys-at (view (now (w .entry))) at k) ⌝ }

@@ -79,7 +79,7 @@ pub fn is_settled(w: &[u32], f: &[u64]) -> bool
     if f.len() == 2 && f[0] == 1 && f[1] == 0 {
         return true;
     }
-    branches::find_q(w, f)
+    branches::q_contains(w, f)
 }
 
 // Rule 3 for the pivot t, which stands in P at `place`, and its initial i. Whether there is room.

@@ -19,7 +19,7 @@ pub fn put_p(w: &mut [u32], f: &[u64]) -> bool
     if f.len() == 0 {
         return true;
     }
-    if finding::find(w, at + 1, p as usize, f) {
+    if finding::contains(w, at + 1, p as usize, f) {
         return true;
     }
     let to = stored::skip(w, at + 1, p as usize);
@@ -43,7 +43,7 @@ pub fn put_q(w: &mut [u32], left: usize, f: &[u64]) -> bool
     }
     let from = stored::skip(w, at + 1, p as usize);
     let new = q as usize - left;
-    if finding::find(w, from, new, f) {
+    if finding::contains(w, from, new, f) {
         return true;
     }
     let to = stored::skip(w, from, new);

@@ -1,4 +1,4 @@
--- `is_settled` meets its contract: its three tests are one of a list, and `find_q` answers for Q.
+-- `is_settled` meets its contract: its three tests are one of a list, and `q_contains` answers for Q.
 use mathlib.Core.Path.{_≡_, sym, ap, _∙_}
 use mathlib.Core.Bool.{Bool, false, _||_}
 use mathlib.Core.Logic.{⊎-elim}
@@ -20,8 +20,8 @@ returns c = λ b bs ss H.
     let f = c .before .before .before .before .before .before .before .args .f .now in
     sym (ap (λ (o : Bool). o || member f (b .Q)) (is-one-of-tests f (c .before .before .before .before .if1 .taken) (c .before .before .if2 .taken) (c .if3 .taken)))
 
-find-q-requires : tie.Need-find-q-requires
-find-q-requires c κs = search needs
+q-contains-requires : tie.Need-q-contains-requires
+q-contains-requires c κs = search needs
 
 returns-2 : tie.Need-returns-2
 returns-2 c = λ b bs ss H.
@@ -29,9 +29,9 @@ returns-2 c = λ b bs ss H.
     let n : is-one f ≡ false =
     ⊎-elim (λ w. not-one-by-monomial f (w .4 .left))
     (⊎-elim (λ w. not-one-by-coefficient f (w .2 .left)) (λ w. not-one-by-length f (w .left))) (c .before .if1 .came) in
-    c .find-q .ensures b bs ss H ∙ sym (ap (λ (o : Bool). o || member f (b .Q)) n)
+    c .q-contains .ensures b bs ss H ∙ sym (ap (λ (o : Bool). o || member f (b .Q)) n)
 
 pub is-settled-spec : {M : Type 1} → statement M
 is-settled-spec =
     tie.close
-    (tie.spec shared-slice-read-if2 shared-slice-read-if3 returns find-q-requires returns-2)
+    (tie.spec shared-slice-read-if2 shared-slice-read-if3 returns q-contains-requires returns-2)

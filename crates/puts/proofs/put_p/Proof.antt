@@ -36,14 +36,14 @@ abbrev start : Reading → tie.Start
 start r = from-at (at-read r)
 
 -- f was looked for; it was not found, and its place is known.
-abbrev from-find : tie.After-find → Reading
-from-find c = c .before .before .before
+abbrev from-contains : tie.After-contains → Reading
+from-contains c = c .before .before .before
 
 abbrev new-of : tie.After-skip → tie.Else2
 new-of c = c .before .before
 
 abbrev from-place : tie.After-skip → Reading
-from-place c = from-find (new-of c .before)
+from-place c = from-contains (new-of c .before)
 
 -- ── what is read ──
 abbrev w : Reading → List ℕ
@@ -75,10 +75,10 @@ module _ {b : Stored} {bs ss : List Stored} where
   counts : (r : Reading) → Entry r b bs ss → Counts (p r) (q r) (t r) b
   counts r H = counts-are H (at-read r .get0 .ensures) (p-read r .get02 .ensures) (q-read r .get1 .ensures) (r .get2 .ensures)
 
-  found-is : (c : tie.After-find) → Entry (from-find c) b bs ss → member (f (from-find c)) (b .P) ≡ c .find .result
-  found-is c H = let r = from-find c in sym (c .find .ensures ∙ ap (member (f r)) (all-P H _ (at-read r .get0 .ensures) _ (p-read r .get02 .ensures)))
+  found-is : (c : tie.After-contains) → Entry (from-contains c) b bs ss → member (f (from-contains c)) (b .P) ≡ c .contains .result
+  found-is c H = let r = from-contains c in sym (c .contains .ensures ∙ ap (member (f r)) (all-P H _ (at-read r .get0 .ensures) _ (p-read r .get02 .ensures)))
 
-  new-is : (c : tie.Else2) → let r = from-find (c .before) in Entry r b bs ss → put-P (f r) (b .P) ≡ b .P ++ (f r ∷ [])
+  new-is : (c : tie.Else2) → let r = from-contains (c .before) in Entry r b bs ss → put-P (f r) (b .P) ≡ b .P ++ (f r ∷ [])
   new-is c H = put-P-new _ (b .P) (c .before .before .before .if1 .left) (found-is (c .before) H ∙ c .if2 .left)
 
   -- f goes in behind P.
@@ -130,21 +130,21 @@ same-length c = refl
 returns : tie.Need-returns
 returns c b bs ss H = let g = f (c .before) in leaves-same H _ (kept-P g b (put-P-zero g (b .P) (c .if1 .taken)))
 
-add-find : tie.Need-add-find
-add-find c = search needs
+add-contains : tie.Need-add-contains
+add-contains c = search needs
 
-cast-find : tie.Need-cast-find
-cast-find c = search needs
+cast-contains : tie.Need-cast-contains
+cast-contains c = search needs
 
-find-requires : tie.Need-find-requires
-find-requires c κs = let r = c .before .before in (P-inside r, start r .pre .1)
+contains-requires : tie.Need-contains-requires
+contains-requires c κs = let r = c .before .before in (P-inside r, start r .pre .1)
 
 same-length-2 : tie.Need-same-length-2
 same-length-2 c = refl
 
 returns-2 : tie.Need-returns-2
 returns-2 c b bs ss H =
-    let g = f (from-find (c .before)) in leaves-same H _ (kept-P g b (put-P-found g (b .P) (found-is (c .before) H ∙ c .if2 .taken)))
+    let g = f (from-contains (c .before)) in leaves-same H _ (kept-P g b (put-P-found g (b .P) (found-is (c .before) H ∙ c .if2 .taken)))
 
 add-skip : tie.Need-add-skip
 add-skip c = search needs
@@ -153,7 +153,7 @@ cast-skip : tie.Need-cast-skip
 cast-skip c = search needs
 
 skip-requires : tie.Need-skip-requires
-skip-requires c κs = P-inside (from-find (c .before .before))
+skip-requires c κs = P-inside (from-contains (c .before .before))
 
 add-put-at : tie.Need-add-put-at
 add-put-at c = let r = from-place (c .before) in counts-fit (opened r) (counts r (opened r)) .0
@@ -179,9 +179,9 @@ put-p-spec =
     get2-requires
     same-length
     returns
-    add-find
-    cast-find
-    find-requires
+    add-contains
+    cast-contains
+    contains-requires
     same-length-2
     returns-2
     add-skip

@@ -44,17 +44,17 @@ start r = from-at (at-read r)
 abbrev from-skip : tie.After-skip → Reading
 from-skip c = c .before .before .before
 
-abbrev skip-before-find : tie.After-find → tie.After-skip
-skip-before-find c = c .before .before
+abbrev skip-before-contains : tie.After-contains → tie.After-skip
+skip-before-contains c = c .before .before
 
-abbrev from-find : tie.After-find → Reading
-from-find c = from-skip (skip-before-find c)
+abbrev from-contains : tie.After-contains → Reading
+from-contains c = from-skip (skip-before-contains c)
 
 abbrev new-of : tie.After-skip2 → tie.Else4
 new-of c = c .before .before
 
 abbrev from-place : tie.After-skip2 → Reading
-from-place c = from-find (new-of c .before)
+from-place c = from-contains (new-of c .before)
 
 -- ── what is read ──
 abbrev w : Reading → List ℕ
@@ -104,12 +104,12 @@ module _ {b : Stored} {bs ss : List Stored} where
       → let r = from-skip c in skip-to (view (w r)) (c .skip .result) (q r - left r) ≡ place (at-of bs) (before-it r b)
   there c H = let r = from-skip c in behind-seen H (left r) (end-P-is c H) (counts r H .in-Q)
 
-  found-is : (c : tie.After-find) → Entry (from-find c) b bs ss → let r = from-find c in member (f r) (take (seen (left r) b) (b .Q)) ≡ c .find .result
+  found-is : (c : tie.After-contains) → Entry (from-contains c) b bs ss → let r = from-contains c in member (f r) (take (seen (left r) b) (b .Q)) ≡ c .contains .result
   found-is c H =
-      let r = from-find c in sym (c .find .ensures ∙ ap (member (f r)) (seen-Q H (left r) (end-P-is (skip-before-find c) H) (counts r H .in-Q)))
+      let r = from-contains c in sym (c .contains .ensures ∙ ap (member (f r)) (seen-Q H (left r) (end-P-is (skip-before-contains c) H) (counts r H .in-Q)))
 
-  new-is : (c : tie.Else4) → Entry (from-find (c .before)) b bs ss
-      → let r = from-find (c .before) in put-Q (f r) (take (seen (left r) b) (b .Q)) ≡ take (seen (left r) b) (b .Q) ++ (f r ∷ [])
+  new-is : (c : tie.Else4) → Entry (from-contains (c .before)) b bs ss
+      → let r = from-contains (c .before) in put-Q (f r) (take (seen (left r) b) (b .Q)) ≡ take (seen (left r) b) (b .Q) ++ (f r ∷ [])
   new-is c H = put-Q-new _ _ (not-one (c .before .before .before .before .before)) (found-is (c .before) H ∙ c .if4 .left)
 
   -- f goes in there.
@@ -124,7 +124,7 @@ module _ {b : Stored} {bs ss : List Stored} where
         xs = before-it r b;
         ys = behind-it r b;
         adds = more-Q (left r) (f r) b new;
-        there = c .skip2 .ensures ∙ there (skip-before-find (new-of c .before)) H;
+        there = c .skip2 .ensures ∙ there (skip-before-contains (new-of c .before)) H;
         counts = counts-Q (left r) (f r) b new (counts r H);
       }
 
@@ -192,18 +192,18 @@ cast-new c = search needs
 sub-new : tie.Need-sub-new
 sub-new c = let r = from-skip c in omega (arith, counts r (opened r) .in-Q, start r .pre .1 .0 _ _ _ (opened r))
 
-find-requires : tie.Need-find-requires
-find-requires c κs = (seen-inside (c .before), start (from-skip (c .before)) .pre .1 .1)
+contains-requires : tie.Need-contains-requires
+contains-requires c κs = (seen-inside (c .before), start (from-skip (c .before)) .pre .1 .1)
 
 same-length-2 : tie.Need-same-length-2
 same-length-2 c = refl
 
 returns-2 : tie.Need-returns-2
 returns-2 c b bs ss H =
-    let r = from-find (c .before) in leaves-same H _ (kept-Q (left r) (f r) b (put-Q-found (f r) _ (found-is (c .before) H ∙ c .if4 .taken)))
+    let r = from-contains (c .before) in leaves-same H _ (kept-Q (left r) (f r) b (put-Q-found (f r) _ (found-is (c .before) H ∙ c .if4 .taken)))
 
 skip-requires-2 : tie.Need-skip-requires-2
-skip-requires-2 c κs = seen-inside (skip-before-find (c .before .before))
+skip-requires-2 c κs = seen-inside (skip-before-contains (c .before .before))
 
 add-put-at : tie.Need-add-put-at
 add-put-at c = let r = from-place (c .before) in counts-fit (opened r) (counts r (opened r)) .1
@@ -236,7 +236,7 @@ put-q-spec =
     skip-requires
     cast-new
     sub-new
-    find-requires
+    contains-requires
     same-length-2
     returns-2
     skip-requires-2

@@ -1,4 +1,4 @@
--- `find` meets its contract. The invariant: the `left` polynomials from i on end where all k do, and f is among them where it is among all.
+-- `contains` meets its contract. The invariant: the `left` polynomials from i on end where all k do, and f is among them where it is among all.
 use mathlib.Core.Path.{_≡_, refl, sym, ap, _∙_}
 use mathlib.Core.Bool.{Bool, _||_}
 use Prim.Native.Nat.{ℕ, _+_, _-_, _≤_, _<_}
@@ -7,8 +7,8 @@ use Rattle.records.specs.Records.{room, view}
 use Rattle.stored.specs.Stored.{size-at, skip-to, polys-at, member}
 use Rattle.stored.proofs.Laws.{skip-turn, skip-in}
 use Rattle.finding.proofs.Laws.{member-turn}
-use Rattle.finding.proofs.find.Statement.{statement}
-use Rattle.finding.proofs.find.Tie as tie
+use Rattle.finding.proofs.contains.Statement.{statement}
+use Rattle.finding.proofs.contains.Tie as tie
 
 abbrev Inv-loop : tie.InvT-loop
 Inv-loop w at k f i₀ left₀ i left =
@@ -78,8 +78,8 @@ returns-2 c =
     let done : 0 ≡ c .before .loop .left = omega arith in
     ap (λ (n : ℕ). member (a .f .now) (polys-at (view (a .w .now)) (c .before .loop .i) n)) done ∙ c .before .loop .inv .1
 
-pub find-spec : {M : Type 1} → statement M
-find-spec =
+pub contains-spec : {M : Type 1} → statement M
+contains-spec =
     tie.close
     (tie.spec
     Inv-loop

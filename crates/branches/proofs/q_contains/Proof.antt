@@ -1,4 +1,4 @@
--- `find_q` meets its contract.
+-- `q_contains` meets its contract.
 use mathlib.Core.Path.{_≡_, refl, sym, ap, _∙_}
 use mathlib.Core.List.{List, _++_, append-assoc}
 use native.Mathlib.Omega.{arith}
@@ -8,8 +8,8 @@ use Rattle.branches.specs.Area.{Stored, with-open, Held-in}
 use Rattle.branches.proofs.AreaLaws.{at-of, place, place-inside, at-inside, end-P, end-Q, all-Q, q-is}
 use Rattle.branches.proofs.LengthLaws.{inside-room}
 use borrow.Author.Needs.{needs}
-use Rattle.branches.proofs.find_q.Statement.{statement}
-use Rattle.branches.proofs.find_q.Tie as tie
+use Rattle.branches.proofs.q_contains.Statement.{statement}
+use Rattle.branches.proofs.q_contains.Tie as tie
 
 abbrev Entry : tie.Start → Stored → List Stored → List Stored → Type 0
 Entry s b bs ss = Held-in (s .args .w .now) (with-open b bs ss)
@@ -50,8 +50,8 @@ skip-requires c κs =
     let H = s .pre .0 .3 in
     inside-room (s .args .w .now) (place-inside H (b .P) (b .Q ++ b .T) refl (end-P H _ (c .before .before .get0 .ensures) _ (c .before .get02 .ensures)))
 
-find-requires : tie.Need-find-requires
-find-requires c κs =
+contains-requires : tie.Need-contains-requires
+contains-requires c κs =
     let s = c .before .before .before .before .before .before in
     let b = s .pre .0 .0 in
     let H = s .pre .0 .3 in
@@ -61,10 +61,10 @@ find-requires c κs =
 returns : tie.Need-returns
 returns c b bs ss H =
     let f = c .before .before .before .before .before .before .before .args .f .now in
-    c .find .ensures ∙ ap (member f) (all-Q H (from-is (c .before) H) (count-is (c .before) H))
+    c .contains .ensures ∙ ap (member f) (all-Q H (from-is (c .before) H) (count-is (c .before) H))
 
-pub find-q-spec : {M : Type 1} → statement M
-find-q-spec =
+pub q-contains-spec : {M : Type 1} → statement M
+q-contains-spec =
     tie.close
     (tie.spec
     get0-requires
@@ -75,5 +75,5 @@ find-q-spec =
     cast-q
     add-skip
     skip-requires
-    find-requires
+    contains-requires
     returns)

@@ -8,8 +8,8 @@ use Rattle.numbers.specs.declared.Line.{Line}
 abbrev pub line-of : Numbers → Line
 line-of n = record { outcome = n .outcome; value = n .value }
 
-abbrev pub read-line : ReadOutcome → Line
-read-line o = line-of (reading-numbers o)
+abbrev pub reading-line : ReadOutcome → Line
+reading-line o = line-of (reading-numbers o)
 
 abbrev pub trial-line : TrialOutcome → Line
 trial-line o = line-of (trial-numbers o)

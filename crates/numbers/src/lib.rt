@@ -2,7 +2,7 @@
 ghost use mathlib.Core.Path.{_≡_};
 ghost use Rattle.tables.specs.Reason.{number as Reason·number};
 ghost use Rattle.tables.specs.Numbers.{accepted-numbers, refused-numbers};
-ghost use Rattle.numbers.specs.Line.{line-of, read-line, trial-line, place-line};
+ghost use Rattle.numbers.specs.Line.{line-of, reading-line, trial-line, place-line};
 use tables::PlaceOutcome;
 use tables::ReadOutcome;
 use tables::Reason;
@@ -55,8 +55,8 @@ fn refused(why: Reason, at: u32) -> Line
     }
 }
 
-pub fn read_line(outcome: ReadOutcome) -> Line
-    ensures { λ r. ⌜ r ≡ read-line outcome ⌝ }
+pub fn reading_line(outcome: ReadOutcome) -> Line
+    ensures { λ r. ⌜ r ≡ reading-line outcome ⌝ }
 {
     match outcome {
         ReadOutcome::Accepted => accepted(0),

@@ -8,13 +8,13 @@ use Rattle.tables.specs.declared.Placing.{Placing}
 use Rattle.tables.specs.Read.{read-table}
 use Rattle.tables.specs.Solve.{reading, trial, placing, try-input, try-systems}
 use Rattle.numbers.specs.declared.Line.{Line}
-use Rattle.numbers.specs.Line.{read-line, trial-line, place-line}
+use Rattle.numbers.specs.Line.{reading-line, trial-line, place-line}
 use Rattle.table_jobs.specs.Line.{line}
 
 module _ {l : Line} (k : ℕ) (w x : List ℕ) where
-  pub line-of-reading : {r : Reading} → k ≡ 0 → r ≡ reading (read-table w) → l ≡ read-line (r .outcome) → l ≡ line k w x
+  pub line-of-reading : {r : Reading} → k ≡ 0 → r ≡ reading (read-table w) → l ≡ reading-line (r .outcome) → l ≡ line k w x
   unfolding line
-  line-of-reading z e f = f ∙ ap (λ (r : Reading). read-line (r .outcome)) e ∙ ap (λ (k : ℕ). line k w x) (sym z)
+  line-of-reading z e f = f ∙ ap (λ (r : Reading). reading-line (r .outcome)) e ∙ ap (λ (k : ℕ). line k w x) (sym z)
 
   pub line-of-trial : {r : Trial} → k ≡ 1 → r ≡ trial (try-input w x) → l ≡ trial-line (r .outcome) → l ≡ line k w x
   unfolding line

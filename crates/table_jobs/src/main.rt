@@ -22,7 +22,7 @@ fn answer(kind: u32, table: &[u32], numbers: &[u32]) -> Line
     if kind == 0 {
         let reading = reading::read_table(table);
         let outcome = reading.outcome;
-        return numbers::read_line(outcome);
+        return numbers::reading_line(outcome);
     }
     if kind == 1 {
         let trial = points::try_table(table, numbers);

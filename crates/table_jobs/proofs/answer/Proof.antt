@@ -7,13 +7,13 @@ use Rattle.table_jobs.proofs.answer.Tie as tie
 read-table-requires : tie.Need-read-table-requires
 read-table-requires c κs = search needs
 
-read-line-requires : tie.Need-read-line-requires
-read-line-requires c κs = search needs
+reading-line-requires : tie.Need-reading-line-requires
+reading-line-requires c κs = search needs
 
 returns : tie.Need-returns
 returns c =
     let a = c .before .before .before .before .before .args in
-    line-of-reading (a .kind) (a .table .now) (a .numbers .now) (c .before .before .if1 .taken) (c .before .read-table .ensures) (c .read-line .ensures)
+    line-of-reading (a .kind) (a .table .now) (a .numbers .now) (c .before .before .if1 .taken) (c .before .read-table .ensures) (c .reading-line .ensures)
 
 try-table-requires : tie.Need-try-table-requires
 try-table-requires c κs = search needs
@@ -42,7 +42,7 @@ answer-spec =
     tie.close
     (tie.spec
     read-table-requires
-    read-line-requires
+    reading-line-requires
     returns
     try-table-requires
     trial-line-requires

@@ -1,4 +1,4 @@
--- `count_records` meets its contract.
+-- `count_records` meets its contract: `capacity` is the lesser of the two answers.
 use native.Mathlib.Omega.{arith}
 use Rattle.branches.proofs.count_records.Statement.{statement}
 use Rattle.branches.proofs.count_records.Tie as tie

@@ -1,4 +1,4 @@
--- `load_p` meets its contract.
+-- `load_p` meets its contract: the member is where `skip` ends, and `load` takes its words from there.
 use mathlib.Core.Path.{_∙_}
 use mathlib.Core.List.{List, []}
 use native.Mathlib.Omega.{arith}

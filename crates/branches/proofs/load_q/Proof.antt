@@ -1,4 +1,4 @@
--- `load_q` meets its contract.
+-- `load_q` meets its contract: P ends where the first `skip` does, the member is where the second does, and `load` takes its words from there.
 use mathlib.Core.Path.{_≡_, refl, _∙_}
 use mathlib.Core.List.{List, [], _++_}
 use Prim.Native.Nat.{ℕ, suc, _<_}

@@ -1,4 +1,4 @@
--- `q_contains` meets its contract.
+-- `q_contains` meets its contract: Q starts where `skip` ends, and the branch's record counts its members.
 use mathlib.Core.Path.{_≡_, refl, sym, ap, _∙_}
 use mathlib.Core.List.{List, _++_, append-assoc}
 use native.Mathlib.Omega.{arith}

@@ -1,4 +1,4 @@
--- `words_p` meets its contract.
+-- `words_p` meets its contract: the member is where `skip` ends, and its head counts the terms, which take two words each.
 use mathlib.Core.List.{List, []}
 use native.Mathlib.Omega.{arith}
 use lib.ListN.{getD}

@@ -1,4 +1,4 @@
--- `leader_at` meets its contract.
+-- `leader_at` meets its contract: a polynomial without terms has the leader 0, and of any other the first monomial tells.
 use mathlib.Core.Path.{_≡_, sym, ap, _∙_}
 use Prim.Native.Nat.{ℕ, _+_, _≤_, _<_}
 use native.Mathlib.Omega.{arith}

@@ -1,4 +1,4 @@
--- `one_at` meets its contract.
+-- `one_at` meets its contract: 1 has one term, with the coefficient 1 and the monomial 0, and each of the three tests is for one of these.
 use mathlib.Core.Path.{_≡_, sym, ap, ap₂, _∙_}
 use mathlib.Core.Logic.{_≢_}
 use mathlib.Core.Bool.{Bool, _&&_}

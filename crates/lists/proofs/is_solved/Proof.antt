@@ -1,4 +1,4 @@
--- `is_solved` meets its contract.
+-- `is_solved` meets its contract: the T chain is tried for zeros, and where all are zero the U chain for nonzeros.
 use mathlib.Core.Path.{_≡_, sym, _∙_}
 use borrow.Author.Needs.{needs}
 use borrow.Author.Tests.{not-true, not-false}

@@ -1,4 +1,4 @@
--- `check_list` meets its contract.
+-- `check_list` meets its contract: first the header, then the systems, then the header's count of them, and the first refusal is the answer.
 use mathlib.Core.Path.{_≡_, sym, _∙_}
 use mathlib.Core.List.{List}
 use Prim.Native.Nat.{ℕ, _≤_}

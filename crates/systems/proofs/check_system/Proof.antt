@@ -1,4 +1,4 @@
--- `check_system` meets its contract.
+-- `check_system` meets its contract: first that word 2 is zero, then the T chain, then the U chain, and the first refusal is the answer.
 use mathlib.Core.Path.{sym, _∙_, ap}
 use native.Mathlib.Omega.{arith}
 use borrow.Author.Needs.{needs}

@@ -45,13 +45,7 @@ pub fn next(buffer: &mut [u8], input: Input) -> Word
     let at = input.at;
     let end = input.end;
     if end <= buffer.len() && at <= end && 4 <= end - at {
-        return Word::Read(
-            decoding::word_at(buffer, at),
-            Input {
-                at: at + 4,
-                end: end,
-            },
-        );
+        return Word::Read(decoding::word_at(buffer, at), Input { at: at + 4, end });
     }
     let n = io::read_full(STDIN_FILENO, buffer);
     if n < 4 {

@@ -40,10 +40,7 @@ pub fn number(why: Reason) -> u32
 fn accepted(value: u32) -> Line
     ensures { λ r. ⌜ r ≡ line-of (accepted-numbers value) ⌝ }
 {
-    Line {
-        outcome: 0,
-        value: value,
-    }
+    Line { outcome: 0, value }
 }
 
 fn refused(why: Reason, at: u32) -> Line

@@ -44,10 +44,10 @@ pub fn prepare_division(w: &mut [u32], k: u32, place: usize, t: &[u64], initial:
     match survey::find_other(w, k, place) {
         Other::At(j) => {
             return Division {
-                k: k,
-                degree: degree,
-                pivot: pivot,
-                initial: initial,
+                k,
+                degree,
+                pivot,
+                initial,
                 closing: false,
                 place: j,
                 left: 1,
@@ -57,10 +57,10 @@ pub fn prepare_division(w: &mut [u32], k: u32, place: usize, t: &[u64], initial:
             changes::close(w, place, t);
             let q = members::count_q(w);
             return Division {
-                k: k,
-                degree: degree,
-                pivot: pivot,
-                initial: initial,
+                k,
+                degree,
+                pivot,
+                initial,
                 closing: true,
                 place: 0,
                 left: q,

@@ -132,8 +132,5 @@ pub fn run(
         }
         steps += 1;
     };
-    Stretch {
-        steps: steps,
-        ending: ending,
-    }
+    Stretch { steps, ending }
 }

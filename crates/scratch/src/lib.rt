@@ -38,10 +38,7 @@ pub fn run_short(work: &mut [u32], p: u64, limit: u32, divided: &mut [u64]) -> A
     let steps = first.steps;
     let ending = first.ending;
     match ending {
-        Ending::Final(outcome) => Answer {
-            steps: steps,
-            outcome: outcome,
-        },
+        Ending::Final(outcome) => Answer { steps, outcome },
         Ending::Paused => run_long(work, p, limit, steps),
     }
 }
@@ -73,13 +70,10 @@ pub fn run_long(work: &mut [u32], p: u64, limit: u32, from: u32) -> Answer
     let steps = last.steps;
     let ending = last.ending;
     match ending {
-        Ending::Final(outcome) => Answer {
-            steps: steps,
-            outcome: outcome,
-        },
+        Ending::Final(outcome) => Answer { steps, outcome },
         // In such scratch the run does not pause.
         Ending::Paused => Answer {
-            steps: steps,
+            steps,
             outcome: Outcome::Refused(Reason::Steps, 0),
         },
     }

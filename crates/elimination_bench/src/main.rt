@@ -18,12 +18,6 @@ use lines::Turn;
 use lines::text;
 use timing::Timing;
 
-fn size(x: u32) -> usize
-    ensures { λ r. ⌜ r ≡ x ⌝ }
-{
-    x as usize
-}
-
 // 0 or the refusal's number.
 fn outcome_number(answer: Answer) -> u32
     ensures { λ r. ⌜ r ≡ outcome-numbers (answer .outcome) .outcome ⌝ }
@@ -87,8 +81,8 @@ fn run_job(
     let Words::First(n, rest) = input::counted(bytes, behind, table) else {
         return Turn::End(end);
     };
-    let w = size(head[1]);
-    let o = size(head[2]);
+    let w = input::size(head[1]);
+    let o = input::size(head[2]);
     if work.len() < w {
         return Turn::End(end);
     }

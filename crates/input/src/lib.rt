@@ -89,3 +89,10 @@ pub fn counted(buffer: &mut [u8], input: Input, words: &mut [u32]) -> Words
     };
     Words::First(n, rest)
 }
+
+// A word as a number of elements. A parameter's type bounds it, as the cast asks; nothing bounds an element of an array that was lent.
+pub fn size(x: u32) -> usize
+    ensures { λ r. ⌜ r ≡ x ⌝ }
+{
+    x as usize
+}

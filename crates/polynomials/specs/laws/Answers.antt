@@ -26,7 +26,7 @@ written-holds p f n s W few c = record {
     taken : length (take n s) ≡ n
     taken = length-take-le n s (W .within)
 
-pub formed-words : (B : Bounded) (n : ℕ) (r : Formed) (s : List ℕ) → r ≡ Words n → Forms B r s → (f : Poly) × (B ≡ within f) × Written f n s
+formed-words : (B : Bounded) (n : ℕ) (r : Formed) (s : List ℕ) → r ≡ Words n → Forms B r s → (f : Poly) × (B ≡ within f) × Written f n s
 formed-words (within f) n r s q F = let e : 2 * length f ≡ n = cc in (f, refl, subst (λ k. Written f k s) e (F .1))
 formed-words degree-passed n r s q F = absurd (let z : _≡_ {A = ℕ} 0 1 = cc in omega arith)
 formed-words terms-passed n r s q F = absurd (let z : _≡_ {A = ℕ} 0 1 = cc in omega arith)

@@ -35,7 +35,7 @@ use Rattle.polynomials.specs.Bounds.{
 use Rattle.polynomials.specs.laws.Canonical.{canonical-difference, canonical-product}
 
 -- A product with zero is zero.
-pub product-nil : (p : ℕ) (f : Poly) → product p f [] ≡ []
+product-nil : (p : ℕ) (f : Poly) → product p f [] ≡ []
 unfolding product add-multiple
 product-nil p [] = refl
 product-nil p (t ∷ f) = product-nil p f
@@ -88,7 +88,7 @@ module _ (b : Bounds) where
         go true e = absurd (let z : _≡_ {A = ℕ} 0 1 = cc in omega arith)
         go false e = tested-formed (product p (t ∷ f) (u ∷ g)) h e
 
-    pub difference-formed : (f g h : Poly) → bounded-difference b p f g ≡ within h → Forms-as (difference p f g) h
+    difference-formed : (f g h : Poly) → bounded-difference b p f g ≡ within h → Forms-as (difference p f g) h
     unfolding bounded-difference
     difference-formed f g h e = tested-formed (difference p f g) h e
 
@@ -119,7 +119,7 @@ module _ (b : Bounds) where
 
 -- ── what passes no bound is formed ──
 module _ (b : Bounds) where
-  pub tested-within : (f : Poly) → over (b .of-terms) (length f) ≡ false → tested b f ≡ within f
+  tested-within : (f : Poly) → over (b .of-terms) (length f) ≡ false → tested b f ≡ within f
   unfolding tested
   tested-within f o = ap (λ (o : Bool). elim o as (λ o. Bounded) [ true ↦ terms-passed | false ↦ within f ]) o
 
@@ -147,23 +147,23 @@ unfolding some-over over
 none-over [] = refl
 none-over (n ∷ e) = none-over e
 
-pub tested-unbounded : (f : Poly) → tested no-bounds f ≡ within f
+tested-unbounded : (f : Poly) → tested no-bounds f ≡ within f
 unfolding tested over
 tested-unbounded f = refl
 
 module _ (p : ℕ) where
-  pub product-unbounded : (f g : Poly) → bounded-product no-bounds p f g ≡ within (product p f g)
+  product-unbounded : (f g : Poly) → bounded-product no-bounds p f g ≡ within (product p f g)
   unfolding bounded-product product degrees-over
   product-unbounded [] g = refl
   product-unbounded (t ∷ f) [] = ap within (sym (product-nil p (t ∷ f)))
   product-unbounded (t ∷ f) (u ∷ g) = ap (λ (o : Bool). elim o as (λ o. Bounded) [ true ↦ degree-passed | false ↦ tested no-bounds (product p (t ∷ f) (u ∷ g)) ]) (none-over _) ∙ tested-unbounded _
 
-  pub difference-unbounded : (f g : Poly) → bounded-difference no-bounds p f g ≡ within (difference p f g)
+  difference-unbounded : (f g : Poly) → bounded-difference no-bounds p f g ≡ within (difference p f g)
   unfolding bounded-difference
   difference-unbounded f g = tested-unbounded (difference p f g)
 
   module _ (k d : ℕ) (G : Poly) where
-    pub round-unbounded : (R : Poly) → bounded-round no-bounds p k d G R ≡ within (round p k d G R)
+    round-unbounded : (R : Poly) → bounded-round no-bounds p k d G R ≡ within (round p k d G R)
     unfolding bounded-round round
     round-unbounded R =
         ap₂ (λ x y. and-then x (λ f. and-then y (λ g. bounded-difference no-bounds p f g))) (product-unbounded (coefficient k d G) R) (product-unbounded (factor k d R) G)

@@ -25,7 +25,7 @@ over-at m k [] h = absurd (omega arith)
 over-at m zero (n ∷ e) h = ap (λ b. b || some-over (at-most m) e) (lt-ltb m n h)
 over-at m (suc k) (n ∷ e) h = ap (λ b. ltb m n || b) (over-at m k e h) ∙ or-true (ltb m n)
 
-pub none-over : (m : ℕ) (e : Exponents) → ((k : ℕ) → getD e k 0 ≤ m) → some-over (at-most m) e ≡ false
+none-over : (m : ℕ) (e : Exponents) → ((k : ℕ) → getD e k 0 ≤ m) → some-over (at-most m) e ≡ false
 unfolding some-over over
 none-over m [] h = refl
 none-over m (n ∷ e) h = ap₂ _||_ (le-ltb m n (h 0)) (none-over m e (λ k. h (suc k)))
@@ -71,7 +71,7 @@ length-largest [] b = omega arith
 length-largest (x ∷ a) [] = omega arith
 length-largest (x ∷ a) (y ∷ b) = omega (arith, length-largest a b)
 
-pub length-degrees : (s : List ℕ) → length (degrees (terms s)) ≤ 8
+length-degrees : (s : List ℕ) → length (degrees (terms s)) ≤ 8
 unfolding terms degrees
 length-degrees [] = omega arith
 length-degrees (c ∷ []) = omega arith

@@ -29,7 +29,7 @@ canonical-keep p e c f h u n = go (eqb c 0) (λ (z : c ≡ 0). subst (λ x. T (e
     go true z = n
     go false z = let c≢ : c ≢ 0 = z in (omega arith, h, u, n)
 
-pub canonical-insert : (p c : ℕ) (e : Exponents) (f : Poly) → c < p → Canonical p f → Canonical p (insert p c e f)
+canonical-insert : (p c : ℕ) (e : Exponents) (f : Poly) → c < p → Canonical p f → Canonical p (insert p c e f)
 unfolding insert
 canonical-insert p c e [] h n = canonical-keep p e c [] h tt tt
 canonical-insert p c e (t ∷ f) h n = go (canonical-insert p c e f h (n .3)) (order e (t .exps)) refl

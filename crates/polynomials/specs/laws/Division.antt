@@ -44,7 +44,7 @@ module _ {ℓ} {K : Type ℓ} (𝓡 : CommRing K) (p : ℕ) (v : Poly → K) (�
       law a b = simp ring-laws
 
   module _ (k d : ℕ) (G : Poly) where
-    pub of-round : (R : Poly) → v (round p k d G R) ⊕ v (factor k d R) ⊗ v G ≡ v (coefficient k d G) ⊗ v R
+    of-round : (R : Poly) → v (round p k d G R) ⊕ v (factor k d R) ⊗ v G ≡ v (coefficient k d G) ⊗ v R
     unfolding round
     of-round R =
         ap (λ z. v (round p k d G R) ⊕ z) (sym (𝓥 .of-product (factor k d R) G))
@@ -118,7 +118,7 @@ module _ {ℓ} {K : Type ℓ} (𝓡 : CommRing K) where
   monomial-set (x ∷ xs) (n ∷ e) (suc k) = ap (λ z. pow 𝓡 x n ⊗ z) (monomial-set xs e k) ∙ mul-left-comm 𝓡 (pow 𝓡 x n) (pow 𝓡 (getD xs k 𝟙) (getD e k 0)) (monomial-value 𝓡 xs (set e k 0))
 
   -- f is its initial times the power, plus the rest: at any power d.
-  pub value-split : (k d : ℕ) (f : Poly) (x : List K) → value 𝓡 f x ≡ pow 𝓡 (getD x k 𝟙) d ⊗ value 𝓡 (coefficient k d f) x ⊕ value 𝓡 (without k d f) x
+  value-split : (k d : ℕ) (f : Poly) (x : List K) → value 𝓡 f x ≡ pow 𝓡 (getD x k 𝟙) d ⊗ value 𝓡 (coefficient k d f) x ⊕ value 𝓡 (without k d f) x
   unfolding weigh coefficient without
   value-split k d [] x = sym (add-nil 𝓡 _ ∙ mul-nil 𝓡 _)
   value-split k d (t ∷ f) x = go (value-split k d f x) (eqb (getD (t .exps) k 0) d) (eqb→eq (getD (t .exps) k 0) d)
@@ -175,11 +175,11 @@ module _ {ℓ} {K : Type ℓ} (F : Field K) (p : ℕ) (P : Prime p) (char : cast
 
   infixl 60 _⊕_
   infixl 70 _⊗_
-  pub cast-inverse-nonzero : (c : ℕ) → 1 ≤ c → c < p → cast (F .ring) (inverse p c) ≢ 𝟘
+  cast-inverse-nonzero : (c : ℕ) → 1 ≤ c → c < p → cast (F .ring) (inverse p c) ≢ 𝟘
   cast-inverse-nonzero c h l = unit-nonzero F (cast (F .ring) (inverse p c)) (cast (F .ring) c)
       (mul-comm (F .ring) _ _ ∙ sym (cast-product (F .ring) p char c (inverse p c)) ∙ ap (cast (F .ring)) (inverse-ok p c P h l) ∙ cast-one (F .ring))
 
-  pub value-monic : (t : Term) (f : Poly) → value (F .ring) (monic p (t ∷ f)) x ≡ cast (F .ring) (inverse p (t .coef)) ⊗ value (F .ring) (t ∷ f) x
+  value-monic : (t : Term) (f : Poly) → value (F .ring) (monic p (t ∷ f)) x ≡ cast (F .ring) (inverse p (t .coef)) ⊗ value (F .ring) (t ∷ f) x
   unfolding monic join weigh
   value-monic t f = weigh-add-multiple (F .ring) p char (monomial-value (F .ring) x) (inverse p (t .coef)) [] (t ∷ f) [] ∙ add-nil (F .ring) _
 

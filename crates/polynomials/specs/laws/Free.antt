@@ -40,14 +40,14 @@ free-shift j k m f n u =
     shift-all (λ a. getD a j 0 ≡ 0) (λ a. getD a j 0 ≡ 0) k m f
     (λ (a : Exponents) (h : getD a j 0 ≡ 0). omega (arith, at-join j (pure-power k m) a, at-pure-power-free j k m n)) u
 
-pub free-product : (j p : ℕ) (f g : Poly) → Free j f → Free j g → Free j (product p f g)
+free-product : (j p : ℕ) (f g : Poly) → Free j f → Free j g → Free j (product p f g)
 free-product j p f g u v = all-product (λ a. getD a j 0 ≡ 0) (λ a. getD a j 0 ≡ 0) (λ a. getD a j 0 ≡ 0) p f g (λ a b x y. omega (arith, at-join j a b)) u v
 
 free-multiple : (j p c : ℕ) (g f : Poly) → Free j g → Free j f → Free j (add-multiple p c [] g f)
 unfolding join
 free-multiple j p c g f u v = all-add-multiple (λ a. getD a j 0 ≡ 0) (λ a. getD a j 0 ≡ 0) p c [] g f (λ b h. h) u v
 
-pub free-difference : (j p : ℕ) (f g : Poly) → Free j f → Free j g → Free j (difference p f g)
+free-difference : (j p : ℕ) (f g : Poly) → Free j f → Free j g → Free j (difference p f g)
 unfolding difference
 free-difference j p f g u v = free-multiple j p (p - 1) g f v u
 
@@ -56,7 +56,7 @@ unfolding monic
 free-monic j p [] u = tt
 free-monic j p (t ∷ f) u = free-multiple j p (inverse p (t .coef)) (t ∷ f) [] u tt
 
-pub free-round : (j p k d : ℕ) (G R : Poly) → j ≢ k → Free j G → Free j R → Free j (round p k d G R)
+free-round : (j p k d : ℕ) (G R : Poly) → j ≢ k → Free j G → Free j R → Free j (round p k d G R)
 unfolding round factor
 free-round j p k d G R n u v =
     free-difference j p _ _ (free-product j p (coefficient k d G) R (free-coefficient j k d G u) v)

@@ -22,7 +22,7 @@ unfolding falls
 under-of-falls p e [] h n = tt
 under-of-falls p e (t ∷ f) h n = under-first p e t f n (below-of-falls (order (t .exps) e) h)
 
-pub canonical-of-test : (p : ℕ) (f : Poly) → is-canonical p f ≡ true → Canonical p f
+canonical-of-test : (p : ℕ) (f : Poly) → is-canonical p f ≡ true → Canonical p f
 unfolding is-canonical
 canonical-of-test p [] h = tt
 canonical-of-test p (t ∷ f) h =
@@ -37,7 +37,7 @@ unfolding falls
 falls-of-under e [] u = refl
 falls-of-under e (t ∷ f) u = ap (λ o. elim o as (λ o. Bool) [ Ordering·lt ↦ true | Ordering·eq ↦ false | Ordering·gt ↦ false ]) (u .0)
 
-pub test-of-canonical : (p : ℕ) (f : Poly) → Canonical p f → is-canonical p f ≡ true
+test-of-canonical : (p : ℕ) (f : Poly) → Canonical p f → is-canonical p f ≡ true
 unfolding is-canonical
 test-of-canonical p [] n = refl
 test-of-canonical p (t ∷ f) n =

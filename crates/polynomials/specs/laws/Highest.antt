@@ -16,12 +16,12 @@ bytes-taken zero m = 0
 bytes-taken (suc n) zero = 0
 bytes-taken (suc n) (suc m) = suc (bytes-taken n (suc m / 256))
 
-pub taken-zero : (n : ℕ) → bytes-taken n 0 ≡ 0
+taken-zero : (n : ℕ) → bytes-taken n 0 ≡ 0
 unfolding bytes-taken
 taken-zero zero = refl
 taken-zero (suc n) = refl
 
-pub taken-more : (n m : ℕ) → 1 ≤ m → bytes-taken (suc n) m ≡ suc (bytes-taken n (m / 256))
+taken-more : (n m : ℕ) → 1 ≤ m → bytes-taken (suc n) m ≡ suc (bytes-taken n (m / 256))
 unfolding bytes-taken
 taken-more n zero h = absurd (omega arith)
 taken-more n (suc m) h = refl
@@ -47,7 +47,7 @@ above-some b h = go (eqb b 0) (eqb→eq b 0)
     go false z = refl
 
 -- Of a number that n bytes hold, the highest place other than 0 is the number of bytes that it takes.
-pub highest-bytes : (n m : ℕ) → m < 256 ^ n → highest (bytes n m) ≡ bytes-taken n m
+highest-bytes : (n m : ℕ) → m < 256 ^ n → highest (bytes n m) ≡ bytes-taken n m
 unfolding bytes highest bytes-taken
 highest-bytes zero m h = refl
 highest-bytes (suc n) m h = highest-cons (m % 256) (bytes n (m / 256)) ∙ ap (above (m % 256)) (highest-bytes n (m / 256) small) ∙ step n m small

@@ -32,7 +32,7 @@ compare-says m n = go (compare m n) refl
     go Ordering·gt e = ge Ordering·gt e tt
 
 -- Only one outcome can be said.
-pub says-only : (m n : ℕ) (o o′ : Ordering) → Says o m n → Says o′ m n → o ≡ o′
+says-only : (m n : ℕ) (o o′ : Ordering) → Says o m n → Says o′ m n → o ≡ o′
 says-only m n Ordering·lt Ordering·lt h k = refl
 says-only m n Ordering·lt Ordering·eq h k = absurd (omega arith)
 says-only m n Ordering·lt Ordering·gt h k = absurd (omega arith)
@@ -46,7 +46,7 @@ says-only m n Ordering·gt Ordering·gt h k = refl
 pub compare-is : (m n : ℕ) (o : Ordering) → Says o m n → compare m n ≡ o
 compare-is m n o h = says-only m n (compare m n) o (compare-says m n) h
 
-pub then-eq : (o c : Ordering) → andThen o c ≡ Ordering·eq → (o ≡ Ordering·eq) × (c ≡ Ordering·eq)
+then-eq : (o c : Ordering) → andThen o c ≡ Ordering·eq → (o ≡ Ordering·eq) × (c ≡ Ordering·eq)
 then-eq Ordering·lt c e = (e, cc)
 then-eq Ordering·eq c e = (refl, e)
 then-eq Ordering·gt c e = (e, cc)

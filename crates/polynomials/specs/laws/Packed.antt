@@ -44,7 +44,7 @@ join-bytes (suc n) w v f = ap₂ _∷_ low (ap (bytes n) high ∙ join-bytes n (
     high = omega (arith, f .0)
 
 -- A byte of a word.
-pub byte-at : (n k w : ℕ) → k < n → getD (bytes n w) k 0 ≡ w / 256 ^ k % 256
+byte-at : (n k w : ℕ) → k < n → getD (bytes n w) k 0 ≡ w / 256 ^ k % 256
 unfolding bytes
 byte-at zero k w h = absurd (omega arith)
 byte-at (suc n) zero w h = ap (λ z. z % 256) (sym (div-one w))

@@ -24,7 +24,7 @@ use Rattle.polynomials.specs.laws.Free.{Free}
 use Rattle.polynomials.specs.laws.Places.{Places}
 
 -- ── the highest exponent other than 0 ──
-pub above-highest : (e : Exponents) (j : ℕ) → highest e ≤ j → getD e j 0 ≡ 0
+above-highest : (e : Exponents) (j : ℕ) → highest e ≤ j → getD e j 0 ≡ 0
 unfolding highest
 above-highest [] j h = refl
 above-highest (n ∷ e) j h = go (highest e) (above-highest e) (eqb n 0) (eqb→eq n 0) j h
@@ -38,7 +38,7 @@ above-highest (n ∷ e) j h = go (highest e) (above-highest e) (eqb n 0) (eqb→
     go (suc k) ih b q zero l = absurd (omega arith)
     go (suc k) ih b q (suc j) l = ih j (omega arith)
 
-pub at-highest : (e : Exponents) (k : ℕ) → highest e ≡ k + 1 → 1 ≤ getD e k 0
+at-highest : (e : Exponents) (k : ℕ) → highest e ≡ k + 1 → 1 ≤ getD e k 0
 unfolding highest
 at-highest [] k h = absurd (omega arith)
 at-highest (n ∷ e) k h = go (highest e) (at-highest e) (eqb n 0) (λ (z : n ≡ 0). subst (λ x. T (eqb x 0)) (sym z) (eqb-refl 0)) k h
@@ -52,10 +52,10 @@ at-highest (n ∷ e) k h = go (highest e) (at-highest e) (eqb n 0) (λ (z : n �
     go (suc m) ih b q (suc k) l = ih k (omega arith)
 
 -- An exponent other than 0 stands at most at the highest place; where those from m on are 0, that is at most m.
-pub below-highest : (e : Exponents) (k : ℕ) → 1 ≤ getD e k 0 → k < highest e
+below-highest : (e : Exponents) (k : ℕ) → 1 ≤ getD e k 0 → k < highest e
 below-highest e k h = elim (decLt k (highest e)) [ yes l ↦ l | no n ↦ let n′ : ¬ (k < highest e) = n in absurd (omega (arith, above-highest e k (omega arith))) ]
 
-pub highest-at-most : (e : Exponents) (m : ℕ) → ((j : ℕ) → m ≤ j → getD e j 0 ≡ 0) → highest e ≤ m
+highest-at-most : (e : Exponents) (m : ℕ) → ((j : ℕ) → m ≤ j → getD e j 0 ≡ 0) → highest e ≤ m
 highest-at-most e m h = go (highest e) (at-highest e)
   where
     go : (k : ℕ) → ((i : ℕ) → k ≡ i + 1 → 1 ≤ getD e i 0) → k ≤ m
@@ -64,10 +64,10 @@ highest-at-most e m h = go (highest e) (at-highest e)
 
 -- ── the leading variable ──
 -- A variable of degree 0 is absent.
-pub free-degree : (j : ℕ) (f : Poly) → degree j f ≡ 0 → Free j f
+free-degree : (j : ℕ) (f : Poly) → degree j f ≡ 0 → Free j f
 free-degree j f h = all-map (λ a. getD a j 0 ≤ 0) (λ a. getD a j 0 ≡ 0) f (λ (a : Exponents) (l : getD a j 0 ≤ 0). omega arith) (all-degree j 0 f (omega arith))
 
-pub degree-free : (j : ℕ) (f : Poly) → Free j f → degree j f ≡ 0
+degree-free : (j : ℕ) (f : Poly) → Free j f → degree j f ≡ 0
 degree-free j f u =
     let h : degree j f ≤ 0 = degree-at-most j 0 f (all-map (λ a. getD a j 0 ≡ 0) (λ a. getD a j 0 ≤ 0) f (λ (a : Exponents) (l : getD a j 0 ≡ 0). omega arith) u) in
     omega arith
@@ -222,7 +222,7 @@ module _ (k d : ℕ) where
   unfolding without
   without-of t f h = ap (λ (b : Bool). elim b as (λ b. Poly) [ true ↦ without k d f | false ↦ t ∷ without k d f ]) (eq-eqb (getD (t .exps) k 0) d h)
 
-  pub without-off : (t : Term) (f : Poly) → getD (t .exps) k 0 ≢ d → without k d (t ∷ f) ≡ t ∷ without k d f
+  without-off : (t : Term) (f : Poly) → getD (t .exps) k 0 ≢ d → without k d (t ∷ f) ≡ t ∷ without k d f
   unfolding without
   without-off t f h = ap (λ (b : Bool). elim b as (λ b. Poly) [ true ↦ without k d f | false ↦ t ∷ without k d f ]) (ne-eqb (getD (t .exps) k 0) d h)
 
@@ -242,7 +242,7 @@ module _ (k d : ℕ) where
   without-none [] u = refl
   without-none (t ∷ f) u = without-off t f (u .0) ∙ ap (λ g. t ∷ g) (without-none f (u .1))
 
-  pub without-every : (f : Poly) → All (λ e. getD e k 0 ≡ d) f → without k d f ≡ []
+  without-every : (f : Poly) → All (λ e. getD e k 0 ≡ d) f → without k d f ≡ []
   unfolding without
   without-every [] u = refl
   without-every (t ∷ f) u = without-of t f (u .0) ∙ without-every f (u .1)
@@ -259,7 +259,7 @@ module _ (k d : ℕ) where
       go true ih = ap (λ h. cleared k t ∷ h) ih
       go false ih = ih
 
-  pub without-append : (f g : Poly) → without k d (f ++ g) ≡ without k d f ++ without k d g
+  without-append : (f g : Poly) → without k d (f ++ g) ≡ without k d f ++ without k d g
   unfolding without
   without-append [] g = refl
   without-append (t ∷ f) g = go (eqb (getD (t .exps) k 0) d) (without-append f g)

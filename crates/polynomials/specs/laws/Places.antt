@@ -17,7 +17,7 @@ use Rattle.polynomials.specs.laws.All.{coefficient-all, without-all, shi
 abbrev pub Places : ℕ → Poly → Type 0
 Places n f = All (λ e. length e ≡ n) f
 
-pub length-join : (a b : Exponents) → length (join a b) ≡ max (length a) (length b)
+length-join : (a b : Exponents) → length (join a b) ≡ max (length a) (length b)
 unfolding join
 length-join [] b = omega arith
 length-join (x ∷ a) [] = omega arith
@@ -39,7 +39,7 @@ module _ (n : ℕ) where
   pub places-coefficient : (k d : ℕ) (f : Poly) → Places n f → Places n (coefficient k d f)
   places-coefficient k d f u = coefficient-all (λ e. length e ≡ n) (λ e. length e ≡ n) k d f (λ e h. length-set e k 0 ∙ h) u
 
-  pub places-without : (k d : ℕ) (f : Poly) → Places n f → Places n (without k d f)
+  places-without : (k d : ℕ) (f : Poly) → Places n f → Places n (without k d f)
   places-without k d f u = without-all (λ e. length e ≡ n) k d f u
 
   pub places-initial : (k : ℕ) (f : Poly) → Places n f → Places n (initial k f)
@@ -50,24 +50,24 @@ module _ (n : ℕ) where
   unfolding rest
   places-rest k f u = places-without k (degree k f) f u
 
-  pub places-shift : (k m : ℕ) (f : Poly) → k < n → Places n f → Places n (shift k m f)
+  places-shift : (k m : ℕ) (f : Poly) → k < n → Places n f → Places n (shift k m f)
   places-shift k m f l u =
       shift-all (λ e. length e ≡ n) (λ e. length e ≡ n) k m f
       (λ (e : Exponents) (h : length e ≡ n). omega (arith, length-join (pure-power k m) e, length-pure-power k m)) u
 
-  pub places-factor : (k d : ℕ) (R : Poly) → k < n → Places n R → Places n (factor k d R)
+  places-factor : (k d : ℕ) (R : Poly) → k < n → Places n R → Places n (factor k d R)
   unfolding factor
   places-factor k d R l u = places-shift k (degree k R - d) (coefficient k (degree k R) R) l (places-coefficient k (degree k R) R u)
 
-  pub places-add-multiple : (p c : ℕ) (e : Exponents) (g f : Poly) → length e ≤ n → Places n g → Places n f → Places n (add-multiple p c e g f)
+  places-add-multiple : (p c : ℕ) (e : Exponents) (g f : Poly) → length e ≤ n → Places n g → Places n f → Places n (add-multiple p c e g f)
   places-add-multiple p c e g f l u v =
       all-add-multiple (λ b. length b ≡ n) (λ b. length b ≡ n) p c e g f (λ (b : Exponents) (h : length b ≡ n). omega (arith, length-join e b)) u v
 
-  pub places-difference : (p : ℕ) (f g : Poly) → Places n f → Places n g → Places n (difference p f g)
+  places-difference : (p : ℕ) (f g : Poly) → Places n f → Places n g → Places n (difference p f g)
   unfolding difference
   places-difference p f g u v = places-add-multiple p (p - 1) [] g f (omega arith) v u
 
-  pub places-product : (p : ℕ) (f g : Poly) → Places n f → Places n g → Places n (product p f g)
+  places-product : (p : ℕ) (f g : Poly) → Places n f → Places n g → Places n (product p f g)
   places-product p f g u v =
       all-product (λ a. length a ≡ n) (λ b. length b ≡ n) (λ e. length e ≡ n) p f g
       (λ (a b : Exponents) (h : length a ≡ n) (i : length b ≡ n). omega (arith, length-join a b)) u v
@@ -77,7 +77,7 @@ module _ (n : ℕ) where
   places-monic p [] u = tt
   places-monic p (t ∷ f) u = places-add-multiple p (inverse p (t .coef)) [] (t ∷ f) [] (omega arith) u tt
 
-  pub places-round : (p k d : ℕ) (G R : Poly) → k < n → Places n G → Places n R → Places n (round p k d G R)
+  places-round : (p k d : ℕ) (G R : Poly) → k < n → Places n G → Places n R → Places n (round p k d G R)
   unfolding round
   places-round p k d G R l u v =
       places-difference p (product p (coefficient k d G) R) (product p (factor k d R) G) (places-product p (coefficient k d G) R (places-coefficient k d G u) v)

@@ -58,7 +58,7 @@ module _ (p : ℕ) (h : 1 ≤ p) where
   abbrev pub canon : Poly → Canon
   canon f = (sum p f [], canonical-sum p f [] h tt)
 
-  pub weigh-canon : (w : Exponents → Fin p) (f : Poly) → weigh 𝓕 w (canon f .0) ≡ weigh 𝓕 w f
+  weigh-canon : (w : Exponents → Fin p) (f : Poly) → weigh 𝓕 w (canon f .0) ≡ weigh 𝓕 w f
   unfolding weigh
   weigh-canon w f = weigh-sum 𝓕 p (cast-modulus p h) w f [] ∙ add-nil 𝓕 (weigh 𝓕 w f)
 
@@ -69,11 +69,11 @@ module _ (p : ℕ) (h : 1 ≤ p) where
   pub canon-is : (f : Canon) → canon (f .0) ≡ f
   canon-is f = same (canon (f .0)) f (λ w. weigh-canon w (f .0))
 
-  pub zero-difference : (w : Exponents → Fin p) (f : Poly) → weigh 𝓕 w (difference p [] f) ≡ 𝓕 .neg (weigh 𝓕 w f)
+  zero-difference : (w : Exponents → Fin p) (f : Poly) → weigh 𝓕 w (difference p [] f) ≡ 𝓕 .neg (weigh 𝓕 w f)
   unfolding weigh
   zero-difference w f = weigh-difference 𝓕 p (cast-modulus p h) h w [] f ∙ nil-add 𝓕 (𝓕 .neg (weigh 𝓕 w f))
 
-  pub weigh-one : (w : Exponents → Fin p) → weigh 𝓕 w constant-one ≡ w []
+  weigh-one : (w : Exponents → Fin p) → weigh 𝓕 w constant-one ≡ w []
   unfolding weigh constant-one
   weigh-one w = add-nil 𝓕 _ ∙ ap (λ z. 𝓕 .mul z (w [])) (cast-one 𝓕) ∙ one-mul 𝓕 (w [])
 
@@ -126,10 +126,10 @@ module _ (p : ℕ) (h : 1 ≤ p) where
         ∙ ap₂ _⊕_ (sym (weigh-product 𝓕 p (cast-modulus p h) w f g)) (sym (weigh-product 𝓕 p (cast-modulus p h) w f k)) ∙ sym (S (product p f g) (product p f k))
 
   -- canonical parts may be put in or left out under an operation
-  pub w-sum-canon : (w : Exponents → Fin p) (f g : Poly) → weigh 𝓕 w (sum p (canon f .0) (canon g .0)) ≡ weigh 𝓕 w (sum p f g)
+  w-sum-canon : (w : Exponents → Fin p) (f g : Poly) → weigh 𝓕 w (sum p (canon f .0) (canon g .0)) ≡ weigh 𝓕 w (sum p f g)
   w-sum-canon w f g = weigh-sum 𝓕 p (cast-modulus p h) w _ _ ∙ ap₂ (𝓕 .add) (weigh-canon w f) (weigh-canon w g) ∙ sym (weigh-sum 𝓕 p (cast-modulus p h) w f g)
 
-  pub w-product-canon : (w : Exponents → Fin p) (f g : Poly) → weigh 𝓕 w (product p (canon f .0) (canon g .0)) ≡ weigh 𝓕 w (product p f g)
+  w-product-canon : (w : Exponents → Fin p) (f g : Poly) → weigh 𝓕 w (product p (canon f .0) (canon g .0)) ≡ weigh 𝓕 w (product p f g)
   w-product-canon w f g =
       weigh-product 𝓕 p (cast-modulus p h) w _ _ ∙ ap (λ u. weigh 𝓕 u (canon f .0)) (fun-ext (λ a. weigh-canon (λ b. w (join a b)) g)) ∙ weigh-canon _ f ∙ sym (weigh-product 𝓕 p (cast-modulus p h) w f g)
 
@@ -151,7 +151,7 @@ module _ (p : ℕ) (h : 1 ≤ p) where
   }
 
   -- A polynomial read in this ring is its canonical form.
-  pub reading-self : Reading p Polynomials canon
+  reading-self : Reading p Polynomials canon
   unfolding Polynomials
   reading-self = record {
     of-nil = same _ _ (λ w. weigh-canon w []);

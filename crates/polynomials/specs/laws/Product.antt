@@ -101,7 +101,7 @@ module _ (f : List ℕ) (i : ℕ) (even : i % 2 ≡ 0) (inside : i + 1 < length 
   pub coefficient-below : (p : ℕ) → Canonical p (terms f) → getD f i 0 < p
   coefficient-below p c = subst (Canonical p) (sym (terms-drop i f even) ∙ terms-at f i inside) (canonical-drop p (i / 2) (terms f) c) .1
 
-  pub exponent-within : (k : ℕ) → getD (bytes 8 (getD f (i + 1) 0)) k 0 ≤ degree k (terms f)
+  exponent-within : (k : ℕ) → getD (bytes 8 (getD f (i + 1) 0)) k 0 ≤ degree k (terms f)
   unfolding degree
   exponent-within k =
       omega (

@@ -13,19 +13,19 @@ use Rattle.polynomials.specs.Poly.{Exponents, Poly}
 use Rattle.polynomials.specs.Value.{value, weigh, monomial-value, monomial-valueℕ, valueℕ}
 
 module _ {ℓ} {K : Type ℓ} (𝓡 : CommRing K) where
-  pub cast-pow : (x n : ℕ) → cast 𝓡 (x ^ n) ≡ pow 𝓡 (cast 𝓡 x) n
+  cast-pow : (x n : ℕ) → cast 𝓡 (x ^ n) ≡ pow 𝓡 (cast 𝓡 x) n
   unfolding pow
   cast-pow x zero = ap (cast 𝓡) (pow-zero x) ∙ cast-one 𝓡
   cast-pow x (suc n) = ap (cast 𝓡) (pow-succ' x n) ∙ cast-mul 𝓡 x (x ^ n) ∙ ap (λ z. 𝓡 .mul (cast 𝓡 x) z) (cast-pow x n)
 
-  pub cast-monomial : (x : List ℕ) (e : Exponents) → cast 𝓡 (monomial-valueℕ x e) ≡ monomial-value 𝓡 (map (cast 𝓡) x) e
+  cast-monomial : (x : List ℕ) (e : Exponents) → cast 𝓡 (monomial-valueℕ x e) ≡ monomial-value 𝓡 (map (cast 𝓡) x) e
   unfolding monomial-valueℕ monomial-value
   cast-monomial [] e = cast-one 𝓡
   cast-monomial (x ∷ xs) [] = cast-one 𝓡
   cast-monomial (x ∷ xs) (n ∷ e) = cast-mul 𝓡 (x ^ n) (monomial-valueℕ xs e) ∙ ap₂ (𝓡 .mul) (cast-pow x n) (cast-monomial xs e)
 
   -- The value at a point of numbers, in any ring.
-  pub cast-value : (f : Poly) (x : List ℕ) → cast 𝓡 (valueℕ f x) ≡ value 𝓡 f (map (cast 𝓡) x)
+  cast-value : (f : Poly) (x : List ℕ) → cast 𝓡 (valueℕ f x) ≡ value 𝓡 f (map (cast 𝓡) x)
   unfolding valueℕ weigh cast
   cast-value [] x = refl
   cast-value (t ∷ f) x =
@@ -33,7 +33,7 @@ module _ {ℓ} {K : Type ℓ} (𝓡 : CommRing K) where
       ∙ ap₂ (𝓡 .add) (cast-mul 𝓡 (t .coef) (monomial-valueℕ x (t .exps)) ∙ ap (λ z. 𝓡 .mul (cast 𝓡 (t .coef)) z) (cast-monomial x (t .exps))) (cast-value f x)
 
 -- The paper's value, a remainder, is the value in the ring of residues.
-pub value-residue : (p : ℕ) (h : 1 ≤ p) (f : Poly) (x : List ℕ) → valueℕ f x % p ≡ (value (Residues p h) f (map (cast (Residues p h)) x)) .0
+value-residue : (p : ℕ) (h : 1 ≤ p) (f : Poly) (x : List ℕ) → valueℕ f x % p ≡ (value (Residues p h) f (map (cast (Residues p h)) x)) .0
 value-residue p h f x = ap (λ (z : Fin p). z .0) (sym (cast-residue p h (valueℕ f x)) ∙ cast-value (Residues p h) f x)
 
 -- What is proved over any field holds of the paper's values: the prime field is one.

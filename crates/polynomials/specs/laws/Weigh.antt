@@ -17,7 +17,7 @@ module _ {ℓ} {K : Type ℓ} (𝓡 : CommRing K) where
   infixl 60 _⊕_
   infixl 70 _⊗_
   infix 80 ⊖_
-  pub weigh-scale : (k : K) (w : Exponents → K) (f : Poly) → weigh 𝓡 (λ e. k ⊗ w e) f ≡ k ⊗ weigh 𝓡 w f
+  weigh-scale : (k : K) (w : Exponents → K) (f : Poly) → weigh 𝓡 (λ e. k ⊗ w e) f ≡ k ⊗ weigh 𝓡 w f
   unfolding weigh
   weigh-scale k w [] = sym (mul-nil 𝓡 k)
   weigh-scale k w (t ∷ f) = ap (λ z. cast 𝓡 (t .coef) ⊗ (k ⊗ w (t .exps)) ⊕ z) (weigh-scale k w f) ∙ law (cast 𝓡 (t .coef)) k (w (t .exps)) (weigh 𝓡 w f)
@@ -38,7 +38,7 @@ module _ {ℓ} {K : Type ℓ} (𝓡 : CommRing K) where
   monomial-nil [] = refl
   monomial-nil (x ∷ xs) = refl
 
-  pub monomial-join : (point : List K) (a b : Exponents) → monomial-value 𝓡 point (join a b) ≡ monomial-value 𝓡 point a ⊗ monomial-value 𝓡 point b
+  monomial-join : (point : List K) (a b : Exponents) → monomial-value 𝓡 point (join a b) ≡ monomial-value 𝓡 point a ⊗ monomial-value 𝓡 point b
   unfolding monomial-value join
   monomial-join [] a b = sym (mul-one 𝓡 𝟙)
   monomial-join (x ∷ xs) [] b = sym (one-mul 𝓡 (monomial-value 𝓡 (x ∷ xs) b))
@@ -49,7 +49,7 @@ module _ {ℓ} {K : Type ℓ} (𝓡 : CommRing K) where
       law s t a b = simp ring-laws
 
   module _ (p : ℕ) (char : cast 𝓡 p ≡ 𝟘) where
-    pub weigh-keep : (w : Exponents → K) (c : ℕ) (e : Exponents) (f : Poly) → weigh 𝓡 w (keep c e f) ≡ cast 𝓡 c ⊗ w e ⊕ weigh 𝓡 w f
+    weigh-keep : (w : Exponents → K) (c : ℕ) (e : Exponents) (f : Poly) → weigh 𝓡 w (keep c e f) ≡ cast 𝓡 c ⊗ w e ⊕ weigh 𝓡 w f
     unfolding weigh keep
     weigh-keep w c e f = go (eqb c 0) (eqb→eq c 0)
       where
@@ -57,7 +57,7 @@ module _ {ℓ} {K : Type ℓ} (𝓡 : CommRing K) where
         go true h = sym (nil-add 𝓡 (weigh 𝓡 w f)) ∙ ap (λ z. z ⊕ weigh 𝓡 w f) (sym (nil-mul 𝓡 (w e)) ∙ ap (λ z. z ⊗ w e) (sym (cast-zero 𝓡))) ∙ ap (λ z. cast 𝓡 z ⊗ w e ⊕ weigh 𝓡 w f) (sym (h tt))
         go false h = refl
 
-    pub weigh-insert : (w : Exponents → K) (c : ℕ) (e : Exponents) (f : Poly) → weigh 𝓡 w (insert p c e f) ≡ cast 𝓡 c ⊗ w e ⊕ weigh 𝓡 w f
+    weigh-insert : (w : Exponents → K) (c : ℕ) (e : Exponents) (f : Poly) → weigh 𝓡 w (insert p c e f) ≡ cast 𝓡 c ⊗ w e ⊕ weigh 𝓡 w f
     unfolding weigh insert
     weigh-insert w c e [] = weigh-keep w c e []
     weigh-insert w c e (t ∷ f) = go (weigh-insert w c e f) (order e (t .exps)) (order-eq e (t .exps))

@@ -9,7 +9,7 @@ use Rattle.residues.specs.laws.Inverse.{mul-mod-l, mul-mod-r}
 pub pow-one : (b : ℕ) → b ^ 1 ≡ b
 pow-one b = pow-suc b 0 ∙ ap (λ z. z * b) (pow-zero b) ∙ one-mul b
 
-pub pow-mod : (b k m : ℕ) → (b % m) ^ k % m ≡ b ^ k % m
+pow-mod : (b k m : ℕ) → (b % m) ^ k % m ≡ b ^ k % m
 pow-mod b zero m = rw (pow-zero (b % m), pow-zero b)
 pow-mod b (suc k) m =
     ap (λ z. z % m) (pow-suc (b % m) k) ∙ mul-mod-r ((b % m) ^ k) b m ∙ sym (mul-mod-l ((b % m) ^ k) b m) ∙ ap (λ z. z * b % m) (pow-mod b k m)

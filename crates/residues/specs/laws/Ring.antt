@@ -126,7 +126,7 @@ module _ {ℓ} {K : Type ℓ} (R : CommRing K) where
 
   -- ── where p is zero, as it is in every field that contains the prime field ──
   module _ (p : ℕ) (char : cast R p ≡ 𝟘) where
-    pub cast-mod : (n : ℕ) → cast R (n % p) ≡ cast R n
+    cast-mod : (n : ℕ) → cast R (n % p) ≡ cast R n
     cast-mod n =
         sym (add-nil (cast R (n % p))) ∙ ap (λ z. cast R (n % p) ⊕ z) (sym (nil-mul (cast R (n / p))) ∙ ap (λ z. z ⊗ cast R (n / p)) (sym char) ∙ sym (cast-mul p (n / p)))
         ∙ sym (cast-add (n % p) (p * (n / p))) ∙ ap (cast R) (mod-add-div n p)
@@ -153,7 +153,7 @@ module _ {ℓ} {K : Type ℓ} (F : Field K) where
       sym (one-mul R b) ∙ ap (λ z. z ⊗ b) (sym (F .mul-inv a n)) ∙ mul-assoc R a (F .inv a) b ∙ mul-left-comm R a (F .inv a) b
       ∙ ap (λ z. F .inv a ⊗ z) e ∙ mul-nil R (F .inv a)
 
-  pub mul-nonzero : (a b : K) → a ≢ 𝟘 → b ≢ 𝟘 → a ⊗ b ≢ 𝟘
+  mul-nonzero : (a b : K) → a ≢ 𝟘 → b ≢ 𝟘 → a ⊗ b ≢ 𝟘
   mul-nonzero a b m n e = n (mul-zero a b e m)
 
   pub unit-nonzero : (a b : K) → a ⊗ b ≡ 𝟙 → a ≢ 𝟘

@@ -12,7 +12,7 @@ use Rattle.residues.specs.laws.Booleans.{true-of, false-of}
 use Rattle.residues.specs.laws.Prime.{is-prime-sound, is-prime-complete}
 
 -- no divisor up to the root
-pub prime-of-root : (p : ℕ) → 2 ≤ p → ((d : ℕ) → 2 ≤ d → d * d ≤ p → p % d ≢ 0) → Prime p
+prime-of-root : (p : ℕ) → 2 ≤ p → ((d : ℕ) → 2 ≤ d → d * d ≤ p → p % d ≢ 0) → Prime p
 prime-of-root p h f = record { two≤ = h; no-divisor = go }
   where
     go : (d : ℕ) → 2 ≤ d → d < p → p % d ≢ 0

@@ -41,7 +41,7 @@ pub record Place (f : List ℕ) (i j k : ℕ) : Type 0 where
   pub next : k ≡ i + 2
 
 module _ (p : ℕ) (f g : List ℕ) (pg : Pairs g) where
-  pub none-gathered : (x : List ℕ) → RowsFrom p f g (length f) 0 x
+  none-gathered : (x : List ℕ) → RowsFrom p f g (length f) 0 x
   unfolding product terms
   none-gathered x = record {
     written = subst (λ s. Written (product p (terms s) (terms g)) 0 x) (sym (drop-length f)) record { within = omega arith; pairs = refl; holds = refl };
@@ -51,7 +51,7 @@ module _ (p : ℕ) (f g : List ℕ) (pg : Pairs g) where
   -- The row of that term.
   module _ (i j k : ℕ) (at : Place f i j k) (n : ℕ) (x : List ℕ) (so-far : RowsFrom p f g k n x) where
     -- What adding it asks.
-    pub row-asks : (room : ℕ) → (1 ≤ p) × (p < 2147483648) → Canonical p (terms f) → Canonical p (terms g)
+    row-asks : (room : ℕ) → (1 ≤ p) × (p < 2147483648) → Canonical p (terms f) → Canonical p (terms g)
         → degrees-over (at-most 255) (terms f) (terms g) ≡ false → n + length g ≤ room → Adds p (getD f i 0) (getD f j 0) g (take n x) room
     row-asks room hp cf cg h r = (
       (coefficient-below f i (at .even) (at .inside) p cf, hp .1),
@@ -68,12 +68,12 @@ module _ (p : ℕ) (f g : List ℕ) (pg : Pairs g) where
         taken = length-take-le n x (so-far .written .within)
 
     module _ (m : ℕ) (z : List ℕ) (w : Written (row p f g i j (take n x)) m z) where
-      pub row-words : m ≤ n + length g
+      row-words : m ≤ n + length g
       row-words =
           let brought = add-multiple-length p (getD f i 0) (bytes 8 (getD f j 0)) (terms g) (terms (take n x)) .1 in
           omega (arith, so-far .written .pairs, w .pairs, words-of-terms g pg, ap length (so-far .written .holds), brought)
 
-      pub row-gathered : RowsFrom p f g i m z
+      row-gathered : RowsFrom p f g i m z
       row-gathered = record {
         written = subst (λ s. Written s m z) same w;
         done = omega (arith, so-far .done, row-words, ap (λ (k : ℕ). k * length g) (at .next));
@@ -86,7 +86,7 @@ module _ (p : ℕ) (f g : List ℕ) (pg : Pairs g) where
               ∙ sym (row-added f i (at .even) (at .inside) p (terms g))
 
   -- Where what is gathered can't come back to 256 terms, the product has more.
-  pub cannot-return : (i n : ℕ) (x : List ℕ) → i % 2 ≡ 0 → RowsFrom p f g i n x → 512 + i / 2 * length g < n → 256 < length (product p (terms f) (terms g))
+  cannot-return : (i n : ℕ) (x : List ℕ) → i % 2 ≡ 0 → RowsFrom p f g i n x → 512 + i / 2 * length g < n → 256 < length (product p (terms f) (terms g))
   cannot-return i n x even so-far many =
       let behind = ap (λ s. length (product p s (terms g))) (terms-drop i f even) in
       let words = words-of-terms g pg in

@@ -9,7 +9,7 @@ use lib.Seq.{paste, paste-suc, length-paste-head, set-at, take-suc, drop-cons, g
 
 module _ {A : Type 0} (z : A) where
   -- from the top: what is at a goes to b, the m above them are there already
-  pub up-step : (v : List A) (a b m : ℕ) → a ≤ b → b + suc m ≤ length v
+  up-step : (v : List A) (a b m : ℕ) → a ≤ b → b + suc m ≤ length v
       → set (paste v (suc b) (drop (suc a) v) m) b (getD (paste v (suc b) (drop (suc a) v) m) a z) ≡ paste v b (drop a v) (suc m)
   up-step v a b m h k =
       let Y : List A = take m (drop (suc a) v) in

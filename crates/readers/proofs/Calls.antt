@@ -52,12 +52,12 @@ module _ {M : Type 1} {𝓤 : URA M} {H : Heap 𝓤} {A : Atoms 𝓤} {K : Type 
 -- ── an `if` without `else`, where the test is known ──
 module _ {M : Type 1} {𝓤 : URA M} {H : Heap 𝓤} {A : Atoms 𝓤} {K : Type 0} {W : Given 𝓤 H A} {Γ : List (Item 𝓤)} {E : Env 𝓤 H}
     {C : Calls 𝓤 H} {Λ : Loops 𝓤 H} {q : Post 𝓤 H} {o : Operand} {a b : Body} where
-  pub takes-arm : K → Opd K W Γ E o (vbool true)
+  takes-arm : K → Opd K W Γ E o (vbool true)
       → Step K W Γ (runs C Λ E a (anyQ (afterSeq 𝓤 H (Wp 𝓤 H C Λ E b (post 𝓤 H q)) (post 𝓤 H q)))) Γ
       (runs C Λ E (seq (cond o a skip) b) q)
   takes-arm t d = step (λ s. first t $ branches t d (λ _. s) (λ z. absurd z))
 
-  pub skips-arm : K → Opd K W Γ E o (vbool false) → Step K W Γ (runs C Λ E b q) Γ (runs C Λ E (seq (cond o a skip) b) q)
+  skips-arm : K → Opd K W Γ E o (vbool false) → Step K W Γ (runs C Λ E b q) Γ (runs C Λ E (seq (cond o a skip) b) q)
   skips-arm t d = step (λ s. first t $ branches t d (λ z. absurd z) (λ _. skips t $ record { prf = s .prf }))
 
   -- each arm runs where the test came out for it

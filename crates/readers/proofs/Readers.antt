@@ -124,7 +124,7 @@ pub reader-typed : {M : Type 1} (𝓤 : URA M) (H : Heap 𝓤) (A : Atoms 𝓤) 
 reader-typed 𝓤 H A W κ t is i fits =
     (tt, (shr-slice-lawful 𝓤 H A W (named 0) κ u32 .typed t (slice t ∷ []) is .0 .1, (record { fits = fits }, tt)))
 
-pub twice : {M : Type 1} (𝓤 : URA M) (H : Heap 𝓤) (A : Atoms 𝓤) → Given 𝓤 H A → (κ : Lft) (t : RefT (List ℕ))
+twice : {M : Type 1} (𝓤 : URA M) (H : Heap 𝓤) (A : Atoms 𝓤) → Given 𝓤 H A → (κ : Lft) (t : RefT (List ℕ))
     → ent 𝓤 (sem 𝓤 H A (Own κ t)) (sep 𝓤 (sem 𝓤 H A (Own κ t)) (sem 𝓤 H A (Own κ t)))
 twice 𝓤 H A W κ t = shr-slice-copy 𝓤 H A W (named 0) κ u32 .twice t (slice t ∷ [])
 
@@ -184,7 +184,7 @@ module _ {M : Type 1} (𝓤 : URA M) (H : Heap 𝓤) (A : Atoms 𝓤) (W : Given
         use2 W (raw passes)
         (qed W (token 𝓤 κ q ∷ ‵ (owns (B (κ, tt) ∷ []) (reader-at t i, tt) (reader t i ∷ [], tt)) ∷ []) ∵ join ! $ frame ! $ done !) $ frame ! $ done !
 
-    pub at-called : Triple 𝓤 (C #at) (At 𝓤 H A mem run)
+    at-called : Triple 𝓤 (C #at) (At 𝓤 H A mem run)
         → ent 𝓤 held (C #at (reader t i ∷ []) (Returned 𝓤 H (vint w64 i) (Unit {0}) held))
     at-called met =
         called 𝓤 H A W C fm (At 𝓤 H A mem run) met (((κ, tt), (q, tt), tt, (reader-at t i, tt), (reader t i ∷ [], tt)), tt)
@@ -334,7 +334,7 @@ module _ {M : Type 1} (𝓤 : URA M) (H : Heap 𝓤) (A : Atoms 𝓤) (W : Given
       -- [the tokens; what the table owns, twice; what the point owns, twice]
       move ! (3 ∷ 1 ∷ 0 ∷ 2 ∷ 4 ∷ []) $ frame ! $ frame ! $ frame ! $ done !
 
-  pub back : ent 𝓤 (sep 𝓤 (mean 𝓤 H A (tokens 𝓤 κ κ′ q q′)) (mean 𝓤 H A (Owns 𝓤 κ κ′ t x))) (mean 𝓤 H A (Both 𝓤 κ κ′ q q′ t x))
+  back : ent 𝓤 (sep 𝓤 (mean 𝓤 H A (tokens 𝓤 κ κ′ q q′)) (mean 𝓤 H A (Owns 𝓤 κ κ′ t x))) (mean 𝓤 H A (Both 𝓤 κ κ′ q q′ t x))
   back = qed W (tokens 𝓤 κ κ′ q q′ ∷ ‵ (Own κ t) ∷ ‵ (Own κ′ x) ∷ []) ∵ split3 ! $ move ! (0 ∷ 3 ∷ []) $ join ! $ frame ! $ keep ! (0 ∷ 2 ∷ []) $ done !
 
   -- what is had at exit: the tokens, and what each slice owns

@@ -10,7 +10,7 @@ use Rattle.records.specs.Records.{Rec, zero-record}
 use Rattle.stored.specs.Stored.{size-at, pairs-of, words-at, skip-to, polys-at}
 
 -- ── loading ──
-pub pairs-of-append : (r s : List Rec) → pairs-of (r ++ s) ≡ pairs-of r ++ pairs-of s
+pairs-of-append : (r s : List Rec) → pairs-of (r ++ s) ≡ pairs-of r ++ pairs-of s
 unfolding pairs-of
 pairs-of-append [] s = refl
 pairs-of-append (x ∷ r) s = ap (λ (l : List ℕ). x .w0 ∷ (x .w1 * 4294967296 + x .w2) ∷ l) (pairs-of-append r s)

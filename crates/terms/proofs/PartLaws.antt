@@ -75,7 +75,7 @@ parted : (s : List ℕ) (i : ℕ) → i % 2 ≡ 0 → i ≤ length s → terms s
 parted s i e h = ap terms (sym (take-append-drop i s)) ∙ terms-append (take i s) (drop i s) (omega (arith, length-take-le i s h))
 
 -- What holds of all terms holds of the one at word i.
-pub all-at : (P : Exponents → Type 0) (s : List ℕ) (i : ℕ) → i % 2 ≡ 0 → i + 1 < length s → All P (terms s) → P (bytes 8 (getD s (i + 1) 0))
+all-at : (P : Exponents → Type 0) (s : List ℕ) (i : ℕ) → i % 2 ≡ 0 → i + 1 < length s → All P (terms s) → P (bytes 8 (getD s (i + 1) 0))
 all-at P s i e h u = subst (All P) (sym (terms-drop i s e) ∙ terms-at s i h) (each-drop (λ t. P (t .exps)) (i / 2) (terms s) u) .0
 
 pub all-at-taken : (P : Exponents → Type 0) (s : List ℕ) (n i : ℕ) → i % 2 ≡ 0 → i + 1 < n → n ≤ length s → All P (terms (take n s)) → P (bytes 8 (getD s (i + 1) 0))
@@ -172,7 +172,7 @@ module _ (k : ℕ) (s : List ℕ) (L : Led k s) where
       (λ (a : Exponents) (l : getD a k 0 ≤ power-at k s i) (q : getD a k 0 ≡ top). n (omega (arith, bounded i e h))) (behind i e h))
 
   -- The terms in front are those of the initial.
-  pub split-initial : (n : ℕ) → Split k s n → initial k (terms s) ≡ coefficient k top (terms (take n s))
+  split-initial : (n : ℕ) → Split k s n → initial k (terms s) ≡ coefficient k top (terms (take n s))
   unfolding initial
   split-initial n S =
       ap (coefficient k top) (parted s n (omega (arith, S .pairs)) (S .within))

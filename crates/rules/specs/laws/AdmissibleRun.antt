@@ -134,7 +134,7 @@ module _ (l : Limits) (p n : ℕ) (prime : Prime p) (some-variable : 1 ≤ n) (s
   whole f u = record { canonical = u .0; few = u .1 .0; places = u .2; small = λ k. all-degree k 255 f (u .1 .1 k); absent = u .3 }
 
   -- Together, the parts are kept.
-  pub admissible-closed : Closed l p (Admissible p n)
+  admissible-closed : Closed l p (Admissible p n)
   admissible-closed =
       let c = canonical-closed l p (one≤ prime) in
       let d = small-closed l p s in

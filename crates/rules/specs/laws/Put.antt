@@ -64,7 +64,7 @@ module _ {ℓ} (G : Poly → Type ℓ) where
 
 -- ── what is put, at a point ──
 module _ {ℓ} {K : Type ℓ} (F : Field K) (x : List K) where
-  pub zero-is-zero : (f : Poly) → T (is-zero f) → Zero F x f
+  zero-is-zero : (f : Poly) → T (is-zero f) → Zero F x f
   unfolding is-zero weigh
   zero-is-zero [] t = refl
   zero-is-zero (u ∷ f) t = absurd t

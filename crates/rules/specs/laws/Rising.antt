@@ -42,7 +42,7 @@ use Rattle.rules.specs.laws.Runs.{run-of-keeps}
 use Rattle.rules.specs.laws.Kept.{Closed, Of-branch, Of-state, taken-keeps, first-keeps, canonical-closed}
 
 -- ── leaders of results ──
-pub leader-monic : (p : ℕ) (f : Poly) → leader (monic p f) ≤ leader f
+leader-monic : (p : ℕ) (f : Poly) → leader (monic p f) ≤ leader f
 leader-monic p f = leader-at-most (monic p f) (leader f) (λ j l. free-monic j p f (above-leader f j l))
 
 leader-of-initial : (k : ℕ) (f : Poly) → leader (initial k f) ≤ leader f
@@ -51,7 +51,7 @@ leader-of-initial k f = leader-at-most (initial k f) (leader f) (λ j l. free-in
 leader-of-rest : (k : ℕ) (f : Poly) → leader (rest k f) ≤ leader f
 leader-of-rest k f = leader-at-most (rest k f) (leader f) (λ j l. free-rest j k f (above-leader f j l))
 
-pub leader-of-remainder : (l : Limits) (p k : ℕ) (f g r : Poly) → leader f ≤ suc k → leader g ≤ suc k → remainder-by l p k f g ≡ within r → leader r ≤ suc k
+leader-of-remainder : (l : Limits) (p k : ℕ) (f g r : Poly) → leader f ≤ suc k → leader g ≤ suc k → remainder-by l p k f g ≡ within r → leader r ≤ suc k
 leader-of-remainder l p k f g r hf hg e =
     leader-at-most r (suc k)
     (λ j h. subst (Free j) (remainder-by-is l p k f g r e)
@@ -76,7 +76,7 @@ abbrev pub Nonzero-monic : Poly → Type 0
 Nonzero-monic [] = ⊥
 Nonzero-monic (t ∷ f) = t .coef ≡ 1
 
-pub monic-is-monic : (p : ℕ) (f : Poly) → Prime p → Canonical p f → T (is-zero (monic p f)) ⊎ Nonzero-monic (monic p f)
+monic-is-monic : (p : ℕ) (f : Poly) → Prime p → Canonical p f → T (is-zero (monic p f)) ⊎ Nonzero-monic (monic p f)
 unfolding monic is-zero scaled
 monic-is-monic p [] prime c = inl tt
 monic-is-monic p (t ∷ f) prime c =
@@ -142,7 +142,7 @@ abbrev pub Sound : ℕ → Poly → Type 0
 Sound p f = Canonical p f × Places 8 f
 
 module _ (l : Limits) (p : ℕ) (prime : Prime p) where
-  pub sound-closed : Closed l p (Sound p)
+  sound-closed : Closed l p (Sound p)
   sound-closed =
       let c = canonical-closed l p (one≤ prime) in
       let d = places-closed l p in

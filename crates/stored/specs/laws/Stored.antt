@@ -30,7 +30,7 @@ polys-records-append [] ts = refl
 polys-records-append (s ∷ ss) ts =
     ap (λ (l : List Rec). poly-records s ++ l) (polys-records-append ss ts) ∙ sym (append-assoc (poly-records s) (polys-records ss) (polys-records ts))
 
-pub polys-records-one : (s : List ℕ) → polys-records (s ∷ []) ≡ poly-records s
+polys-records-one : (s : List ℕ) → polys-records (s ∷ []) ≡ poly-records s
 unfolding polys-records
 polys-records-one s = append-nil (poly-records s)
 
@@ -44,7 +44,7 @@ length-le-polys-records [] = omega arith
 length-le-polys-records (s ∷ ss) = omega (arith, length-append (poly-records s) (polys-records ss), length-poly-records s, length-le-polys-records ss)
 
 -- ── decoding ──
-pub pairs-of-term-records : (s : List ℕ) → length s % 2 ≡ 0 → pairs-of (term-records s) ≡ s
+pairs-of-term-records : (s : List ℕ) → length s % 2 ≡ 0 → pairs-of (term-records s) ≡ s
 unfolding term-records pairs-of
 pairs-of-term-records [] h = refl
 pairs-of-term-records (c ∷ []) h = absurd (omega arith)
@@ -78,7 +78,7 @@ module _ (v pre : List Rec) (i : ℕ) (at : length pre ≡ i) (s : List ℕ) (po
       ∙ ap pairs-of (take-at (term-records s) post (length s / 2) (length-term-records s)) ∙ pairs-of-term-records s h
 
   -- Behind it.
-  pub length-to-next : length (pre ++ poly-records s) ≡ i + 1 + size-at v i
+  length-to-next : length (pre ++ poly-records s) ≡ i + 1 + size-at v i
   length-to-next = omega (arith, length-append pre (poly-records s), length-poly-records s, size-at-poly-records)
 
 -- The records of the first of several polynomials, and of the others behind it.
@@ -133,7 +133,7 @@ equal-of-same [] (y ∷ t) h = cc
 equal-of-same (x ∷ s) [] h = cc
 equal-of-same (x ∷ s) (y ∷ t) h = let parts = and-eq-true-iff (eqb x y) (same s t) .0 h in ap₂ _∷_ (eqb-true x y (parts .0)) (equal-of-same s t (parts .1))
 
-pub same-refl : (s : List ℕ) → same s s ≡ true
+same-refl : (s : List ℕ) → same s s ≡ true
 unfolding same
 same-refl [] = refl
 same-refl (x ∷ s) = ap₂ _&&_ (eq-eqb x x refl) (same-refl s)

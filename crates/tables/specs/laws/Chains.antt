@@ -128,7 +128,7 @@ pub follow-astray : (w : List ℕ) (at i : ℕ) → (i ≡ 0 → ⊥) → ltb at
 follow-astray w at i h e = follow-tests w at i ∙ rw (ne-eqb i 0 h, e)
 
 -- An index leads to a higher record of the table.
-pub followed : (w : List ℕ) (at i j : ℕ) → follow w at i ≡ to j → (i ≡ j) × (at < j) × (j < records w)
+followed : (w : List ℕ) (at i j : ℕ) → follow w at i ≡ to j → (i ≡ j) × (at < j) × (j < records w)
 followed w at i j e = go (eqb i 0) (ltb at i) (ltb i (records w)) (ltb-true at i) (ltb-true i (records w)) (sym (follow-tests w at i) ∙ e)
   where
     go : (a b c : Bool) → (b ≡ true → at < i) → (c ≡ true → i < records w) → by-tests a (b && c) i ≡ to j → (i ≡ j) × (at < j) × (j < records w)
@@ -137,7 +137,7 @@ followed w at i j e = go (eqb i 0) (ltb at i) (ltb i (records w)) (ltb-true at i
     go false true false u v e = let z : _≡_ {A = ℕ} 0 1 = cc in absurd (omega arith)
     go false false c u v e = let z : _≡_ {A = ℕ} 0 1 = cc in absurd (omega arith)
 
-pub followed-end : (w : List ℕ) (at i : ℕ) → follow w at i ≡ end → i ≡ 0
+followed-end : (w : List ℕ) (at i : ℕ) → follow w at i ≡ end → i ≡ 0
 followed-end w at i e = go (eqb i 0) (ltb at i && ltb i (records w)) (eqb-true i 0) (sym (follow-tests w at i) ∙ e)
   where
     go : (a b : Bool) → (a ≡ true → i ≡ 0) → by-tests a b i ≡ end → i ≡ 0

@@ -73,7 +73,7 @@ module _ (p : ℕ) (x : List ℕ) where
       go true f = absurd (h (f refl))
       go false f = refl
 
-  pub first-or-none : (k : ℕ) (ss : List System) → First p x k (first-solved p x k ss) ss ⊎ ((first-solved p x k ss ≡ 0) × Each (λ s. ¬ Solved p x s) ss)
+  first-or-none : (k : ℕ) (ss : List System) → First p x k (first-solved p x k ss) ss ⊎ ((first-solved p x k ss ≡ 0) × Each (λ s. ¬ Solved p x s) ss)
   unfolding first-solved
   first-or-none k [] = inr (refl, tt)
   first-or-none k (s ∷ ss) = go (solves p x (s .T) (s .U)) refl (first-or-none (suc k) ss)

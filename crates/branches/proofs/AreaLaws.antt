@@ -56,10 +56,10 @@ module _ {v pre : List Rec} {own : Rec} {fs : List (List ℕ)} {free fin : List 
       ∙ ap (λ (u : List Rec). front xs ++ u)
       (ap (λ (u : List Rec). u ++ (free ++ fin)) (polys-records-append gs ys) ∙ append-assoc (polys-records gs) (polys-records ys) (free ++ fin))
 
-  pub skips : (xs gs ys : List (List ℕ)) → fs ≡ xs ++ (gs ++ ys) → skip-to v (place at xs) (length gs) ≡ place at xs + length (polys-records gs)
+  skips : (xs gs ys : List (List ℕ)) → fs ≡ xs ++ (gs ++ ys) → skip-to v (place at xs) (length gs) ≡ place at xs + length (polys-records gs)
   skips xs gs ys s = skip-to-polys-records v (front xs) (place at xs) gs (polys-records ys ++ (free ++ fin)) (length-front xs) (split₂ xs gs ys s)
 
-  pub finds : (xs gs ys : List (List ℕ)) → fs ≡ xs ++ (gs ++ ys) → Each Storable gs → polys-at v (place at xs) (length gs) ≡ gs
+  finds : (xs gs ys : List (List ℕ)) → fs ≡ xs ++ (gs ++ ys) → Each Storable gs → polys-at v (place at xs) (length gs) ≡ gs
   finds xs gs ys s h =
       polys-at-polys-records v (front xs) (place at xs) gs (polys-records ys ++ (free ++ fin)) (length-front xs) (split₂ xs gs ys s) h
 
@@ -71,7 +71,7 @@ module _ {v pre : List Rec} {own : Rec} {fs : List (List ℕ)} {free fin : List 
   pub size-of : (xs : List (List ℕ)) (f : List ℕ) (ys : List (List ℕ)) → fs ≡ xs ++ (f ∷ ys) → size-at v (place at xs) ≡ length f / 2
   size-of xs f ys s = size-at-poly-records v (front xs) (place at xs) (length-front xs) f (polys-records ys ++ (free ++ fin)) (split-one xs f ys s)
 
-  pub words-of : (xs : List (List ℕ)) (f : List ℕ) (ys : List (List ℕ)) → fs ≡ xs ++ (f ∷ ys) → length f % 2 ≡ 0 → words-at v (place at xs) ≡ f
+  words-of : (xs : List (List ℕ)) (f : List ℕ) (ys : List (List ℕ)) → fs ≡ xs ++ (f ∷ ys) → length f % 2 ≡ 0 → words-at v (place at xs) ≡ f
   words-of xs f ys s h = words-at-poly-records v (front xs) (place at xs) (length-front xs) f (polys-records ys ++ (free ++ fin)) (split-one xs f ys s) h
 
   -- ── f put in ──
@@ -265,7 +265,7 @@ module _ {v : List Rec} {most : ℕ} {b : Stored} {bs ss : List Stored} (H : Hel
         words = ap (words-at v) e ∙ words-of (lies H) xs f ys s (h .pairs);
       }
 
-  pub within : (xs ys : List (List ℕ)) → all b ≡ xs ++ ys → (place (at-of bs) xs ≤ end-of b bs) × (end-of b bs ≤ most)
+  within : (xs ys : List (List ℕ)) → all b ≡ xs ++ ys → (place (at-of bs) xs ≤ end-of b bs) × (end-of b bs ≤ most)
   within xs ys s = (omega (arith, ap (place (at-of bs)) s, place-add (at-of bs) xs ys), omega (arith, room-is H))
 
   pub place-inside : (xs ys : List (List ℕ)) → all b ≡ xs ++ ys → {n : ℕ} → n ≡ place (at-of bs) xs → n ≤ most
@@ -302,7 +302,7 @@ module _ {v : List Rec} {most : ℕ} {b : Stored} {bs ss : List Stored} (H : Hel
     from-P : a + 1 ≡ place (at-of bs) []
     from-P = omega (arith, at-is, place-nil (at-of bs))
 
-    pub in-P : (k : ℕ) → k ≤ length (b .P) → polys-at v (a + 1) k ≡ take k (b .P)
+    in-P : (k : ℕ) → k ≤ length (b .P) → polys-at v (a + 1) k ≡ take k (b .P)
     in-P k h =
         ap₂ (polys-at v) from-P (sym (length-take-le k (b .P) h))
         ∙ finds (lies H) [] (take k (b .P)) (drop k (b .P) ++ (b .Q ++ b .T)) (parted-P b k) (each-take Storable k (b .P) (H .storable .0 .0 .0))

@@ -54,11 +54,11 @@ first-pair (suc n) r x l h e =
 abbrev pub words-behind : List Rec → ℕ → List ℕ
 words-behind v i = pairs-of (take (size-at v i - 1) (drop (suc (i + 1)) v))
 
-pub no-words : (v : List Rec) (i : ℕ) → size-at v i ≡ 0 → words-at v i ≡ []
+no-words : (v : List Rec) (i : ℕ) → size-at v i ≡ 0 → words-at v i ≡ []
 unfolding words-at pairs-of
 no-words v i h = ap (λ (n : ℕ). pairs-of (take n (drop (i + 1) v))) h
 
-pub no-terms : (v : List Rec) (i : ℕ) → size-at v i ≡ 0 → terms (words-at v i) ≡ []
+no-terms : (v : List Rec) (i : ℕ) → size-at v i ≡ 0 → terms (words-at v i) ≡ []
 unfolding terms
 no-terms v i h = ap terms (no-words v i h)
 

@@ -108,7 +108,7 @@ module _ (p : ℕ) (s : List ℕ) (f : Poly) (sound : Sound p s) (is-monic : Mon
   put-nonzero true b h = h
   put-nonzero false b h = put-P-nonzero s (b .P) h
 
-  pub put-alone : {most : ℕ} {c : Branch} {v u : List Rec} {r : Bool} (q : Bool) → Alone p most c v → Puts v most q s r u → Filled p most (put-heads q p (f ∷ []) c) r u
+  put-alone : {most : ℕ} {c : Branch} {v u : List Rec} {r : Bool} (q : Bool) → Alone p most c v → Puts v most q s r u → Filled p most (put-heads q p (f ∷ []) c) r u
   put-alone {most} {c} {v} {u} {r} q x puts =
       let b = x .stored in
       let l = puts b [] [] (x .held) in

@@ -61,7 +61,7 @@ module _ (l : Limits) (p k : ℕ) (f : Poly) (b : Stored) (bs ss : List Stored) 
       (drop-cons (b .Q) (length (b .Q) - left) [] (omega (arith, u .0, u .1)))
 
   -- Rule 4: the remainder R is put as the words r.
-  pub puts-P : (place : ℕ) (r : List ℕ) (R : Poly) (most : ℕ) → l .of-room ≡ at-most (most - 1) → 1 ≤ most → All-listed ss → Branch-sound p b
+  puts-P : (place : ℕ) (r : List ℕ) (R : Poly) (most : ℕ) → l .of-room ≡ at-most (most - 1) → 1 ≤ most → All-listed ss → Branch-sound p b
       → Sound p r → terms r ≡ monic p R → onward false place 1 R ≡ goes-on-with most false place 0 (renewed false place 1 r)
   unfolding rest-of-step
   puts-P place r R most bound some h s u e =
@@ -103,7 +103,7 @@ module _ (l : Limits) (p k : ℕ) (f : Poly) (b : Stored) (bs ss : List Stored) 
         ∙ ap₂ (λ (fs gs : List (List ℕ)). replace-in fs (with-new b gs)) (drop-at put old n to) (take-at put old n to)
         ∙ ap (replace-in old) (with-new-turned l p b bs ss new (getD (b .Q) j []) old parts r R u e sound-new)
 
-    pub puts-Q : (most : ℕ) → l .of-room ≡ at-most (most - 1) → 1 ≤ most → All-listed ss
+    puts-Q : (most : ℕ) → l .of-room ≡ at-most (most - 1) → 1 ≤ most → All-listed ss
         → onward true place left R ≡ goes-on-with most true place (left - 1) (renewed true place left r)
     puts-Q most bound some h =
         let needed = polynomials-size (map terms old) + live (after (with-remainder left R)) in

@@ -67,7 +67,7 @@ module _ (p k : ℕ) (t i : List ℕ) (c : Canonical p (terms t)) (led : leader 
   pub initial-inside : length i ≤ length t
   initial-inside = omega (arith, words-of-terms i v, ap length e, length-initial k (terms t), words-of-terms t u)
 
-  pub rest-behind : terms (drop (length i) t) ≡ rest k (terms t)
+  rest-behind : terms (drop (length i) t) ≡ rest k (terms t)
   unfolding rest
   rest-behind =
       let h : length i / 2 ≡ length (coefficient k (degree k (terms t)) (terms t)) = omega (arith, long) in

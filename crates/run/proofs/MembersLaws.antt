@@ -43,7 +43,7 @@ long-before r left fs q =
     omega (arith, q, length-append (put-Q r (take k fs)) (drop k fs), length-drop k fs)
 
 module _ (p place left : ℕ) (b : Stored) (bs ss : List Stored) where
-  pub ready-put : (closing : Bool) → Ready p (with-open b bs ss) → (r : List ℕ) → Sound p r → Monic (terms r)
+  ready-put : (closing : Bool) → Ready p (with-open b bs ss) → (r : List ℕ) → Sound p r → Monic (terms r)
       → Ready p (with-open (put-in closing (left - 1) r (taken-out closing place left b)) bs ss)
   ready-put false R r s m =
       let S = put-into-P-sound p (without-P place b) (without-P-sound p b (R .sound .branches .0) place) r s in
@@ -64,20 +64,20 @@ module _ (p place left : ℕ) (b : Stored) (bs ss : List Stored) where
       }
 
   module _ (some : 1 ≤ left) where
-    pub has-left : (closing : Bool) → Has-members closing place left b → Has-left closing place left b
+    has-left : (closing : Bool) → Has-members closing place left b → Has-left closing place left b
     has-left false h = h .1 some
     has-left true h = (some, h)
 
-    pub has-behind : (closing : Bool) → Has-members closing place left b → Has-behind closing (left - 1) (taken-out closing place left b)
+    has-behind : (closing : Bool) → Has-members closing place left b → Has-behind closing (left - 1) (taken-out closing place left b)
     has-behind false h = tt
     has-behind true h = omega (arith, some, h, length-remove (length (b .Q) - left) (b .Q) (omega (arith, some, h)))
 
-    pub has-put : (closing : Bool) (r : List ℕ) → Has-members closing place left b
+    has-put : (closing : Bool) (r : List ℕ) → Has-members closing place left b
         → Has-members closing place (left - 1) (put-in closing (left - 1) r (taken-out closing place left b))
     has-put false r h = (omega (arith, h .0), λ q. absurd (omega (arith, q, h .0)))
     has-put true r h = long-before r (left - 1) (remove (length (b .Q) - left) (b .Q)) (has-behind true h)
 
-  pub member-sound : (closing : Bool) → Ready p (with-open b bs ss) → Sound p (next-member closing place left b)
+  member-sound : (closing : Bool) → Ready p (with-open b bs ss) → Sound p (next-member closing place left b)
   member-sound false R = sound-at p place (b .P) (R .sound .branches .0 .in-P)
   member-sound true R = sound-at p (length (b .Q) - left) (b .Q) (R .sound .branches .0 .in-Q)
 

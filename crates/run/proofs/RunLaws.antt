@@ -189,7 +189,7 @@ module _ {p limit from : ℕ} {w₀ w : List ℕ} {steps : ℕ} (A : AtRun p lim
   -- ── a branch is left ──
   module _ (some : All-open w) where
     -- Whatever state the run began with, it comes to one with an open branch.
-    pub run-open : (a₀ : Area) → Held-in w₀ a₀ → Ready p a₀
+    run-open : (a₀ : Area) → Held-in w₀ a₀ → Ready p a₀
         → (b : Stored) × (bs : List Stored) × (ss : List Stored) × Held (view w) (capacity w₀) (with-open b bs ss) × Ready p (with-open b bs ss)
         × (run-in (capacity w₀) p (limit - steps) steps (with-open b bs ss) ≡ run-in (capacity w₀) p (limit - from) from a₀)
     run-open a₀ H₀ R₀ =

@@ -93,7 +93,7 @@ module _ (p k i : ℕ) (b : Stored) (ini : List ℕ) (s : Sound p ini) (h : All-
   rule-found o q = ap rule-by (sym tested ∙ q)
 
 -- ── rules 4 and 5 ──
-pub ready-closed : (p i : ℕ) (b : Stored) (bs ss : List Stored) → Ready p (with-open b bs ss) → Ready p (with-open (closed i b) bs ss)
+ready-closed : (p i : ℕ) (b : Stored) (bs ss : List Stored) → Ready p (with-open b bs ss) → Ready p (with-open (closed i b) bs ss)
 ready-closed p i b bs ss R = record {
   sound = record { branches = (closed-sound p b (R .sound .branches .0) i, R .sound .branches .1); systems = R .sound .systems };
   monic = (remove-monic i (b .P) (R .monic .0), R .monic .1);

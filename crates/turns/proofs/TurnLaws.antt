@@ -15,7 +15,7 @@ use Rattle.branches.proofs.AreaLaws.{at-of, own-of, end-of, end-is}
 use Rattle.branches.proofs.ControlLaws.{Read, start-is, ends, free-is, bounds-inside}
 
 -- A system takes a record or more.
-pub length-le-systems-records : (ss : List Stored) → length ss ≤ length (systems-records ss)
+length-le-systems-records : (ss : List Stored) → length ss ≤ length (systems-records ss)
 unfolding systems-records
 length-le-systems-records [] = omega arith
 length-le-systems-records (s ∷ ss) = omega (arith, length-append (branch-records 0 s) (systems-records ss), length-le-systems-records ss)

@@ -59,7 +59,7 @@ module _ (G : List ℕ → Type 0) where
   unfolding put-P
   each-put-P f fs = each-unless (is-zero f || member f fs) f fs
 
-  pub each-put-Q : (f : List ℕ) (fs : List (List ℕ)) → G f → Each G fs → Each G (put-Q f fs)
+  each-put-Q : (f : List ℕ) (fs : List (List ℕ)) → G f → Each G fs → Each G (put-Q f fs)
   unfolding put-Q
   each-put-Q f fs = each-unless (is-one f || member f fs) f fs
 
@@ -83,7 +83,7 @@ put-P-nonzero (x ∷ f) fs h = each-put-P (λ g. g ≢ []) (x ∷ f) fs (λ e. l
 
 -- ── soundness is kept ──
 module _ (p : ℕ) where
-  pub zero-sound : Sound p []
+  zero-sound : Sound p []
   unfolding terms
   zero-sound = record { holds = record { pairs = refl; few = omega arith; canonical = tt }; small = λ i. omega arith }
 

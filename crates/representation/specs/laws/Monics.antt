@@ -33,7 +33,7 @@ scaled-one p [] c = refl
 scaled-one p (t ∷ f) c =
     let same : 1 * t .coef % p ≡ t .coef = one-times p (t .coef) (c .1) in ap₂ _∷_ (λ i. record { coef = same i; exps = t .exps }) (scaled-one p f (c .3))
 
-pub monic-own : (p : ℕ) (f : Poly) → Canonical p f → Monic f → monic p f ≡ f
+monic-own : (p : ℕ) (f : Poly) → Canonical p f → Monic f → monic p f ≡ f
 unfolding monic
 monic-own p [] c m = refl
 monic-own p (t ∷ f) c m =
@@ -41,7 +41,7 @@ monic-own p (t ∷ f) c m =
     ∙ multiple-scaled p 1 (t ∷ f) (λ (a : ℕ) (h : 1 ≤ a) (k : a < p) (z : 1 * a % p ≡ 0). omega (arith, one-times p a k)) c
     ∙ scaled-one p (t ∷ f) c
 
-pub monic-monic : (p : ℕ) (f : Poly) → Prime p → Canonical p f → Monic (monic p f)
+monic-monic : (p : ℕ) (f : Poly) → Prime p → Canonical p f → Monic (monic p f)
 unfolding scaled monic
 monic-monic p [] prime c = tt
 monic-monic p (t ∷ f) prime c =
@@ -57,7 +57,7 @@ module _ (p k n : ℕ) (f : Poly) (c : Canonical p f) (u : Places n f) (led : le
       go [] c u led m = tt
       go (t ∷ f) c u led m = subst Monic (sym (initial-first p k n t f c u led)) m
 
-  pub initial-own : monic p (initial k f) ≡ initial k f
+  initial-own : monic p (initial k f) ≡ initial k f
   initial-own = monic-own p (initial k f) (canonical-initial p k f c) initial-monic
 
 -- ── stored polynomials ──

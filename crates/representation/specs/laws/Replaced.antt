@@ -29,7 +29,7 @@ polynomials-size-append [] gs = omega arith
 polynomials-size-append (f ∷ fs) gs = omega (arith, polynomials-size-append fs gs)
 
 -- Before the first turn there are no new members.
-pub with-new-closed : (l : Limits) (p : ℕ) (b : Stored) (i : ℕ) → with-new (closed i b) [] ≡ step.closed l p (chosen b i) (branch-of b)
+with-new-closed : (l : Limits) (p : ℕ) (b : Stored) (i : ℕ) → with-new (closed i b) [] ≡ step.closed l p (chosen b i) (branch-of b)
 with-new-closed l p b i = λ t. record { P = map-remove i (b .P) t; Q = []; T = terms (getD (b .P) i []) ∷ map terms (b .T) }
 
 pub apply-close : (l : Limits) (p : ℕ) (b : Stored) (bs ss : List Stored) (k i : ℕ) →

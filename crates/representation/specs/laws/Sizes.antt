@@ -19,7 +19,7 @@ use Rattle.branches.specs.Area.{Stored, Area, branch-records, stack, systems-re
 use Rattle.representation.specs.Represent.{All-listed, branch-of, system-of, state-of}
 
 -- A polynomial takes a record, and each of its terms one.
-pub length-poly-records-terms : (s : List ℕ) → length (poly-records s) ≡ 1 + length (terms s)
+length-poly-records-terms : (s : List ℕ) → length (poly-records s) ≡ 1 + length (terms s)
 length-poly-records-terms s = omega (arith, length-poly-records s, length-terms s)
 
 -- The polynomial at record i has as many terms as its head says.
@@ -32,7 +32,7 @@ length-polys-records-terms [] = refl
 length-polys-records-terms (f ∷ fs) =
     omega (arith, length-append (poly-records f) (polys-records fs), length-poly-records-terms f, length-polys-records-terms fs)
 
-pub length-branch-records : (under : ℕ) (b : Stored) → length (branch-records under b) ≡ branch-size (branch-of b)
+length-branch-records : (under : ℕ) (b : Stored) → length (branch-records under b) ≡ branch-size (branch-of b)
 unfolding branch-size
 length-branch-records under b =
     omega (

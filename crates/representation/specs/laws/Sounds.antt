@@ -35,7 +35,7 @@ module _ (p : ℕ) where
     pub closed-sound : (i : ℕ) → Branch-sound p (closed i b)
     closed-sound i = record { in-P = each-remove (Sound p) i (b .P) (h .in-P); in-Q = h .in-Q; in-T = (sound-at p i (b .P) (h .in-P), h .in-T) }
 
-    pub aside-sound : (i : ℕ) (ini rst : List ℕ) → Sound p ini → Sound p rst → Branch-sound p (aside i ini rst b)
+    aside-sound : (i : ℕ) (ini rst : List ℕ) → Sound p ini → Sound p rst → Branch-sound p (aside i ini rst b)
     aside-sound i ini rst k m = record {
       in-P = each-put-P (Sound p) rst (put-P ini (remove i (b .P))) m (each-put-P (Sound p) ini (remove i (b .P)) k (each-remove (Sound p) i (b .P) (h .in-P)));
       in-Q = h .in-Q;

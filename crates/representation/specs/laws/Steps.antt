@@ -71,7 +71,7 @@ module _ (l : Limits) (p : ℕ) (b : Stored) (bs ss : List Stored) where
   module _ (sound : Branch-sound p b) (k i : ℕ) (ini rst : List ℕ) (sound-ini : Sound p ini) (sound-rst : Sound p rst)
       (of-ini : terms ini ≡ initial k (chosen b i .poly)) (own : monic p (initial k (chosen b i .poly)) ≡ initial k (chosen b i .poly))
       (of-rst : terms rst ≡ monic p (rest k (chosen b i .poly))) where
-    pub split-state : state-of (split-area i ini rst b bs ss) ≡ record {
+    split-state : state-of (split-area i ini rst b bs ss) ≡ record {
       branches = split-open l p k (chosen b i) (branch-of b) ∷ (split-aside l p k (chosen b i) (branch-of b) ∷ map branch-of bs);
       systems = reverse (map system-of ss);
     }

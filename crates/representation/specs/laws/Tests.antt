@@ -33,7 +33,7 @@ module _ (p : ℕ) (s t : List ℕ) (hs : Sound p s) (ht : Sound p t) where
   words-of-terms-eq = terms-inj s t (hs .small) (ht .small) (hs .holds .pairs) (ht .holds .pairs)
 
   -- `member` of words compares the other way round.
-  pub same-terms : same s t ≡ equal (terms t) (terms s)
+  same-terms : same s t ≡ equal (terms t) (terms s)
   same-terms = decides (same s t) (terms t) (terms s) (λ e. sym (ap terms (equal-of-same s t e))) (λ q. same-of-equal s t (words-of-terms-eq (sym q)))
 
 pub member-terms : (p : ℕ) (f : List ℕ) (fs : List (List ℕ)) → Sound p f → All-sound p fs → member f fs ≡ rules.member (terms f) (map terms fs)

@@ -66,9 +66,6 @@ f r = start r .args .f .now
 abbrev left : Reading → ℕ
 left r = start r .args .left
 
-abbrev at : Reading → ℕ
-at r = at-read r .get0 .result
-
 abbrev p : Reading → ℕ
 p r = p-read r .get02 .result
 

@@ -40,12 +40,6 @@ pub struct Heading {
     pub nonzero: u32,
 }
 
-fn size(x: u32) -> usize
-    ensures { λ r. ⌜ r ≡ x ⌝ }
-{
-    x as usize
-}
-
 // Reads the next job up to its points, its table to the start of the slice.
 pub fn read(bytes: &mut [u8], from: Input, table: &mut [u32]) -> Job
     ensures { λ r. ⌜ Shaped r (now (table .exit)) ⌝ }
@@ -64,10 +58,10 @@ pub fn read(bytes: &mut [u8], from: Input, table: &mut [u32]) -> Job
         Shape {
             limit: head[0],
             table: n,
-            work: size(head[1]),
-            output: size(head[2]),
+            work: input::size(head[1]),
+            output: input::size(head[2]),
             filling: head[3],
-            list: size(head[4]),
+            list: input::size(head[4]),
             points: points,
         },
         rest,

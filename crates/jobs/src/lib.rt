@@ -62,7 +62,7 @@ pub fn read(bytes: &mut [u8], from: Input, table: &mut [u32]) -> Job
             output: input::size(head[2]),
             filling: head[3],
             list: input::size(head[4]),
-            points: points,
+            points,
         },
         rest,
     )

@@ -3,43 +3,24 @@ use mathlib.Core.Path.{_≡_, refl, sym, _∙_, ap, subst}
 use mathlib.Core.Logic.{_≢_, ⊎-elim}
 use mathlib.Core.List.{List, [], _∷_}
 use mathlib.Core.Bool.{Bool, true, false}
-use Prim.Native.Nat.{ℕ, _+_, _-_, _*_, _≤_, _<_}
+use Prim.Native.Nat.{ℕ, _≤_, _<_}
 use native.Mathlib.Nat.{mul-le-mul-right}
 use native.Mathlib.Omega.{arith}
-use lib.Dec.{ltb}
-use lib.ListN.{length, take, drop, getD}
-use lib.Seq.{length-take-le, paste, length-paste, take-paste, take-all}
-use borrow.Author.Tests.{ltb-false}
+use lib.ListN.{length, getD}
 use Rattle.polynomials.specs.Poly.{Poly, product}
-use Rattle.polynomials.specs.Bounds.{Bounded, within, degree-passed, terms-passed, standard, at-most, over, tested, degrees-over, bounded-product}
+use Rattle.polynomials.specs.Bounds.{Bounded, within, degree-passed, standard, at-most, tested, degrees-over, bounded-product}
 use Rattle.polynomials.specs.Packed.{terms}
 use Rattle.polynomials.specs.Working.{Holds, Written, Forms}
 use Rattle.polynomials.specs.declared.Formed.{Formed}
-use Rattle.polynomials.specs.declared.Formed.the-variants.{Words, OverDegree, OverTerms}
+use Rattle.polynomials.specs.declared.Formed.the-variants.{Words, OverDegree}
 use Rattle.gathering.specs.Gathers.{room-for, Gathers}
 use Rattle.gathering.specs.declared.Gathered.{Gathered}
 use Rattle.gathering.specs.declared.Gathered.the-variants as ended
 use Rattle.products.specs.Lent.{lent-for-product}
-pub use Rattle.sums.proofs.MergeLaws.{within-terms-formed}
-use Rattle.gathering.proofs.GatherLaws.{Factors, Place, Adds, row, asks-row, rows-none, rows-with, few-with, product-of-words-small}
+use Rattle.sums.proofs.MergeLaws.{within-terms-formed}
+use Rattle.gathering.proofs.GatherLaws.{Factors, Place, Adds, row, asks-row, rows-none, rows-with, few-with}
 use Rattle.polynomials.specs.laws.Terms.{words-of-terms}
 use Rattle.polynomials.specs.laws.Product.{product-comm}
-
--- ── how a gathering ended ──
-pub words-ended : (f : Poly) (need : ℕ) (r : Gathered) (n : ℕ) (a b : List ℕ) → Gathers f need r a b → r ≡ ended.Words n → Forms (tested standard f) (Words n) a
-words-ended f need r n a b w e = subst (λ r. Gathers f need r a b) e w
-
--- After a refusal the words are left free.
-pub over-terms-ended : (f : Poly) (need : ℕ) (r : Gathered) (a b x : List ℕ) → Gathers f need r a b → r ≡ ended.OverTerms → Forms (tested standard f) OverTerms x
-unfolding tested
-over-terms-ended f need r a b x w e = go (over (at-most 256) (length f)) (subst (λ r. Gathers f need r a b) e w)
-  where
-    go : (b : Bool) → Forms (elim b [ true ↦ terms-passed | false ↦ within f ]) OverTerms a → Forms (elim b [ true ↦ terms-passed | false ↦ within f ]) OverTerms x
-    go true w = refl
-    go false w = absurd (let z : _≡_ {A = ℕ} 0 1 = cc in omega arith)
-
-pub never-short : (f : Poly) (need : ℕ) (r : Gathered) (a b : List ℕ) → Gathers f need r a b → r ≡ ended.Short → need ≤ length a → need ≤ length b → ⊥
-never-short f need r a b w e ha hb = ⊎-elim (λ (h : length a < need). omega arith) (λ (h : length b < need). omega arith) (subst (λ r. Gathers f need r a b) e w)
 
 -- ── the words lent for factors of a and b words ──
 module _ (a b : ℕ) where
@@ -54,41 +35,6 @@ module _ (a b : ℕ) where
       → (lent-for-product a b ≤ length x) × (lent-for-product a b ≤ length z) → 512 ≤ length x
   short-lent f r x z w e l = ⊎-elim (λ (h : length x < room-for a b). omega (arith, l)) (λ (h : length z < room-for a b). omega (arith, l)) (subst (λ r. Gathers f (room-for a b) r x z) e w)
 
--- ── what a buffer was formed in, and its copy ──
-pub words-formed : (f : Poly) (n : ℕ) (a : List ℕ) → Forms (tested standard f) (Words n) a → Written f n a × (n ≤ 512)
-unfolding tested over
-words-formed f n a w = go (ltb 256 (length f)) (ltb-false 256 (length f)) w
-  where
-    go : (b : Bool) → (b ≡ false → length f ≤ 256) → Forms (elim b [ true ↦ terms-passed | false ↦ within f ]) (Words n) a → Written f n a × (n ≤ 512)
-    go true h w = absurd (let z : _≡_ {A = ℕ} 0 1 = cc in omega arith)
-    go false h w = let q : 2 * length f ≡ n = cc in (subst (λ k. Written f k a) q (w .1), omega (arith, h refl))
-
--- The words copied to x.
-module _ (f : Poly) (n : ℕ) (a x : List ℕ) (w : Written f n a × (n ≤ 512)) (room : 512 ≤ length x) where
-  taken : length (take n a) ≡ n
-  taken = length-take-le n a (w .0 .within)
-
-  pub copy-asks : (0 ≤ length (take n a)) × (0 + (length (take n a) - 0) ≤ length x)
-  copy-asks = omega (arith, taken, w .1)
-
-  pub copied : (y : List ℕ) → y ≡ paste x 0 (drop 0 (take n a)) (length (take n a) - 0) → Written f n y
-  copied y e = record {
-    within = omega (arith, w .1, ap length (e ∙ same), length-paste x 0 (take n a) n (omega (arith, w .1)) (omega (arith, taken)));
-    pairs = w .0 .pairs;
-    holds =
-        ap (λ (k : ℕ). terms (take k y)) up ∙ ap (λ s. terms (take (0 + n) s)) (e ∙ same)
-        ∙ ap terms (take-paste x 0 (take n a) n (omega arith) (omega (arith, taken)) ∙ take-all n (take n a) (omega (arith, taken))) ∙ w .0 .holds;
-  }
-    where
-      up : n ≡ 0 + n
-      up = omega arith
-
-      count : length (take n a) - 0 ≡ n
-      count = omega (arith, taken)
-
-      same : paste x 0 (drop 0 (take n a)) (length (take n a) - 0) ≡ paste x 0 (take n a) n
-      same = ap (λ (k : ℕ). paste x 0 (take n a) k) count
-
 -- ── a single row is the product ──
 module _ (p : ℕ) (f g : List ℕ) {D : Type 0} (asked : Factors p f g D) (single : length f ≡ 2) where
   only-place : Place f 0 1 (length f)
@@ -101,11 +47,6 @@ module _ (p : ℕ) (f g : List ℕ) {D : Type 0} (asked : Factors p f g D) (sing
   single-formed x n w =
       within-terms-formed (product p (terms f) (terms g)) n x (rows-with p f g asked only-place (rows-none p f g asked) w .written)
       (omega (arith, asked .1 .1 .0 .0 .few, few-with p f g asked only-place (rows-none p f g asked) w))
-
--- ── the buffers, and the factors ──
-
-pub buffers-suffice : (f g : ℕ) → f ≤ 512 → g ≤ 512 → room-for f g ≤ 66816
-buffers-suffice f g h k = omega (arith, product-of-words-small f g h k)
 
 -- The factors may change places.
 pub exchanged : (p : ℕ) → 1 ≤ p → (f g : Poly) (r : Formed) (x : List ℕ) → Forms (tested standard (product p g f)) r x → Forms (tested standard (product p f g)) r x

@@ -52,48 +52,6 @@ fn rows(p: u64, f: &[u64], g: &[u64], x: &mut [u64], z: &mut [u64]) -> Formed
     match ended {
         Gathered::Words(n) => Formed::Words(n),
         Gathered::OverTerms => Formed::OverTerms,
-        Gathered::Short => gather_apart(p, f, g, x),
-    }
-}
-
-// `gathering::gather` in buffers of its own.
-fn gather_apart(p: u64, f: &[u64], g: &[u64], x: &mut [u64]) -> Formed
-    requires { ⌜ (1 ≤ p) × (p < 2147483648) ⌝ }
-    requires { ⌜ Holds p (now f) × (0 < length (now f)) ⌝ }
-    requires { ⌜ Holds p (now g) × (degrees-over (at-most 255) (terms (now f)) (terms (now g)) ≡ false) ⌝ }
-    requires { ⌜ 512 ≤ length (now x) ⌝ }
-    ensures { λ r. ⌜ Forms (tested standard (product p (terms (now (f .entry))) (terms (now (g .entry))))) r (now (x .exit)) ⌝ }
-{
-    let mut a = [0u64; 8192];
-    let mut b = [0u64; 8192];
-    let ended = gathering::gather(p, f, g, &mut a, &mut b);
-    match ended {
-        Gathered::Words(n) => {
-            polynomials::copy(&a[..n], 0, x, 0);
-            Formed::Words(n)
-        }
-        Gathered::OverTerms => Formed::OverTerms,
-        Gathered::Short => gather_large(p, f, g, x),
-    }
-}
-
-// `gathering::gather` in buffers that hold whatever is gathered: it is never `Short` here.
-fn gather_large(p: u64, f: &[u64], g: &[u64], x: &mut [u64]) -> Formed
-    requires { ⌜ (1 ≤ p) × (p < 2147483648) ⌝ }
-    requires { ⌜ Holds p (now f) × (0 < length (now f)) ⌝ }
-    requires { ⌜ Holds p (now g) × (degrees-over (at-most 255) (terms (now f)) (terms (now g)) ≡ false) ⌝ }
-    requires { ⌜ 512 ≤ length (now x) ⌝ }
-    ensures { λ r. ⌜ Forms (tested standard (product p (terms (now (f .entry))) (terms (now (g .entry))))) r (now (x .exit)) ⌝ }
-{
-    let mut a = [0u64; 66816];
-    let mut b = [0u64; 66816];
-    let ended = gathering::gather(p, f, g, &mut a, &mut b);
-    match ended {
-        Gathered::Words(n) => {
-            polynomials::copy(&a[..n], 0, x, 0);
-            Formed::Words(n)
-        }
-        Gathered::OverTerms => Formed::OverTerms,
-        Gathered::Short => Formed::OverTerms,
+        Gathered::Short => gathered::gather_apart(p, f, g, x),
     }
 }

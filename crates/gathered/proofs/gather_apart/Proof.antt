@@ -1,12 +1,12 @@
--- `products::gather_large` meets its contract: what `gather` forms in a local buffer is copied. 66,816 words suffice for any two factors.
-use mathlib.Core.Path.{_≡_, sym, _∙_, subst}
-use Prim.Native.Nat.{ℕ, _≤_}
-use lib.ListN.{length, replicate, length-replicate}
+-- `products::gather_apart` meets its contract: what `gather` forms in a local buffer is copied.
+use mathlib.Core.Path.{sym}
 use native.Mathlib.Omega.{arith}
+use borrow.Author.Needs.{needs}
 use lib.Seq.{length-take-le}
-use Rattle.products.proofs.ProductLaws.{buffers-suffice, never-short, within-terms-formed, words-ended, over-terms-ended, words-formed, copy-asks, copied}
-use Rattle.products.proofs.gather_large.Statement.{statement}
-use Rattle.products.proofs.gather_large.Tie as tie
+use Rattle.sums.proofs.MergeLaws.{within-terms-formed}
+use Rattle.gathered.proofs.EndedLaws.{words-ended, over-terms-ended, words-formed, copy-asks, copied}
+use Rattle.gathered.proofs.gather_apart.Statement.{statement}
+use Rattle.gathered.proofs.gather_apart.Tie as tie
 
 -- ── the places ──
 abbrev entry : tie.After-gather → tie.Start
@@ -15,16 +15,12 @@ entry c = c .before .before .before .before .before .before
 abbrev gathered : tie.After-ended → tie.After-gather
 gathered c = c .before .before .before .before
 
--- A buffer keeps its length. That of so many words is had by the law, not by counting them out.
-room : {a n need : ℕ} → a ≡ length (replicate {A = ℕ} n 0) → need ≤ n → need ≤ a
-room {a} {n} {need} e h = subst (λ k. need ≤ k) (sym (e ∙ length-replicate {A = ℕ} n 0)) h
-
 -- ── the needs ──
 slice-aggregate-gather : tie.Need-slice-aggregate-gather
-slice-aggregate-gather c = sym (length-replicate {A = ℕ} _ 0)
+slice-aggregate-gather c = search needs
 
 slice-aggregate-gather-2 : tie.Need-slice-aggregate-gather-2
-slice-aggregate-gather-2 c = sym (length-replicate {A = ℕ} _ 0)
+slice-aggregate-gather-2 c = search needs
 
 gather-requires : tie.Need-gather-requires
 gather-requires c κs =
@@ -59,6 +55,9 @@ enum-told c = c .match .keys2
 enum-told-2 : tie.Need-enum-told-2
 enum-told-2 c = c .match .keys3
 
+gather-large-requires : tie.Need-gather-large-requires
+gather-large-requires c κs = search needs
+
 same-length : tie.Need-same-length
 same-length c = c .before .before .copy .kept .1 .1 .0
 
@@ -71,15 +70,14 @@ returns c =
 returns-2 : tie.Need-returns-2
 returns-2 c = over-terms-ended _ _ _ _ _ _ (c .before .before .before .before .gather .ensures) (c .enum-told .given .1)
 
-returns-3 : tie.Need-returns-3
-returns-3 c =
-    let s = c .before .before .before .before .before .before .before .before .before .before in
-    let enough = buffers-suffice _ _ (s .pre .1 .0 .0 .few) (s .pre .1 .1 .0 .0 .few) in
-    let g = c .before .before .before .before .gather in
-    absurd (never-short _ _ _ _ _ (g .ensures) (c .enum-told2 .given .1) (room (g .kept .1 .1 .1 .0) enough) (room (g .kept .1 .1 .1 .1 .0) enough))
+same-length-2 : tie.Need-same-length-2
+same-length-2 c = search needs
 
-pub gather-large-spec : {M : Type 1} → statement M
-gather-large-spec =
+returns-3 : tie.Need-returns-3
+returns-3 c = search needs
+
+pub gather-apart-spec : {M : Type 1} → statement M
+gather-apart-spec =
     tie.close
     (tie.spec
     slice-aggregate-gather
@@ -91,7 +89,9 @@ gather-large-spec =
     copy-requires
     enum-told
     enum-told-2
+    gather-large-requires
     same-length
     returns
     returns-2
+    same-length-2
     returns-3)

@@ -1,4 +1,4 @@
-// Loops over the work area: records moved up or down, and every word cleared.
+// Loops over the work area: records moved up or down, or appended, and every word cleared.
 ghost use mathlib.Core.Path.{_≡_};
 ghost use Prim.Native.Nat.{_+_, _≤_};
 ghost use lib.ListN.{length, replicate};

@@ -1,5 +1,4 @@
 // A polynomial put in among those of the open branch, or taken out, at a record that is known.
-ghost use mathlib.Core.Path.{_≡_};
 ghost use mathlib.Core.List.{List};
 ghost use Prim.Native.Nat.{_<_};
 ghost use lib.ListN.{getD};

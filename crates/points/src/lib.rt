@@ -1,6 +1,5 @@
 // A point against a table.
 ghost use mathlib.Core.Path.{_≡_};
-ghost use Prim.Native.Nat.{_<_};
 ghost use Rattle.tables.specs.Solve.{is-point, Tries};
 use tables::ReadOutcome;
 use tables::Reason;

@@ -2,9 +2,8 @@
 //
 // A working polynomial is a slice of pairs of 64-bit words, a term's coefficient and then its monomial, in falling order.
 // A monomial's bytes are its exponents, v1's lowest: the order of monomials is the order of numbers, and their product a sum.
-
 ghost use mathlib.Core.Path.{_≡_};
-ghost use Prim.Native.Nat.{_+_, _-_, _≤_, _<_};
+ghost use Prim.Native.Nat.{_+_, _-_, _≤_};
 ghost use lib.ListN.{length, drop};
 ghost use lib.Seq.{paste};
 

@@ -1,4 +1,4 @@
-// Polynomials stored in the work area, put in among the records there, and taken out.
+// Polynomials stored in the work area, appended, put in among the records there, and taken out.
 ghost use mathlib.Core.Path.{_≡_};
 ghost use Prim.Native.Nat.{_+_, _-_, _/_, _≤_};
 ghost use lib.ListN.{length};

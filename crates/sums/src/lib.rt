@@ -1,5 +1,5 @@
 // Sums of polynomials by one merge, f plus a term times g; and the difference.
-ghost use Prim.Native.Nat.{_+_, _-_, _≤_, _<_};
+ghost use Prim.Native.Nat.{_+_, _≤_, _<_};
 ghost use lib.ListN.{length};
 ghost use Rattle.polynomials.specs.Poly.{add-multiple};
 ghost use Rattle.polynomials.specs.Bounds.{standard, bounded-difference};

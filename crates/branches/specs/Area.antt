@@ -65,7 +65,7 @@ pub record Held (v : List Rec) (most : ℕ) (a : Area) : Type 0 where
 pub record Leaves (most : ℕ) (a₀ a : Area) (r : Bool) (v : List Rec) : Type 0 where
   pub answer : r ≡ leb (size a) most
   pub held : r ≡ true → Held v most a
-  pub kept : r ≡ false → Held v most a₀
+  pub otherwise : r ≡ false → Held v most a₀
 
 abbrev pub empty : Stored
 empty = record { P = []; Q = []; T = [] }
@@ -110,13 +110,13 @@ split-area i initial rest b bs ss = record { branches = put-into-Q 0 initial b �
 
 -- The state a if so many records hold it, and otherwise a₀.
 abbrev pub fitting : ℕ → Area → Area → Area
-fitting most a a₀ = elim (leb (size a) most) [ true ↦ a | false ↦ a₀ ]
+fitting most a₀ a = elim (leb (size a) most) [ true ↦ a | false ↦ a₀ ]
 
 -- The state in which a split that finds no room stops: the pivot is taken out of P; then, as far as there is room, the initial is put in and then the rest.
 abbrev pub unfinished-split : ℕ → ℕ → List ℕ → List ℕ → Stored → List Stored → List Stored → Area
 unfinished-split most i initial rest b bs ss =
-    fitting most (with-open (aside i initial rest b) bs ss)
-    (fitting most (with-open (put-into-P initial (without-P i b)) bs ss) (with-open (without-P i b) bs ss))
+    fitting most (fitting most (with-open (without-P i b) bs ss) (with-open (put-into-P initial (without-P i b)) bs ss))
+    (with-open (aside i initial rest b) bs ss)
 
 -- ── what a lent work area holds, before and after a call ──
 -- The words hold the state a.

@@ -8,9 +8,9 @@
 ghost use Prim.Native.Nat.{_≤_};
 ghost use lib.ListN.{length};
 ghost use Rattle.lines.specs.Text.{Ends};
+use elimination_job::Job;
+use elimination_job::Shape;
 use input::Input;
-use jobs::Job;
-use jobs::Shape;
 use lines::Turn;
 use lines::text;
 
@@ -28,10 +28,10 @@ fn answer(
     requires { ⌜ (length (now work) ≤ 262400) × (end ≤ length (now text)) × (128 ≤ length (now text)) ⌝ }
     ensures { λ r. ⌜ Ends r (now (text .exit)) ⌝ }
 {
-    let heading = jobs::run(table, work, output, shape.limit, shape.filling);
-    let first = jobs::print(text, end, heading);
+    let heading = elimination_job::run(table, work, output, shape.limit, shape.filling);
+    let first = elimination_job::print(text, end, heading);
     let second = text::print_line(text, first, output);
-    let m = jobs::shorter(shape.list, output.len());
+    let m = elimination_job::shorter(shape.list, output.len());
     tries::run_all(bytes, from, table, &output[..m], shape.points, text, second)
 }
 
@@ -48,7 +48,7 @@ fn run_job(
     requires { ⌜ (length (now work) ≤ 262400) × (end ≤ length (now text)) × (128 ≤ length (now text)) ⌝ }
     ensures { λ r. ⌜ Ends r (now (text .exit)) ⌝ }
 {
-    let Job::Next(shape, rest) = jobs::read(bytes, from, table) else {
+    let Job::Next(shape, rest) = elimination_job::read(bytes, from, table) else {
         return Turn::End(end);
     };
     let n = shape.table;

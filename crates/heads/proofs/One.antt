@@ -13,7 +13,7 @@ use Rattle.polynomials.specs.Poly.{Poly, Term}
 use Rattle.polynomials.specs.Packed.{bytes, term, terms}
 use Rattle.rules.specs.Branch.{all-zeros, is-one}
 use Rattle.representation.specs.laws.Sizes.{length-terms-at}
-use Rattle.heads.proofs.Walk.{monomial-at, words-behind, terms-first}
+use Rattle.heads.proofs.Walk.{monomial-at, words-behind-first, terms-first}
 
 several-not-one : (f : Poly) → length f ≢ 1 → is-one f ≡ false
 unfolding is-one
@@ -34,4 +34,4 @@ module _ (v : List Rec) (i : ℕ) (fits : i + 1 + size-at v i ≤ length v) wher
   one-at-first h =
       let e = terms-first v i (omega arith) fits in
       ap is-one e
-      ∙ single-one (term (getD v (i + 1) zero-record .w0) (monomial-at v (i + 1))) (terms (words-behind v i)) (sym (ap length e) ∙ length-terms-at v i fits ∙ h)
+      ∙ single-one (term (getD v (i + 1) zero-record .w0) (monomial-at v (i + 1))) (terms (words-behind-first v i)) (sym (ap length e) ∙ length-terms-at v i fits ∙ h)

@@ -51,8 +51,8 @@ first-pair (suc n) r x l h e =
     ∙ ap (λ (k : ℕ). x .w0 ∷ ((x .w1 * 4294967296 + x .w2) ∷ pairs-of (take k l))) {x = n} {y = suc n - 1} (omega arith)
 
 -- The words behind the first term.
-abbrev pub words-behind : List Rec → ℕ → List ℕ
-words-behind v i = pairs-of (take (size-at v i - 1) (drop (suc (i + 1)) v))
+abbrev pub words-behind-first : List Rec → ℕ → List ℕ
+words-behind-first v i = pairs-of (take (size-at v i - 1) (drop (suc (i + 1)) v))
 
 no-words : (v : List Rec) (i : ℕ) → size-at v i ≡ 0 → words-at v i ≡ []
 unfolding words-at pairs-of
@@ -63,11 +63,11 @@ unfolding terms
 no-terms v i h = ap terms (no-words v i h)
 
 module _ (v : List Rec) (i : ℕ) (some : 0 < size-at v i) (fits : i + 1 + size-at v i ≤ length v) where
-  words-first : words-at v i ≡ getD v (i + 1) zero-record .w0 ∷ (monomial-at v (i + 1) ∷ words-behind v i)
+  words-first : words-at v i ≡ getD v (i + 1) zero-record .w0 ∷ (monomial-at v (i + 1) ∷ words-behind-first v i)
   unfolding words-at
   words-first = first-pair (size-at v i) (drop (i + 1) v) (getD v (i + 1) zero-record) (drop (suc (i + 1)) v) some (drop-cons v (i + 1) zero-record (omega arith))
 
-  pub terms-first : terms (words-at v i) ≡ term (getD v (i + 1) zero-record .w0) (monomial-at v (i + 1)) ∷ terms (words-behind v i)
+  pub terms-first : terms (words-at v i) ≡ term (getD v (i + 1) zero-record .w0) (monomial-at v (i + 1)) ∷ terms (words-behind-first v i)
   unfolding terms
   terms-first = ap terms words-first
 
@@ -89,20 +89,20 @@ pub led-some : (v : List Rec) (i k : ℕ) → leader (terms (words-at v i)) ≡ 
 led-some v i k l = elim (ℕ-discrete (size-at v i) 0) [ yes e ↦ absurd (omega (arith, no-leader-at v i e)) | no n ↦ let n′ : size-at v i ≢ 0 = n in omega arith ]
 
 module _ (p : ℕ) (v : List Rec) (i : ℕ) (holds : Holds p (words-at v i)) (some : 0 < size-at v i) (fits : i + 1 + size-at v i ≤ length v) where
-  canonical-first : Canonical p (term (getD v (i + 1) zero-record .w0) (monomial-at v (i + 1)) ∷ terms (words-behind v i))
+  canonical-first : Canonical p (term (getD v (i + 1) zero-record .w0) (monomial-at v (i + 1)) ∷ terms (words-behind-first v i))
   canonical-first = subst (λ (f : Poly). Canonical p f) (terms-first v i some fits) (holds .canonical)
 
-  places-first : Places 8 (term (getD v (i + 1) zero-record .w0) (monomial-at v (i + 1)) ∷ terms (words-behind v i))
+  places-first : Places 8 (term (getD v (i + 1) zero-record .w0) (monomial-at v (i + 1)) ∷ terms (words-behind-first v i))
   places-first = subst (λ (f : Poly). Places 8 f) (terms-first v i some fits) (places-terms (words-at v i))
 
   pub leader-at-first : leader (terms (words-at v i)) ≡ highest (bytes 8 (monomial-at v (i + 1)))
   leader-at-first =
       ap leader (terms-first v i some fits)
-      ∙ leader-first p 8 (term (getD v (i + 1) zero-record .w0) (monomial-at v (i + 1))) (terms (words-behind v i)) canonical-first places-first
+      ∙ leader-first p 8 (term (getD v (i + 1) zero-record .w0) (monomial-at v (i + 1))) (terms (words-behind-first v i)) canonical-first places-first
 
   pub degree-at-first : (k : ℕ) → leader (terms (words-at v i)) ≡ suc k → degree k (terms (words-at v i)) ≡ getD (bytes 8 (monomial-at v (i + 1))) k 0
   degree-at-first k l =
       ap (degree k) (terms-first v i some fits)
-      ∙ degree-first p k 8 (term (getD v (i + 1) zero-record .w0) (monomial-at v (i + 1))) (terms (words-behind v i)) canonical-first places-first
-      (λ j m. above-leader (term (getD v (i + 1) zero-record .w0) (monomial-at v (i + 1)) ∷ terms (words-behind v i)) j
-      (let e : leader (term (getD v (i + 1) zero-record .w0) (monomial-at v (i + 1)) ∷ terms (words-behind v i)) ≡ suc k = sym (ap leader (terms-first v i some fits)) ∙ l in omega arith))
+      ∙ degree-first p k 8 (term (getD v (i + 1) zero-record .w0) (monomial-at v (i + 1))) (terms (words-behind-first v i)) canonical-first places-first
+      (λ j m. above-leader (term (getD v (i + 1) zero-record .w0) (monomial-at v (i + 1)) ∷ terms (words-behind-first v i)) j
+      (let e : leader (term (getD v (i + 1) zero-record .w0) (monomial-at v (i + 1)) ∷ terms (words-behind-first v i)) ≡ suc k = sym (ap leader (terms-first v i some fits)) ∙ l in omega arith))

@@ -90,7 +90,7 @@ pub fn counted(buffer: &mut [u8], input: Input, words: &mut [u32]) -> Words
     Words::First(n, rest)
 }
 
-// A word as a number of elements. A parameter's type bounds it, as the cast asks; nothing bounds an element of an array that was lent.
+// A word as a count of elements. The cast asks for a bound: a parameter has one by its type, an element of a lent array has none.
 pub fn size(x: u32) -> usize
     ensures { λ r. ⌜ r ≡ x ⌝ }
 {

@@ -255,7 +255,7 @@ module _ {v : List Rec} {most : ℕ} {c : Stored} {bs ss : List Stored} (H : Hel
         record {
           answer = sym (lt-leb (size (with-open (kept-open i n f initial c) (c ∷ bs) ss)) most (omega (arith, size-kept, H .fits, G)));
           held = λ e. absurd (false≢true e);
-          kept = λ e. H;
+          otherwise = λ e. H;
         }
 
     length-used : length used ≡ end
@@ -365,5 +365,5 @@ module _ {v : List Rec} {most : ℕ} {c : Stored} {bs ss : List Stored} (H : Hel
                 few = H .few;
                 storable = (storable-kept sf si, H .storable .1);
               };
-          kept = λ e. absurd (false≢true (sym e));
+          otherwise = λ e. absurd (false≢true (sym e));
         }

@@ -38,10 +38,10 @@ pub fn keep_open(w: &mut [u32], i: usize, n: usize, f: &[u64], initial: &[u64]) 
     }
     records::write(w, end, (n + 1) as u32, q + 1, t, at as u32);
     let mut to = moves::append_block(w, at + 1, front - (at + 1), end + 1);
-    to = storing::append(w, f, to);
+    to = storing::append(w, to, f);
     to = moves::append_block(w, front, back - front, to);
     to = moves::append_block(w, from_q, from_t - from_q, to);
-    to = storing::append(w, initial, to);
+    to = storing::append(w, to, initial);
     to = moves::append_block(w, from_t, end - from_t, to);
     let systems = records::get3(w, 0);
     records::write(w, 0, end as u32, to as u32, top as u32, systems);

@@ -1,4 +1,4 @@
--- A list of systems: its T chains, its systems counted, and a walk along them.
+-- A point against a list: one system's answer, the walk to the first system solved, and the trial.
 use mathlib.Core.Path.{_≡_, sym, _∙_, ap}
 use mathlib.Core.Logic.{_≢_}
 use mathlib.Core.Bool.{true, false}

@@ -1,7 +1,7 @@
 -- The loop that loads a polynomial along its chain of terms.
 use mathlib.Core.Path.{_≡_, sym, _∙_, ap, subst}
 use mathlib.Core.Logic.{_≢_}
-use mathlib.Core.List.{List, [], _∷_, _++_, append-assoc, append-nil}
+use mathlib.Core.List.{List, [], _∷_, _++_, append-nil}
 use Prim.Native.Nat.{ℕ, suc, _+_, _*_, _≤_, _<_}
 use native.Mathlib.Omega.{arith}
 use lib.ListN.{length, take, set, length-set}
@@ -10,7 +10,7 @@ use Rattle.polynomials.specs.Poly.{Term, Poly}
 use Rattle.polynomials.specs.Canonical.{Canonical}
 use Rattle.polynomials.specs.Packed.{bytes, exponents, term, terms}
 use Rattle.polynomials.specs.Working.{Written, Holds}
-use Rattle.polynomials.specs.laws.Terms.{terms-push}
+use Rattle.polynomials.specs.laws.Terms.{terms-push-before}
 use Rattle.tables.specs.Words.{word, records, term-at}
 use Rattle.tables.specs.Read.{good, read-head}
 use Rattle.tables.specs.laws.Chains.{term-read}
@@ -74,10 +74,8 @@ module _ (w : List ℕ) (p n head : ℕ) (out : List ℕ) where
             few = omega (arith, one-less, l .few);
             room = simp length-set (l .room);
             count = λ f e. omega (arith, one-less, l .count f e);
-            front = λ f e. ap (λ (g : Poly). g ++ this-term .behind) (terms-push out k c m (omega (arith, l .count f e)) (omega (arith, load-room, l .room)))
-                ∙ append-assoc (terms (take k out)) (term c m ∷ []) (this-term .behind)
-                ∙ ap (λ (t : Term). terms (take k out) ++ (t ∷ this-term .behind)) (is-term ∙ sym (term-read w p n (this-term .is-read) .is))
-                ∙ ap (λ (g : Poly). terms (take k out) ++ g) (sym (this-term .parts))
+            front = λ f e. terms-push-before out k c m (l .chain .rest) (this-term .behind) (omega (arith, l .count f e)) (omega (arith, load-room, l .room))
+                (this-term .parts ∙ ap (λ (t : Term). t ∷ this-term .behind) (term-read w p n (this-term .is-read) .is ∙ sym is-term))
                 ∙ l .front f e;
           }
         where

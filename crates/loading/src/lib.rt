@@ -92,7 +92,7 @@ pub fn start(table: &[u32], work: &mut [u32], r: &mut [u64]) -> bool
     ensures { λ q. ⌜ ((t : Input) → read-table (now (table .entry)) ≡ good t
         → Started (start (limits-in (capacity (now (work .entry)))) t) (t .modulus) (capacity (now (work .entry))) q (view (now (work .exit)))) ⌝ }
 {
-    // Fewer than two records: the control record and the branch's own find no room.
+    // Fewer than two records: no room for the control record and the branch's own.
     if work.len() < 8 {
         return false;
     }

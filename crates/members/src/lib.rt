@@ -41,7 +41,7 @@ pub fn take(w: &mut [u32], closing: bool, place: usize, left: usize, r: &mut [u6
     n
 }
 
-// Makes the first n words of r monic and puts them into P, or into Q before its last `left` members; whether there is room.
+// Makes the first n words of r monic and puts them into P, or into Q before its last `left` members; whether there is room. The words behind stay.
 pub fn put_back(w: &mut [u32], p: u64, closing: bool, left: usize, r: &mut [u64], n: usize) -> bool
     requires { ⌜ Opened (now w) × Modulus p ⌝ }
     requires { ⌜ When-open (now w) (λ b bs ss. Has-behind closing left b) ⌝ }

@@ -8,7 +8,8 @@ use native.Mathlib.Omega.{arith}
 use lib.Dec.{eqb}
 use borrow.Author.Tests.{eqb-true, eqb-false}
 use lib.ListN.{length, getD, take, drop, length-drop}
-use lib.Seq.{paste, take-paste, drop-paste, take-all, length-paste}
+use lib.Seq.{paste}
+use Rattle.polynomials.proofs.CopyLaws.{copied-length, copied-first, copied-behind}
 use Rattle.polynomials.specs.Poly.{Poly}
 use Rattle.polynomials.specs.Canonical.{Canonical, All}
 use Rattle.polynomials.specs.Division.{degree, leader, initial, rest, coefficient, without}
@@ -78,36 +79,23 @@ module _ (p k : ℕ) (t i : List ℕ) (c : Canonical p (terms t)) (led : leader 
     left : length (drop (length i) t) ≡ length t - length i
     left = length-drop (length i) t
 
-    first : take (length t - length i) y ≡ drop (length i) t
-    first =
-        let n : length t - length i ≡ 0 + (length t - length i) = omega arith in
-        ap (take (length t - length i)) copied
-        ∙ ap (λ (n : ℕ). take n (paste r 0 (drop (length i) t) (length t - length i))) n
-        ∙ take-paste r 0 (drop (length i) t) (length t - length i) (omega arith) (omega (arith, left))
-        ∙ take-all (length t - length i) (drop (length i) t) (omega (arith, left))
+    room-is : length t - length i ≤ length r
+    room-is = omega (arith, few, room)
 
-    behind-copied : drop (length t - length i) y ≡ drop (length t - length i) r
-    behind-copied =
-        let n : length t - length i ≡ 0 + (length t - length i) = omega arith in
-        ap (drop (length t - length i)) copied
-        ∙ ap (λ (n : ℕ). drop n (paste r 0 (drop (length i) t) (length t - length i))) n
-        ∙ drop-paste r 0 (drop (length i) t) (length t - length i) (omega arith) (omega (arith, left))
-        ∙ ap (λ (n : ℕ). drop n r) (sym n)
+    first : take (length t - length i) y ≡ drop (length i) t
+    first = copied-first (drop (length i) t) r y (length t - length i) left room-is copied
 
     is-rest : terms (take (length t - length i) y) ≡ rest k (terms t)
     is-rest = ap terms first ∙ rest-behind
 
-    pasted : length (paste r 0 (drop (length i) t) (length t - length i)) ≡ length r
-    pasted = length-paste r 0 (drop (length i) t) (length t - length i) (omega (arith, few, room)) (omega (arith, left))
-
     pub rest-in : Rest-in p k t r y (length t - length i)
     rest-in = record {
-      inside = omega (arith, few, room, ap length copied, pasted);
+      inside = omega (arith, room-is, copied-length (drop (length i) t) r y (length t - length i) left room-is copied);
       is = is-rest;
       holds = record {
         pairs = omega (arith, ap length first, left, initial-inside, u, v);
         few = omega (arith, ap length first, left, few);
         canonical = subst (Canonical p) (sym is-rest) (canonical-rest p k (terms t) c);
       };
-      behind = behind-copied;
+      behind = copied-behind (drop (length i) t) r y (length t - length i) left room-is copied;
     }

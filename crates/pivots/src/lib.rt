@@ -82,7 +82,8 @@ pub fn is_settled(w: &[u32], f: &[u64]) -> bool
     branches::q_contains(w, f)
 }
 
-// Rule 3 for the pivot t, which stands in P at `place`, and its initial i. Whether there is room.
+// Rule 3 for the pivot t, which stands in P at `place`, and its initial i. Whether there is room. The rest, made monic, is left in the first words of r;
+// those behind stay.
 pub fn apply_split(
     w: &mut [u32],
     p: u64,

@@ -66,7 +66,7 @@ size-free H = omega (arith, H .fits)
 
 pub leaves-held : {v : List Rec} {most : ℕ} {a₀ a : Area} → Held v most a → Leaves most a₀ a true v
 leaves-held {v} {most} {a = a} H =
-    record { answer = sym (le-leb (size a) most (omega (arith, size-free H))); held = λ e. H; kept = λ e. absurd (false≢true (sym e)) }
+    record { answer = sym (le-leb (size a) most (omega (arith, size-free H))); held = λ e. H; otherwise = λ e. absurd (false≢true (sym e)) }
 
 pub held-left : {v : List Rec} {most : ℕ} {a₀ a : Area} {r : Bool} → Leaves most a₀ a r v → size a ≤ most → Held v most a
 held-left {most = most} {a = a} L h = L .held (L .answer ∙ le-leb (size a) most h)
@@ -132,7 +132,7 @@ module _ {v : List Rec} {most : ℕ} {b : Stored} {bs ss : List Stored} (H : Hel
           record {
             answer = sym (lt-leb (size (with-open c bs ss)) most (omega (arith, more-size m bs ss, size-free H, over-free H read e' h)));
             held = λ e. absurd (false≢true e);
-            kept = λ e. H;
+            otherwise = λ e. H;
           }
 
     module _ {c : Stored} {xs : List (List ℕ)} {f : List ℕ} {ys : List (List ℕ)} (m : More b c xs f ys) {to : ℕ} (there : to ≡ behind bs xs)

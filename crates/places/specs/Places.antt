@@ -5,7 +5,7 @@ use Prim.Native.Nat.{ℕ, _+_}
 use lib.ListN.{length, getD, set}
 use Rattle.records.specs.Records.{Rec, record-of, zero-record}
 use Rattle.stored.specs.Stored.{polys-records}
-use Rattle.branches.specs.Area.{Stored, Area, Held-in, stack, with-open}
+use Rattle.branches.specs.Area.{Stored, Held-in, stack, with-open}
 
 -- The branch c has the polynomial f besides those of b, between xs and ys.
 pub record More (b c : Stored) (xs : List (List ℕ)) (f : List ℕ) (ys : List (List ℕ)) : Type 0 where
@@ -46,10 +46,6 @@ pub record Take-at (w : List ℕ) (from : ℕ) (p q t : ℕ) (b : Stored) (bs ss
 -- Φ is true of some open branch, with some waiting ones and systems.
 abbrev pub Some-open : (Stored → List Stored → List Stored → Type 0) → Type 0
 Some-open Φ = (b : Stored) × (bs : List Stored) × (ss : List Stored) × Φ b bs ss
-
--- Wherever Φ is true of an open branch, waiting ones and systems, Ψ is true of their state.
-abbrev pub Each-open : (Stored → List Stored → List Stored → Type 0) → (Area → Type 0) → Type 0
-Each-open Φ Ψ = (b : Stored) (bs ss : List Stored) → Φ b bs ss → Ψ (with-open b bs ss)
 
 -- The open branch's own record and the control record written anew, with other counts and another end.
 abbrev pub resized : List Rec → ℕ → ℕ → ℕ → ℕ → List Rec

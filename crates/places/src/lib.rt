@@ -5,7 +5,7 @@ ghost use lib.ListN.{getD};
 ghost use Rattle.records.specs.Records.{room, view, zero-record, Records-become};
 ghost use Rattle.stored.specs.Stored.{Storable};
 ghost use Rattle.branches.specs.Area.{Stored, Held, Leaves, capacity, with-open};
-ghost use Rattle.places.specs.Places.{Put-at, Take-at, Some-open, Each-open, resized};
+ghost use Rattle.places.specs.Places.{Put-at, Take-at, Some-open, resized};
 
 // Puts f in at record `to`, so that P, Q and T have p, q and t members; whether there is room.
 pub fn put_at(w: &mut [u32], to: usize, f: &[u64], p: u32, q: u32, t: u32) -> bool
@@ -28,7 +28,8 @@ pub fn put_at(w: &mut [u32], to: usize, f: &[u64], p: u32, q: u32, t: u32) -> bo
 // Takes the polynomial at record `from` out, so that P, Q and T have p, q and t members.
 pub fn take_at(w: &mut [u32], from: usize, p: u32, q: u32, t: u32)
     requires { ⌜ Some-open (Take-at (now w) from p q t) ⌝ }
-    ensures { λ _. ⌜ Each-open (Take-at (now (w .entry)) from p q t) (Held (view (now (w .exit))) (capacity (now (w .entry)))) ⌝ }
+    ensures { λ _. ⌜ ((b : Stored) (bs ss : List Stored) → Take-at (now (w .entry)) from p q t b bs ss
+        → Held (view (now (w .exit))) (capacity (now (w .entry))) (with-open b bs ss)) ⌝ }
 {
     let end = records::get1(w, 0) as usize;
     let n = records::get0(w, from) as usize + 1;

@@ -1,4 +1,4 @@
--- What the code of products plugs its places into: how a gathering ended, the buffers lent and the copy from other buffers, the tests before the rows.
+-- What the code of `products` plugs its places into: the buffers lent, the single row, the factors exchanged, and the tested product.
 use mathlib.Core.Path.{_≡_, refl, sym, _∙_, ap, subst}
 use mathlib.Core.Logic.{_≢_, ⊎-elim}
 use mathlib.Core.List.{List, [], _∷_}

@@ -52,6 +52,6 @@ fn rows(p: u64, f: &[u64], g: &[u64], x: &mut [u64], z: &mut [u64]) -> Formed
     match ended {
         Gathered::Words(n) => Formed::Words(n),
         Gathered::OverTerms => Formed::OverTerms,
-        Gathered::Short => gathered::gather_apart(p, f, g, x),
+        Gathered::Short => gathering_apart::gather_apart(p, f, g, x),
     }
 }

@@ -9,21 +9,21 @@ use lib.ListN.{length, getD, set, drop, length-set}
 use lib.Seq.{paste, getD-set-same, getD-set-other, drop-set-lt, sets-eq}
 use Rattle.records.specs.Records.{record-of, zero-record, tabulate, room, record-at, view, records-end, words-behind, Record-written}
 
-pub length-tabulate : {A : Type 0} (n : ℕ) (f : ℕ → A) → length (tabulate n f) ≡ n
+length-tabulate : {A : Type 0} (n : ℕ) (f : ℕ → A) → length (tabulate n f) ≡ n
 length-tabulate zero f = refl
 length-tabulate (suc n) f = ap suc (length-tabulate n (λ i. f (suc i)))
 
-pub tabulate-ext : {A : Type 0} (n : ℕ) (f g : ℕ → A) → ((i : ℕ) → f i ≡ g i) → tabulate n f ≡ tabulate n g
+tabulate-ext : {A : Type 0} (n : ℕ) (f g : ℕ → A) → ((i : ℕ) → f i ≡ g i) → tabulate n f ≡ tabulate n g
 tabulate-ext zero f g h = refl
 tabulate-ext (suc n) f g h = λ k. h zero k ∷ tabulate-ext n (λ i. f (suc i)) (λ i. g (suc i)) (λ i. h (suc i)) k
 
-pub getD-tabulate : {A : Type 0} (n : ℕ) (f : ℕ → A) (i : ℕ) (d : A) → i < n → getD (tabulate n f) i d ≡ f i
+getD-tabulate : {A : Type 0} (n : ℕ) (f : ℕ → A) (i : ℕ) (d : A) → i < n → getD (tabulate n f) i d ≡ f i
 getD-tabulate zero f i d h = absurd (not-suc-le-zero h)
 getD-tabulate (suc n) f zero d h = refl
 getD-tabulate (suc n) f (suc i) d h = getD-tabulate n (λ j. f (suc j)) i d (le-of-suc-le-suc h)
 
 -- a table with another value at i alone is the table with that value stored
-pub tabulate-set : {A : Type 0} (n : ℕ) (f g : ℕ → A) (i : ℕ) (a : A) → g i ≡ a → ((j : ℕ) → j ≢ i → g j ≡ f j) → tabulate n g ≡ set (tabulate n f) i a
+tabulate-set : {A : Type 0} (n : ℕ) (f g : ℕ → A) (i : ℕ) (a : A) → g i ≡ a → ((j : ℕ) → j ≢ i → g j ≡ f j) → tabulate n g ≡ set (tabulate n f) i a
 tabulate-set zero f g i a e o = refl
 tabulate-set (suc n) f g zero a e o = λ k. e k ∷ tabulate-ext n (λ j. g (suc j)) (λ j. f (suc j)) (λ j. o (suc j) (suc-ne-zero j)) k
 tabulate-set (suc n) f g (suc i) a e o =
@@ -51,7 +51,7 @@ abbrev pub store : List ℕ → ℕ → ℕ → ℕ → ℕ → ℕ → List ℕ
 store w i a b c d = set (s3 w i a b c) (4 * i + 3) d
 
 module _ (w : List ℕ) (i a b c d : ℕ) (h : i < room w) where
-  pub length-store : length (store w i a b c d) ≡ length w
+  length-store : length (store w i a b c d) ≡ length w
   length-store = simp length-set
 
   same : record-at (store w i a b c d) i ≡ record-of a b c d
@@ -74,13 +74,13 @@ module _ (w : List ℕ) (i a b c d : ℕ) (h : i < room w) where
       (apart (4 * j) (λ e. n (omega arith)) k) (apart (4 * j + 1) (λ e. n (omega arith)) k)
       (apart (4 * j + 2) (λ e. n (omega arith)) k) (apart (4 * j + 3) (λ e. n (omega arith)) k)
 
-  pub view-store : view (store w i a b c d) ≡ set (view w) i (record-of a b c d)
+  view-store : view (store w i a b c d) ≡ set (view w) i (record-of a b c d)
   unfolding view
   view-store = ap (λ n. tabulate (n / 4) (record-at (store w i a b c d))) length-store ∙ tabulate-set (room w) (record-at w) (record-at (store w i a b c d)) i (record-of a b c d) same other
 
   drop-store : (n : ℕ) → 4 * i + 3 < n → drop n (store w i a b c d) ≡ drop n w
-  drop-store n h =
-      drop-set-lt n (s3 w i a b c) (4 * i + 3) d h ∙ drop-set-lt n (s2 w i a b) (4 * i + 2) c (omega arith)
+  drop-store n behind =
+      drop-set-lt n (s3 w i a b c) (4 * i + 3) d behind ∙ drop-set-lt n (s2 w i a b) (4 * i + 2) c (omega arith)
       ∙ drop-set-lt n (s1 w i a) (4 * i + 1) b (omega arith) ∙ drop-set-lt n w (4 * i) a (omega arith)
 
   words-behind-store : words-behind (store w i a b c d) ≡ words-behind w

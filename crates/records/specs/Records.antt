@@ -1,4 +1,4 @@
--- The work area as a list of records of four words. `view` and `Record-written` alone know how a record lies in the words.
+-- The work area as a list of records of four words. This file alone says how a record lies in the words.
 use mathlib.Core.Path.{_≡_}
 use Prim.Native.Nat.{ℕ, zero, suc, _+_, _*_, _/_}
 use mathlib.Core.List.{List, [], _∷_}
@@ -48,7 +48,7 @@ words-behind w = drop (records-end w) w
 abbrev pub Records-become : List Rec → List ℕ → List ℕ → Type 0
 Records-become v w w' = (view w' ≡ v) × (words-behind w' ≡ words-behind w)
 
--- The words w become w' with a, b, c and d as record i: what that is among the records, behind them, and word for word.
+-- Record i of w becomes a, b, c, d, and so w becomes w': said of the records, of the words behind them, and word for word, which implies both.
 abbrev pub Record-written : ℕ → ℕ → ℕ → ℕ → ℕ → List ℕ → List ℕ → Type 0
 Record-written i a b c d w w' = (view w' ≡ set (view w) i (record-of a b c d)) × (words-behind w' ≡ words-behind w) × (w' ≡ paste w (4 * i) (a ∷ b ∷ c ∷ d ∷ []) 4)
 

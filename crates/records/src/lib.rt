@@ -1,4 +1,4 @@
-// The work area: a lent run of 32-bit words as records of four. This crate alone knows where a record's words lie.
+// The work area: a lent run of 32-bit words as records of four. This crate alone knows where a record's words lie there; `write` writes a record of the output too.
 ghost use mathlib.Core.Path.{_≡_};
 ghost use Prim.Native.Nat.{_<_};
 ghost use lib.ListN.{getD, set};
@@ -36,7 +36,7 @@ pub fn get3(w: &[u32], i: usize) -> u32
     w[4 * i + 3]
 }
 
-// Writes record i whole, of the work area or of the output; the output is followed word by word.
+// Writes record i, of the work area or of the output: said of the records, as the one is read, and word for word, as the other is.
 pub fn write(w: &mut [u32], i: usize, a: u32, b: u32, c: u32, d: u32)
     requires { ⌜ i < room (now w) ⌝ }
     ensures { λ _. ⌜ Record-written i a b c d (now (w .entry)) (now (w .exit)) ⌝ }

@@ -45,7 +45,7 @@ fn put_answer(text: &mut [u8], answer: Answer, output: &[u32]) -> usize
 }
 
 // The text for the bytes read. More bytes than 4,096 records have, or a broken last word, are refusal 1. What the other buffers hold afterwards is
-// free: nothing reads them again.
+// not said: `triangularize` reads none of them again.
 pub fn respond(
     bytes: &[u8],
     words: &mut [u32],

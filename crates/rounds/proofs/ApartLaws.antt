@@ -10,7 +10,7 @@ use Rattle.polynomials.specs.Working.{Written, Forms}
 use Rattle.polynomials.specs.declared.Formed.{Formed}
 use Rattle.polynomials.specs.declared.Formed.the-variants.{Words, OverDegree, OverTerms}
 use Rattle.polynomials.specs.laws.Answers.{Answered, then-degree, then-terms}
-use Rattle.gathered.proofs.EndedLaws.{copied}
+use Rattle.polynomials.proofs.CopyLaws.{copied}
 use Rattle.division.proofs.RoundLaws.{first-written}
 
 pub copied-back : (p : ℕ) (B : Bounded) (m : ℕ) (a r s : List ℕ) → Answered p B m a → 512 ≤ length r → s ≡ paste r 0 (drop 0 (take m a)) (length (take m a) - 0) → Forms B (Words m) s

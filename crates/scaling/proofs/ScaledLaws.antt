@@ -10,7 +10,6 @@ use Rattle.residues.specs.Prime.{Prime}
 use Rattle.residues.specs.Residue.{inverse}
 use Rattle.polynomials.specs.Poly.{monic}
 use Rattle.polynomials.specs.Canonical.{Canonical}
-use Rattle.polynomials.specs.Bounds.{within}
 use Rattle.polynomials.specs.Packed.{term, terms}
 use Rattle.polynomials.specs.Working.{Pairs}
 use Rattle.polynomials.specs.laws.Merge.{scaled, monic-scaled}

@@ -1,5 +1,5 @@
--- The branch set aside at a split: the one that stays open is what the split's definition says; a state that finds no room on the way has none at the end;
--- and where the split stops then.
+-- A split: the branch that stays open is what the definition says; where a state on the way finds no room the end has none; and the state in which
+-- the split stops then.
 use mathlib.Core.Path.{_≡_, refl, sym, ap, subst, _∙_}
 use mathlib.Core.Bool.{Bool, true, false, _||_, false≢true}
 use mathlib.Core.List.{List, [], _∷_, _++_, append-assoc, append-nil}
@@ -105,13 +105,13 @@ over-if-false {most} {a = a} L e = leb-false (size a) most (sym (L .answer) ∙ 
 -- Where a smaller state finds no room.
 failed : {most : ℕ} {a₀ a a' : Area} {r : Bool} {v : List Rec} → Leaves most a₀ a r v → r ≡ false → size a ≤ size a' → Leaves most a₀ a' false v
 failed {most} {a' = a'} L e h =
-    record { answer = sym (lt-leb (size a') most (omega (arith, over-if-false L e))); held = λ t. absurd (false≢true t); kept = λ t. L .kept e }
+    record { answer = sym (lt-leb (size a') most (omega (arith, over-if-false L e))); held = λ t. absurd (false≢true t); otherwise = λ t. L .otherwise e }
 
-fitting-fits : (most : ℕ) (a a₀ : Area) → size a ≤ most → fitting most a a₀ ≡ a
-fitting-fits most a a₀ h = ap (λ (t : Bool). elim t as (λ t. Area) [ true ↦ a | false ↦ a₀ ]) (le-leb (size a) most h)
+fitting-fits : (most : ℕ) (a₀ a : Area) → size a ≤ most → fitting most a₀ a ≡ a
+fitting-fits most a₀ a h = ap (λ (t : Bool). elim t as (λ t. Area) [ true ↦ a | false ↦ a₀ ]) (le-leb (size a) most h)
 
-fitting-over : (most : ℕ) (a a₀ : Area) → most < size a → fitting most a a₀ ≡ a₀
-fitting-over most a a₀ h = ap (λ (t : Bool). elim t as (λ t. Area) [ true ↦ a | false ↦ a₀ ]) (lt-leb (size a) most h)
+fitting-over : (most : ℕ) (a₀ a : Area) → most < size a → fitting most a₀ a ≡ a₀
+fitting-over most a₀ a h = ap (λ (t : Bool). elim t as (λ t. Area) [ true ↦ a | false ↦ a₀ ]) (lt-leb (size a) most h)
 
 -- ── where a split stops ──
 module _ (most i : ℕ) (initial rest : List ℕ) (b : Stored) (bs ss : List Stored) where
@@ -126,7 +126,7 @@ module _ (most i : ℕ) (initial rest : List ℕ) (b : Stored) (bs ss : List Sto
   rest-in = with-open (aside i initial rest b) bs ss
 
   abbrev initial-fitting : Area
-  initial-fitting = fitting most initial-in pivot-out
+  initial-fitting = fitting most pivot-out initial-in
 
   abbrev unfinished : Area
   unfinished = unfinished-split most i initial rest b bs ss
@@ -144,14 +144,14 @@ module _ (most i : ℕ) (initial rest : List ℕ) (b : Stored) (bs ss : List Sto
     pub no-initial : r ≡ false → Leaves most unfinished (split-area i initial rest b bs ss) false v
     no-initial e =
         let none = over-if-false first e in
-        stopped-in (fitting-over most rest-in initial-fitting (omega (arith, none, rest-larger)) ∙ fitting-over most initial-in pivot-out none)
+        stopped-in (fitting-over most initial-fitting rest-in (omega (arith, none, rest-larger)) ∙ fitting-over most pivot-out initial-in none)
         (failed first e (omega (arith, rest-larger, split-larger)))
 
     module _ (e : r ≡ true) {r₁ : Bool} {v₁ : List Rec} (second : Leaves most initial-in rest-in r₁ v₁) where
       pub no-rest : r₁ ≡ false → Leaves most unfinished (split-area i initial rest b bs ss) false v₁
       no-rest e₁ =
-          stopped-in (fitting-over most rest-in initial-fitting (over-if-false second e₁) ∙ fitting-fits most initial-in pivot-out (fits-if-true first e))
+          stopped-in (fitting-over most initial-fitting rest-in (over-if-false second e₁) ∙ fitting-fits most pivot-out initial-in (fits-if-true first e))
           (failed second e₁ split-larger)
 
   pub stops-aside : {r : Bool} {v : List Rec} → Leaves most initial-in rest-in r v → r ≡ true → rest-in ≡ unfinished
-  stops-aside L e = sym (fitting-fits most rest-in initial-fitting (fits-if-true L e))
+  stops-aside L e = sym (fitting-fits most initial-fitting rest-in (fits-if-true L e))

@@ -10,7 +10,7 @@ ghost use Rattle.branches.specs.Words.{is-one};
 ghost use Rattle.branches.specs.Area.{Leaves, Opened, capacity, split-area, unfinished-split, When-open};
 
 // The initial goes into Q, and a branch is set aside with P without its member at place i, which is f, then the initial, then the rest; with Q as it
-// was; with T. Whether there is room. The open branch is made the one set aside, and the other is built on top of it; without room this stops on the way.
+// was; with T. Whether there is room. The open branch is made the one set aside, and the other is built on top of it; without room it stops on the way (`unfinished-split`).
 pub fn split(w: &mut [u32], i: usize, f: &[u64], initial: &[u64], rest: &[u64]) -> bool
     requires { ⌜ Opened (now w) ⌝ }
     requires { ⌜ When-open (now w) (λ b bs ss.

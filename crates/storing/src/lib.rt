@@ -25,7 +25,7 @@ pub fn store(w: &mut [u32], at: usize, f: &[u64])
 }
 
 // Stores f from record `to` on; where it ends.
-pub fn append(w: &mut [u32], f: &[u64], to: usize) -> usize
+pub fn append(w: &mut [u32], to: usize, f: &[u64]) -> usize
     requires { ⌜ Storable (now f) ⌝ }
     requires { ⌜ to + (length (now f) / 2 + 1) ≤ room (now w) ⌝ }
     ensures { λ r. ⌜ (r ≡ to + (length (now (f .entry)) / 2 + 1))

@@ -38,7 +38,7 @@ fits-below (suc n) w v f h k = subst (λ z. w + v < z) (sym (pow-suc 256 n))
 abbrev pub Word : ℕ → Type 0
 Word w = w < 256 ^ 8
 
-pub words-below : (w v : ℕ) → Word w → Word v → w < v → order (bytes 8 w) (bytes 8 v) ≡ Ordering·lt
+words-below : (w v : ℕ) → Word w → Word v → w < v → order (bytes 8 w) (bytes 8 v) ≡ Ordering·lt
 words-below w v h k l = order-bytes 8 w v h k ∙ compare-is w v Ordering·lt l
 
 -- ── one turn, on polynomials: the first term of the multiple is c·a times the monomial m + w ──
@@ -51,7 +51,7 @@ module _ (p c m a w : ℕ) (g : Poly) (small : Word (m + w)) (fit : Fits 8 m w) 
   rest-below = subst (λ b. Below b (bytes 8 m) g) (sym same) (below-first (bytes 8 m) (bytes 8 w) g eight falls)
 
   -- a term of f above it
-  pub turn-left : (b v : ℕ) (f : Poly) → Word v → m + w < v →
+  turn-left : (b v : ℕ) (f : Poly) → Word v → m + w < v →
       add-multiple p c (bytes 8 m) (term a w ∷ g) (term b v ∷ f) ≡ term b v ∷ add-multiple p c (bytes 8 m) (term a w ∷ g) f
   turn-left b v f k l =
       let l′ : order (bytes 8 (m + w)) (bytes 8 v) ≡ Ordering·lt = words-below (m + w) v small k l in
@@ -59,14 +59,14 @@ module _ (p c m a w : ℕ) (g : Poly) (small : Word (m + w)) (fit : Fits 8 m w) 
       (ap (λ z. order z (bytes 8 v)) (sym same) ∙ l′, below-trans (bytes 8 (m + w)) (bytes 8 v) (bytes 8 m) l′ g rest-below)
 
   -- all of f below it
-  pub turn-right : (f : Poly) → Under (bytes 8 (m + w)) f →
+  turn-right : (f : Poly) → Under (bytes 8 (m + w)) f →
       add-multiple p c (bytes 8 m) (term a w ∷ g) f ≡ keep (c * a % p) (bytes 8 (m + w)) (add-multiple p c (bytes 8 m) g f)
   turn-right f u =
       multiple-right p c (bytes 8 m) (term a w) f g (subst (λ b. Under b f) same u) (subst (λ b. Below b (bytes 8 m) g) same rest-below)
       ∙ ap (λ b. keep (c * a % p) b (add-multiple p c (bytes 8 m) g f)) (sym same)
 
   -- the first term of f like it
-  pub turn-both : (b : ℕ) (f : Poly) →
+  turn-both : (b : ℕ) (f : Poly) →
       add-multiple p c (bytes 8 m) (term a w ∷ g) (term b (m + w) ∷ f) ≡ keep ((c * a % p + b) % p) (bytes 8 (m + w)) (add-multiple p c (bytes 8 m) g f)
   turn-both b f = multiple-both p c (bytes 8 m) (term b (m + w)) (term a w) f g same (subst (λ b. Below b (bytes 8 m) g) same rest-below)
 

@@ -95,31 +95,31 @@ found v i s h =
     }
 
 -- What the counts read, and the ends found from them, are.
-pub record Ends (v : List Rec) (i u t in-t end : ℕ) (s : Stored) : Type 0 where
+pub record Ends (v : List Rec) (i u t from-t end : ℕ) (s : Stored) : Type 0 where
   pub u-is : u ≡ length (s .Q)
   pub t-is : t ≡ length (s .T)
-  pub in-t-is : in-t ≡ i + 1 + polynomials-size (map terms (s .Q))
+  pub from-t-is : from-t ≡ i + 1 + polynomials-size (map terms (s .Q))
   pub end-is : end ≡ i + size-of s
   pub size : size-of s ≡ 1 + (polynomials-size (map terms (s .T)) + polynomials-size (map terms (s .Q)))
   pub inside : i + size-of s ≤ length v
   pub polys-U : polys-at v (i + 1) u ≡ s .Q
-  pub polys-T : polys-at v in-t t ≡ s .T
+  pub polys-T : polys-at v from-t t ≡ s .T
 
-pub ends : (v : List Rec) (i u t in-t end : ℕ) (s : Stored) → Found v i s → u ≡ getD v i zero-record .w1 → t ≡ getD v i zero-record .w2
-    → in-t ≡ skip-to v (i + 1) u → end ≡ skip-to v in-t t → Ends v i u t in-t end s
-ends v i u t in-t end s f eu et ei ee =
+pub ends : (v : List Rec) (i u t from-t end : ℕ) (s : Stored) → Found v i s → u ≡ getD v i zero-record .w1 → t ≡ getD v i zero-record .w2
+    → from-t ≡ skip-to v (i + 1) u → end ≡ skip-to v from-t t → Ends v i u t from-t end s
+ends v i u t from-t end s f eu et ei ee =
     let u-is : u ≡ length (s .Q) = eu ∙ f .count-U in
     let t-is : t ≡ length (s .T) = et ∙ f .count-T in
-    let in-t-is : in-t ≡ i + 1 + polynomials-size (map terms (s .Q)) = ei ∙ ap (skip-to v (i + 1)) u-is ∙ f .end-U in
+    let from-t-is : from-t ≡ i + 1 + polynomials-size (map terms (s .Q)) = ei ∙ ap (skip-to v (i + 1)) u-is ∙ f .end-U in
     record {
       u-is = u-is;
       t-is = t-is;
-      in-t-is = in-t-is;
-      end-is = ee ∙ (λ k. skip-to v (in-t-is k) (t-is k)) ∙ f .end-T;
+      from-t-is = from-t-is;
+      end-is = ee ∙ (λ k. skip-to v (from-t-is k) (t-is k)) ∙ f .end-T;
       size = f .size;
       inside = f .inside;
       polys-U = ap (polys-at v (i + 1)) u-is ∙ f .polys-U;
-      polys-T = (λ k. polys-at v (in-t-is k) (t-is k)) ∙ f .polys-T;
+      polys-T = (λ k. polys-at v (from-t-is k) (t-is k)) ∙ f .polys-T;
     }
 
 -- A system's record written, then its T heads, then its U heads.

@@ -29,13 +29,13 @@ fn write_system(w: &[u32], i: usize, out: &mut [u32], at: usize, next: u32)
 {
     let u = records::get1(w, i) as usize;
     let t = records::get2(w, i) as usize;
-    let in_t = stored::skip(w, i + 1, u);
-    let end = stored::skip(w, in_t, t);
-    let to_u = at + 1 + (end - in_t);
+    let from_t = stored::skip(w, i + 1, u);
+    let end = stored::skip(w, from_t, t);
+    let to_u = at + 1 + (end - from_t);
     let first_t = if t == 0 { 0 } else { (at + 1) as u32 };
     let first_u = if u == 0 { 0 } else { to_u as u32 };
     records::write(out, at, first_t, first_u, 0, next);
-    chains::write_heads(w, in_t, t, out, at + 1);
+    chains::write_heads(w, from_t, t, out, at + 1);
     chains::write_heads(w, i + 1, u, out, to_u);
 }
 

@@ -6,7 +6,7 @@ use mathlib.Core.List.{List}
 use Prim.Native.Nat.{ℕ, _≤_}
 use lib.ListN.{length, length-take}
 use lib.Seq.{length-take-le}
-use Rattle.jobs.proofs.HeadingLaws.{shaped}
+use Rattle.elimination_job.proofs.HeadingLaws.{shaped}
 use Rattle.elimination_jobs.proofs.run_job.Statement.{statement}
 use Rattle.elimination_jobs.proofs.run_job.Tie as tie
 

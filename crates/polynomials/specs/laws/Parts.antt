@@ -2,7 +2,7 @@
 -- The order of monomials compares longer lists as greater, so that these laws ask for exponents of one length, as in pairs of words.
 use mathlib.Core.Path.{_≡_, refl, sym, _∙_, ap, ap₂, subst}
 use mathlib.Core.Logic.{_≢_, _⊎_, inl, inr}
-use mathlib.Core.List.{List, [], _∷_, _++_, append-nil}
+use mathlib.Core.List.{[], _∷_, _++_, append-nil}
 use mathlib.Core.Bool.{Bool, true, false}
 use Prim.Native.Nat.{ℕ, zero, suc, _+_, _≤_, _<_, compare, Ordering·lt, Ordering·eq}
 use native.Mathlib.Nat.{le-refl}

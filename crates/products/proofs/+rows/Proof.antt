@@ -9,12 +9,12 @@ use borrow.Fn.Kinds.{In}
 use borrow.Fn.PlainCycle.{Measures, is, falls, and}
 use Rattle.polynomials.specs.laws.Product.{degrees-over-comm}
 use Rattle.products.proofs.ProductLaws.{exchanged, lent-exchanged, row-lent, short-lent, single-asks, single-formed}
-use Rattle.gathered.proofs.EndedLaws.{words-ended, over-terms-ended}
+use Rattle.gathering_apart.proofs.EndedLaws.{words-ended, over-terms-ended}
 use Rattle.products.proofs.rows.Reads as rows
 use Rattle.products.proofs.rows.Kinds as rows-kinds
 use Rattle.products.proofs.+rows.Lts-rows as rows-lts
 use Rattle.gathering.proofs.gather.Reads as gather-reads
-use Rattle.gathered.proofs.gather_apart.Reads as gather-apart-reads
+use Rattle.gathering_apart.proofs.gather_apart.Reads as gather-apart-reads
 use Rattle.sums.proofs.add_multiple.Reads as add-multiple-reads
 use Rattle.products.proofs.+rows.{statement}
 use Rattle.products.proofs.+rows.Tie.{close}

@@ -1,4 +1,4 @@
--- `write` meets its contract: the four words stored are the record stored in the view and a block of the words, and all lie before the words behind.
+-- `write` meets its contract: four words stored one after the other are a record set in the view and a block of the words; the words behind the records stay.
 use native.Mathlib.Omega.{arith}
 use lib.ListN.{length-set}
 use Rattle.records.proofs.Rows.{record-written-store}

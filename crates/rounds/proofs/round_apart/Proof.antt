@@ -12,7 +12,7 @@ use Rattle.polynomials.specs.Division.{degree}
 use Rattle.polynomials.specs.Packed.{terms}
 use Rattle.polynomials.specs.Working.{Written, Forms}
 use Rattle.polynomials.specs.laws.Answers.{Answered, round-answered, written-holds}
-use Rattle.gathered.proofs.EndedLaws.{copied}
+use Rattle.polynomials.proofs.CopyLaws.{copied}
 use Rattle.division.proofs.RoundLaws.{first-written}
 use Rattle.rounds.proofs.ApartLaws.{copied-back, degree-refused, terms-refused}
 use Rattle.rounds.proofs.round_apart.Statement.{statement}

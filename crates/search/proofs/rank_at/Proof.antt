@@ -1,4 +1,4 @@
--- `rank_at` meets its contract: where v(v+1) leads, the first monomial has the degree, and the head counts the terms.
+-- `rank_at` meets its contract: where the variable asked for leads, the first monomial has the degree, and the head counts the terms.
 use mathlib.Core.Path.{_≡_, sym, ap, _∙_}
 use Prim.Native.Nat.{ℕ, suc, _+_, _*_, _≤_, _<_}
 use native.Mathlib.Omega.{arith}

@@ -12,11 +12,11 @@ use Rattle.tables.specs.Reason.{number}
 use Rattle.tables.specs.declared.Reason.{Reason}
 use Rattle.run.specs.declared.Outcome.{Outcome}
 use Rattle.run.specs.declared.Outcome.the-variants.{Systems, Refused}
-use Rattle.jobs.specs.declared.Heading.{Heading}
-use Rattle.jobs.specs.declared.Shape.{Shape}
-use Rattle.jobs.specs.declared.Job.{Job}
-use Rattle.jobs.specs.declared.Job.the-variants.{Next}
-use Rattle.jobs.specs.Heading.{nonzero, heading, Shaped}
+use Rattle.elimination_job.specs.declared.Heading.{Heading}
+use Rattle.elimination_job.specs.declared.Shape.{Shape}
+use Rattle.elimination_job.specs.declared.Job.{Job}
+use Rattle.elimination_job.specs.declared.Job.the-variants.{Next}
+use Rattle.elimination_job.specs.Heading.{nonzero, heading, Shaped}
 use Rattle.input.specs.declared.Input.{Input}
 
 -- ── words that are not zero ──

@@ -6,8 +6,8 @@ use native.Mathlib.Omega.{arith}
 use borrow.Author.Needs.{needs}
 use borrow.Author.Fill.{fill-none, fill-more}
 use lib.ListN.{length, replicate, drop, length-set, drop-of-length-le}
-use Rattle.jobs.proofs.fill.Statement.{statement}
-use Rattle.jobs.proofs.fill.Tie as tie
+use Rattle.elimination_job.proofs.fill.Statement.{statement}
+use Rattle.elimination_job.proofs.fill.Tie as tie
 
 abbrev Inv-loop : tie.InvT-loop
 Inv-loop words₀ x i₀ words i = (i ≤ length words₀) × (length words ≡ length words₀) × (words ≡ replicate i x ++ drop i words₀)

@@ -6,7 +6,7 @@ ghost use lib.ListN.{length, replicate};
 ghost use Rattle.rules.specs.Eliminate.{eliminated, output-after};
 ghost use Rattle.delivery.specs.Answer.{answer-of};
 ghost use Rattle.lines.specs.Text.{LineAdded};
-ghost use Rattle.jobs.specs.Heading.{heading-of, nonzero, Shaped};
+ghost use Rattle.elimination_job.specs.Heading.{heading-of, nonzero, Shaped};
 use elimination::Answer;
 use elimination::Outcome;
 use input::Filled;

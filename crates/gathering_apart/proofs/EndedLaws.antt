@@ -1,17 +1,15 @@
--- How a gathering ended, its words copied, and buffers that hold whatever is gathered.
-use mathlib.Core.Path.{_≡_, refl, _∙_, ap, subst}
+-- How a gathering ended, and buffers that hold whatever is gathered.
+use mathlib.Core.Path.{_≡_, refl, subst}
 use mathlib.Core.Logic.{⊎-elim}
 use mathlib.Core.List.{List}
 use mathlib.Core.Bool.{Bool, true, false}
-use Prim.Native.Nat.{ℕ, _+_, _-_, _*_, _≤_, _<_}
+use Prim.Native.Nat.{ℕ, _*_, _≤_, _<_}
 use native.Mathlib.Omega.{arith}
 use lib.Dec.{ltb}
-use lib.ListN.{length, take, drop}
-use lib.Seq.{length-take-le, paste, length-paste, take-paste, take-all}
+use lib.ListN.{length}
 use borrow.Author.Tests.{ltb-false}
 use Rattle.polynomials.specs.Poly.{Poly}
 use Rattle.polynomials.specs.Bounds.{within, terms-passed, standard, at-most, over, tested}
-use Rattle.polynomials.specs.Packed.{terms}
 use Rattle.polynomials.specs.Working.{Written, Forms}
 use Rattle.polynomials.specs.declared.Formed.the-variants.{Words, OverTerms}
 use Rattle.gathering.specs.Gathers.{room-for, Gathers}
@@ -35,7 +33,7 @@ over-terms-ended f need r a b x w e = go (over (at-most 256) (length f)) (subst 
 pub never-short : (f : Poly) (need : ℕ) (r : Gathered) (a b : List ℕ) → Gathers f need r a b → r ≡ ended.Short → need ≤ length a → need ≤ length b → ⊥
 never-short f need r a b w e ha hb = ⊎-elim (λ (h : length a < need). omega arith) (λ (h : length b < need). omega arith) (subst (λ r. Gathers f need r a b) e w)
 
--- ── what a buffer was formed in, and its copy ──
+-- ── what a buffer was formed in ──
 pub words-formed : (f : Poly) (n : ℕ) (a : List ℕ) → Forms (tested standard f) (Words n) a → Written f n a × (n ≤ 512)
 unfolding tested over
 words-formed f n a w = go (ltb 256 (length f)) (ltb-false 256 (length f)) w
@@ -43,32 +41,6 @@ words-formed f n a w = go (ltb 256 (length f)) (ltb-false 256 (length f)) w
     go : (b : Bool) → (b ≡ false → length f ≤ 256) → Forms (elim b [ true ↦ terms-passed | false ↦ within f ]) (Words n) a → Written f n a × (n ≤ 512)
     go true h w = absurd (let z : _≡_ {A = ℕ} 0 1 = cc in omega arith)
     go false h w = let q : 2 * length f ≡ n = cc in (subst (λ k. Written f k a) q (w .1), omega (arith, h refl))
-
--- The words copied to x.
-module _ (f : Poly) (n : ℕ) (a x : List ℕ) (w : Written f n a × (n ≤ 512)) (room : 512 ≤ length x) where
-  taken : length (take n a) ≡ n
-  taken = length-take-le n a (w .0 .within)
-
-  pub copy-asks : (0 ≤ length (take n a)) × (0 + (length (take n a) - 0) ≤ length x)
-  copy-asks = omega (arith, taken, w .1)
-
-  pub copied : (y : List ℕ) → y ≡ paste x 0 (drop 0 (take n a)) (length (take n a) - 0) → Written f n y
-  copied y e = record {
-    within = omega (arith, w .1, ap length (e ∙ same), length-paste x 0 (take n a) n (omega (arith, w .1)) (omega (arith, taken)));
-    pairs = w .0 .pairs;
-    holds =
-        ap (λ (k : ℕ). terms (take k y)) up ∙ ap (λ s. terms (take (0 + n) s)) (e ∙ same)
-        ∙ ap terms (take-paste x 0 (take n a) n (omega arith) (omega (arith, taken)) ∙ take-all n (take n a) (omega (arith, taken))) ∙ w .0 .holds;
-  }
-    where
-      up : n ≡ 0 + n
-      up = omega arith
-
-      count : length (take n a) - 0 ≡ n
-      count = omega (arith, taken)
-
-      same : paste x 0 (drop 0 (take n a)) (length (take n a) - 0) ≡ paste x 0 (take n a) n
-      same = ap (λ (k : ℕ). paste x 0 (take n a) k) count
 
 -- ── the longest buffers ──
 pub buffers-suffice : (f g : ℕ) → f ≤ 512 → g ≤ 512 → room-for f g ≤ 66816

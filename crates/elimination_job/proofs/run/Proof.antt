@@ -1,8 +1,8 @@
 -- The filled buffers keep their lengths, and the work area is left cleared.
 use borrow.Author.Needs.{needs}
-use Rattle.jobs.proofs.RunLaws.{headed, listed-after, cleared-after}
-use Rattle.jobs.proofs.run.Statement.{statement}
-use Rattle.jobs.proofs.run.Tie as tie
+use Rattle.elimination_job.proofs.RunLaws.{headed, listed-after, cleared-after}
+use Rattle.elimination_job.proofs.run.Statement.{statement}
+use Rattle.elimination_job.proofs.run.Tie as tie
 
 fill-requires : tie.Need-fill-requires
 fill-requires c κs = search needs

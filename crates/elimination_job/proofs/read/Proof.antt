@@ -1,8 +1,8 @@
 -- The counted words lie within the slice.
 use borrow.Author.Needs.{needs}
 use Rattle.input.proofs.InputLaws.{counted-within}
-use Rattle.jobs.proofs.read.Statement.{statement}
-use Rattle.jobs.proofs.read.Tie as tie
+use Rattle.elimination_job.proofs.read.Statement.{statement}
+use Rattle.elimination_job.proofs.read.Tie as tie
 
 slice-aggregate-fill : tie.Need-slice-aggregate-fill
 slice-aggregate-fill c = search needs

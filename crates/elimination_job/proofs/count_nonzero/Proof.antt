@@ -4,10 +4,10 @@ use Prim.Native.Nat.{ℕ, _+_, _-_, _≤_}
 use native.Mathlib.Omega.{arith}
 use borrow.Author.Needs.{needs}
 use lib.ListN.{length, drop}
-use Rattle.jobs.specs.Heading.{nonzero}
-use Rattle.jobs.proofs.HeadingLaws.{none-counted, counted-zero, counted-more}
-use Rattle.jobs.proofs.count_nonzero.Statement.{statement}
-use Rattle.jobs.proofs.count_nonzero.Tie as tie
+use Rattle.elimination_job.specs.Heading.{nonzero}
+use Rattle.elimination_job.proofs.HeadingLaws.{none-counted, counted-zero, counted-more}
+use Rattle.elimination_job.proofs.count_nonzero.Statement.{statement}
+use Rattle.elimination_job.proofs.count_nonzero.Tie as tie
 
 abbrev Inv-loop : tie.InvT-loop
 Inv-loop words count₀ i₀ count i = (i ≤ length words) × (count + i ≤ length words) × (count ≡ nonzero (drop i words))

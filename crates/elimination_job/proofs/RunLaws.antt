@@ -6,8 +6,8 @@ use lib.ListN.{length, replicate, length-replicate}
 use Rattle.rules.specs.Eliminate.{eliminated, output-after}
 use Rattle.run.specs.declared.Answer.{Answer}
 use Rattle.delivery.specs.Answer.{answer-of}
-use Rattle.jobs.specs.declared.Heading.{Heading}
-use Rattle.jobs.specs.Heading.{nonzero, heading-of}
+use Rattle.elimination_job.specs.declared.Heading.{Heading}
+use Rattle.elimination_job.specs.Heading.{nonzero, heading-of}
 
 -- A cleared work area.
 cleared : (n : ℕ) → nonzero (replicate n 0) ≡ 0

@@ -1,8 +1,8 @@
 -- The line is the one that `print_line` adds.
 use native.Mathlib.Omega.{arith}
 use borrow.Author.Needs.{needs}
-use Rattle.jobs.proofs.print.Statement.{statement}
-use Rattle.jobs.proofs.print.Tie as tie
+use Rattle.elimination_job.proofs.print.Statement.{statement}
+use Rattle.elimination_job.proofs.print.Tie as tie
 
 slice-aggregate-print-line : tie.Need-slice-aggregate-print-line
 slice-aggregate-print-line c = search needs

@@ -1,12 +1,13 @@
--- `products::gather_apart` meets its contract: what `gather` forms in a local buffer is copied.
+-- `gather_apart` meets its contract: what `gather` forms in a local buffer is copied.
 use mathlib.Core.Path.{sym}
 use native.Mathlib.Omega.{arith}
 use borrow.Author.Needs.{needs}
 use lib.Seq.{length-take-le}
 use Rattle.sums.proofs.MergeLaws.{within-terms-formed}
-use Rattle.gathered.proofs.EndedLaws.{words-ended, over-terms-ended, words-formed, copy-asks, copied}
-use Rattle.gathered.proofs.gather_apart.Statement.{statement}
-use Rattle.gathered.proofs.gather_apart.Tie as tie
+use Rattle.gathering_apart.proofs.EndedLaws.{words-ended, over-terms-ended, words-formed}
+use Rattle.polynomials.proofs.CopyLaws.{copy-asks, copied}
+use Rattle.gathering_apart.proofs.gather_apart.Statement.{statement}
+use Rattle.gathering_apart.proofs.gather_apart.Tie as tie
 
 -- ── the places ──
 abbrev entry : tie.After-gather → tie.Start

@@ -1,8 +1,8 @@
 -- Each arm returns the line of its outcome.
 use borrow.Author.Needs.{needs}
-use Rattle.jobs.proofs.HeadingLaws.{heading-systems, heading-refused}
-use Rattle.jobs.proofs.head_of.Statement.{statement}
-use Rattle.jobs.proofs.head_of.Tie as tie
+use Rattle.elimination_job.proofs.HeadingLaws.{heading-systems, heading-refused}
+use Rattle.elimination_job.proofs.head_of.Statement.{statement}
+use Rattle.elimination_job.proofs.head_of.Tie as tie
 
 enum-known-outcome : tie.Need-enum-known-outcome
 enum-known-outcome c = search needs

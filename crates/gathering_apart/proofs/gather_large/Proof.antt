@@ -1,13 +1,14 @@
--- `products::gather_large` meets its contract: what `gather` forms in a local buffer is copied. 66,816 words suffice for any two factors.
+-- `gather_large` meets its contract: what `gather` forms in a local buffer is copied. 66,816 words suffice for any two factors.
 use mathlib.Core.Path.{_≡_, sym, _∙_, subst}
 use Prim.Native.Nat.{ℕ, _≤_}
 use lib.ListN.{length, replicate, length-replicate}
 use native.Mathlib.Omega.{arith}
 use lib.Seq.{length-take-le}
 use Rattle.sums.proofs.MergeLaws.{within-terms-formed}
-use Rattle.gathered.proofs.EndedLaws.{buffers-suffice, never-short, words-ended, over-terms-ended, words-formed, copy-asks, copied}
-use Rattle.gathered.proofs.gather_large.Statement.{statement}
-use Rattle.gathered.proofs.gather_large.Tie as tie
+use Rattle.gathering_apart.proofs.EndedLaws.{buffers-suffice, never-short, words-ended, over-terms-ended, words-formed}
+use Rattle.polynomials.proofs.CopyLaws.{copy-asks, copied}
+use Rattle.gathering_apart.proofs.gather_large.Statement.{statement}
+use Rattle.gathering_apart.proofs.gather_large.Tie as tie
 
 -- ── the places ──
 abbrev entry : tie.After-gather → tie.Start

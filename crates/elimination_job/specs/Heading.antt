@@ -7,9 +7,9 @@ use lib.ListN.{length}
 use Rattle.run.specs.declared.Answer.{Answer}
 use Rattle.run.specs.declared.Outcome.{Outcome}
 use Rattle.elimination.specs.Numbers.{outcome-numbers}
-use Rattle.jobs.specs.declared.Heading.{Heading}
-use Rattle.jobs.specs.declared.Job.{Job}
-use Rattle.jobs.specs.declared.Job.the-variants.{Next, End}
+use Rattle.elimination_job.specs.declared.Heading.{Heading}
+use Rattle.elimination_job.specs.declared.Job.{Job}
+use Rattle.elimination_job.specs.declared.Job.the-variants.{Next, End}
 
 -- How many words are not zero.
 unfoldable pub nonzero : List ℕ → ℕ

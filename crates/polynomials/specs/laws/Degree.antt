@@ -209,7 +209,8 @@ module _ (p : ℕ) (h : 1 ≤ p) (k : ℕ) where
   round-lowers d G R 1≤d dG dR =
       low-degree (degree k R) (round p k d G R) (omega arith)
       (low (degree k R) (round p k d G R) (canonical-difference p _ _ h (canonical-product p _ R h))
-      (λ w u. weigh-difference 𝓕 p (cast-modulus p h) h w _ _ ∙ ap (λ y. y ⊕ ⊖ weigh 𝓕 w (product p (factor k d R) G)) (top-cancels d (degree k R) 1≤d dR G R dG (le-refl (degree k R)) w u) ∙ add-neg 𝓕 _))
+      (λ w u. weigh-difference 𝓕 p (cast-modulus p h) h w _ _
+      ∙ ap (λ y. y ⊕ ⊖ weigh 𝓕 w (product p (factor k d R) G)) (top-cancels d (degree k R) 1≤d dR G R dG (le-refl (degree k R)) w u) ∙ add-neg 𝓕 _))
 
   -- With as many rounds allowed as the degree, and one more, the remainder is below d.
   pub remainder-low : (d : ℕ) (G : Poly) → 1 ≤ d → degree k G ≤ d → (n : ℕ) (R : Poly) → degree k R < n → degree k (remainder p k d G n R) < d

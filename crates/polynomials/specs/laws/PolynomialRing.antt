@@ -131,7 +131,8 @@ module _ (p : ℕ) (h : 1 ≤ p) where
 
   w-product-canon : (w : Exponents → Fin p) (f g : Poly) → weigh 𝓕 w (product p (canon f .0) (canon g .0)) ≡ weigh 𝓕 w (product p f g)
   w-product-canon w f g =
-      weigh-product 𝓕 p (cast-modulus p h) w _ _ ∙ ap (λ u. weigh 𝓕 u (canon f .0)) (fun-ext (λ a. weigh-canon (λ b. w (join a b)) g)) ∙ weigh-canon _ f ∙ sym (weigh-product 𝓕 p (cast-modulus p h) w f g)
+      weigh-product 𝓕 p (cast-modulus p h) w _ _ ∙ ap (λ u. weigh 𝓕 u (canon f .0)) (fun-ext (λ a. weigh-canon (λ b. w (join a b)) g))
+      ∙ weigh-canon _ f ∙ sym (weigh-product 𝓕 p (cast-modulus p h) w f g)
 
   unfoldable pub Polynomials : CommRing Canon
   Polynomials = record {

@@ -168,7 +168,9 @@ module _ (l : Limits) (p : ℕ) (prime : Prime p) where
   ]
     where
       dropped : leader (f .poly) ≡ 0 → ⊥
-      dropped e = subst T (or-false-both (some-one (b .P)) (some-zero (b .Q)) (v .not-dropped) .0) (some-one-at (f .place) (f .poly) (b .P) (v .stands) (constant-is-one p 8 (f .poly) (s .0) (s .1) m e))
+      dropped e =
+          subst T (or-false-both (some-one (b .P)) (some-zero (b .Q)) (v .not-dropped) .0)
+          (some-one-at (f .place) (f .poly) (b .P) (v .stands) (constant-is-one p 8 (f .poly) (s .0) (s .1) m e))
 
   step-rises : (b : Branch) (waiting : List Branch) (listed : List System) (s : State) → Taken l p b waiting listed s → Of-branch (Sound p) b →
       Rises b → Each Rises waiting → Each (λ s. Rising 0 (s .T)) listed → Each Rises (s .branches) × Each (λ s. Rising 0 (s .T)) (s .systems)

@@ -2,7 +2,6 @@
 use Prim.Native.Nat.{ℕ, _+_, _*_, _/_, _<_, min}
 use mathlib.Core.Logic.{_⊎_}
 use mathlib.Core.List.{List}
-use lib.ListN.{length}
 use Rattle.polynomials.specs.Poly.{Poly}
 use Rattle.polynomials.specs.Bounds.{standard, tested}
 use Rattle.polynomials.specs.Working.{Forms}
@@ -14,8 +13,8 @@ use Rattle.gathering.specs.declared.Gathered.the-variants.{Words, OverTe
 abbrev pub room-for : ℕ → ℕ → ℕ
 room-for a b = min (a * b / 2) (a * b / 4 + 2 * b + 256)
 
--- In x and z the product f was formed or refused as its test says; too short is said only where a buffer has fewer than `need` words.
-abbrev pub Gathers : Poly → ℕ → Gathered → List ℕ → List ℕ → Type 0
-Gathers f need (Words n) x z = Forms (tested standard f) (formed.Words n) x
-Gathers f need OverTerms x z = Forms (tested standard f) formed.OverTerms x
-Gathers f need Short x z = (length x < need) ⊎ (length z < need)
+-- In x the product f was formed or refused as its test says; too short is said only where a buffer, of m and of n words, has fewer than `need`.
+abbrev pub Gathers : Poly → ℕ → Gathered → List ℕ → ℕ → ℕ → Type 0
+Gathers f need (Words k) x m n = Forms (tested standard f) (formed.Words k) x
+Gathers f need OverTerms x m n = Forms (tested standard f) formed.OverTerms x
+Gathers f need Short x m n = (m < need) ⊎ (n < need)

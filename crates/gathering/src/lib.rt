@@ -27,7 +27,7 @@ pub fn gather(p: u64, f: &[u64], g: &[u64], x: &mut [u64], z: &mut [u64]) -> Gat
     requires { ⌜ Holds p (now f) × (0 < length (now f)) ⌝ }
     requires { ⌜ Holds p (now g) × (degrees-over (at-most 255) (terms (now f)) (terms (now g)) ≡ false) ⌝ }
     requires { ⌜ length (now g) ≤ length (now x) ⌝ }
-    ensures { λ r. ⌜ Gathers (product p (terms (now (f .entry))) (terms (now (g .entry)))) (room-for (length (now (f .entry))) (length (now (g .entry)))) r (now (x .exit)) (now (z .exit)) ⌝ }
+    ensures { λ r. ⌜ Gathers (product p (terms (now (f .entry))) (terms (now (g .entry)))) (room-for (length (now (f .entry))) (length (now (g .entry)))) r (now (x .exit)) (length (now (x .entry))) (length (now (z .entry))) ⌝ }
 {
     let mut i = f.len();
     let mut n = 0;

@@ -1,6 +1,6 @@
 -- What the code of `products` plugs its places into: the buffers lent, the single row, the factors exchanged, and the tested product.
 use mathlib.Core.Path.{_≡_, refl, sym, _∙_, ap, subst}
-use mathlib.Core.Logic.{_≢_, ⊎-elim}
+use mathlib.Core.Logic.{_≢_, _⊎_, ⊎-elim}
 use mathlib.Core.List.{List, [], _∷_}
 use mathlib.Core.Bool.{Bool, true, false}
 use Prim.Native.Nat.{ℕ, _≤_, _<_}
@@ -13,9 +13,7 @@ use Rattle.polynomials.specs.Packed.{terms}
 use Rattle.polynomials.specs.Working.{Holds, Written, Forms}
 use Rattle.polynomials.specs.declared.Formed.{Formed}
 use Rattle.polynomials.specs.declared.Formed.the-variants.{Words, OverDegree}
-use Rattle.gathering.specs.Gathers.{room-for, Gathers}
-use Rattle.gathering.specs.declared.Gathered.{Gathered}
-use Rattle.gathering.specs.declared.Gathered.the-variants as ended
+use Rattle.gathering.specs.Gathers.{room-for}
 use Rattle.products.specs.Lent.{lent-for-product}
 use Rattle.sums.proofs.MergeLaws.{within-terms-formed}
 use Rattle.gathering.proofs.GatherLaws.{Factors, Place, Adds, row, asks-row, rows-none, rows-with, few-with}
@@ -31,9 +29,8 @@ module _ (a b : ℕ) where
   row-lent x h k l = omega (arith, mul-le-mul-right b h)
 
   -- Buffers too short for the gathering have 1,024 words.
-  pub short-lent : (f : Poly) (r : Gathered) (x z : List ℕ) → Gathers f (room-for a b) r x z → r ≡ ended.Short
-      → (lent-for-product a b ≤ length x) × (lent-for-product a b ≤ length z) → 512 ≤ length x
-  short-lent f r x z w e l = ⊎-elim (λ (h : length x < room-for a b). omega (arith, l)) (λ (h : length z < room-for a b). omega (arith, l)) (subst (λ r. Gathers f (room-for a b) r x z) e w)
+  pub short-lent : (m n : ℕ) → (m < room-for a b) ⊎ (n < room-for a b) → (lent-for-product a b ≤ m) × (lent-for-product a b ≤ n) → 512 ≤ m
+  short-lent m n short l = ⊎-elim (λ (h : m < room-for a b). omega (arith, l)) (λ (h : n < room-for a b). omega (arith, l)) short
 
 -- ── a single row is the product ──
 module _ (p : ℕ) (f g : List ℕ) {D : Type 0} (asked : Factors p f g D) (single : length f ≡ 2) where

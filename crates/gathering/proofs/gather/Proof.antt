@@ -116,7 +116,7 @@ same-length-2 c = search needs
 returns : tie.Need-returns Inv-loop μ-loop
 returns c =
     let t = c .before .before .before in
-    inr (no-room _ _ _ (entry t .pre) _ _ _ _ _ _ (t .before .loop .inv) (t .loop-test .taken) _ (omega (arith, c .if2 .taken)))
+    inr (no-room _ _ _ (entry t .pre) _ _ _ _ _ _ (t .before .loop .inv) (t .loop-test .taken) _ (omega (arith, c .if2 .taken, t .before .loop .inv .same-z)))
 
 add-add-multiple-2 : tie.Need-add-add-multiple-2 Inv-loop μ-loop
 add-add-multiple-2 c = search needs
@@ -161,7 +161,7 @@ returns-2 : tie.Need-returns-2 Inv-loop μ-loop
 returns-2 c =
     let u = c .before .before .before in
     let t = turn u in
-    inl (no-room _ _ _ (entry t .pre) _ _ _ _ _ _ (t .before .loop .inv) (t .loop-test .taken) _ (omega (arith, c .if3 .taken, upper-few u)))
+    inl (no-room _ _ _ (entry t .pre) _ _ _ _ _ _ (t .before .loop .inv) (t .loop-test .taken) _ (omega (arith, c .if3 .taken, upper-few u, same-x t)))
 
 mul-add-multiple-5 : tie.Need-mul-add-multiple-5 Inv-loop μ-loop
 mul-add-multiple-5 c = search needs

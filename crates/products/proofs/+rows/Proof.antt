@@ -9,7 +9,7 @@ use borrow.Fn.Kinds.{In}
 use borrow.Fn.PlainCycle.{Measures, is, falls, and}
 use Rattle.polynomials.specs.laws.Product.{degrees-over-comm}
 use Rattle.products.proofs.ProductLaws.{exchanged, lent-exchanged, row-lent, short-lent, single-asks, single-formed}
-use Rattle.gathering_apart.proofs.EndedLaws.{words-ended, over-terms-ended}
+use Rattle.gathering_apart.proofs.EndedLaws.{words-ended, over-terms-ended, short-ended}
 use Rattle.products.proofs.rows.Reads as rows
 use Rattle.products.proofs.rows.Kinds as rows-kinds
 use Rattle.products.proofs.+rows.Lts-rows as rows-lts
@@ -112,7 +112,7 @@ rows-gather-apart-requires : (t : ℕ) → rows-lts.Need-gather-apart-requires (
 rows-gather-apart-requires t c κs =
     let asked = c .before .before .before .before .before .before .before .before .before .before .before .before .before .before .before .before .pre .1 in
     let g = c .before .before .before .before .before .before .before .gather in
-    (asked .0, (asked .1 .0, (asked .1 .1 .0, short-lent _ _ _ _ _ _ (g .ensures) (c .before .enum-told2 .given .1) (omega (arith, asked .1 .1 .1 .1, g .kept)))))
+    (asked .0, (asked .1 .0, (asked .1 .1 .0, omega (arith, g .kept, short-lent _ _ _ _ (short-ended _ _ _ _ _ _ (g .ensures) (c .before .enum-told2 .given .1)) (asked .1 .1 .1 .1)))))
 
 rows-same-length-4 : (t : ℕ) → rows-lts.Need-same-length-4 (calls t) (rows-at t) rows.Post
 rows-same-length-4 t c = search needs
@@ -121,7 +121,7 @@ rows-same-length-5 : (t : ℕ) → rows-lts.Need-same-length-5 (calls t) (rows-a
 rows-same-length-5 t c = search needs
 
 rows-returns-3 : (t : ℕ) → rows-lts.Need-returns-3 (calls t) (rows-at t) rows.Post
-rows-returns-3 t c = words-ended _ _ _ _ _ _ (c .before .before .before .before .before .before .before .gather .ensures) (c .before .ended .given .1)
+rows-returns-3 t c = words-ended _ _ _ _ _ _ (c .before .before .before .before .before .before .before .gather .ensures) _ (c .before .ended .given .1)
 
 rows-same-length-6 : (t : ℕ) → rows-lts.Need-same-length-6 (calls t) (rows-at t) rows.Post
 rows-same-length-6 t c = search needs
@@ -130,7 +130,7 @@ rows-same-length-7 : (t : ℕ) → rows-lts.Need-same-length-7 (calls t) (rows-a
 rows-same-length-7 t c = search needs
 
 rows-returns-4 : (t : ℕ) → rows-lts.Need-returns-4 (calls t) (rows-at t) rows.Post
-rows-returns-4 t c = over-terms-ended _ _ _ _ _ _ (c .before .before .before .before .before .before .gather .ensures) (c .enum-told .given .1)
+rows-returns-4 t c = over-terms-ended _ _ _ _ _ _ (c .before .before .before .before .before .before .gather .ensures) _ (c .enum-told .given .1)
 
 rows-same-length-8 : (t : ℕ) → rows-lts.Need-same-length-8 (calls t) (rows-at t) rows.Post
 rows-same-length-8 t c = search needs

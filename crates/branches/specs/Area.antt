@@ -10,7 +10,7 @@ use Prim.Native.Nat.{ℕ, _+_, _-_, _/_, _≤_, min}
 use lib.Dec.{leb}
 use lib.ListN.{length, getD, take, drop}
 use Rattle.residues.specs.Each.{Each}
-use Rattle.records.specs.Records.{Rec, record-of, view}
+use Rattle.records.specs.Records.{Rec, record-of, view, words-behind}
 use Rattle.stored.specs.Stored.{polys-records, Storable}
 use Rattle.branches.specs.Words.{put-P, put-Q-before, remove}
 
@@ -126,6 +126,10 @@ Held-in w a = Held (view w) (capacity w) a
 -- Some state with an open branch is held.
 abbrev pub Opened : List ℕ → Type 0
 Opened w = (b : Stored) × (bs : List Stored) × (ss : List Stored) × Held-in w (with-open b bs ss)
+
+-- What lies behind the records of a work area: whole records beyond 65,536, and at most three words.
+abbrev pub outside : List ℕ → List Rec × List ℕ
+outside w = (drop (capacity w) (view w), words-behind w)
 
 -- Φ, of the open branch, the waiting ones and the systems that the words hold.
 abbrev pub When-open : List ℕ → (Stored → List Stored → List Stored → Type 0) → Type 0

@@ -4,13 +4,14 @@ ghost use mathlib.Core.List.{[]};
 ghost use Prim.Native.Nat.{_<_};
 ghost use lib.ListN.{length, getD};
 ghost use Rattle.stored.specs.Stored.{Storable};
-ghost use Rattle.branches.specs.Area.{Opened, without-P, without-Q, closed, When-open, Open-becomes};
+ghost use Rattle.branches.specs.Area.{Opened, without-P, without-Q, closed, When-open, Open-becomes, outside};
 
 // Takes the member of P at place i out.
 pub fn remove_p(w: &mut [u32], i: usize)
     requires { ⌜ Opened (now w) ⌝ }
     requires { ⌜ When-open (now w) (λ b bs ss. i < length (b .P)) ⌝ }
     ensures { λ _. ⌜ Open-becomes (without-P i) (now (w .entry)) (now (w .exit)) ⌝ }
+    ensures { λ _. ⌜ outside (now (w .exit)) ≡ outside (now (w .entry)) ⌝ }
 {
     let at = records::get0(w, 0) as usize;
     let p = records::get0(w, at);
@@ -25,6 +26,7 @@ pub fn remove_q(w: &mut [u32], i: usize)
     requires { ⌜ Opened (now w) ⌝ }
     requires { ⌜ When-open (now w) (λ b bs ss. i < length (b .Q)) ⌝ }
     ensures { λ _. ⌜ Open-becomes (without-Q i) (now (w .entry)) (now (w .exit)) ⌝ }
+    ensures { λ _. ⌜ outside (now (w .exit)) ≡ outside (now (w .entry)) ⌝ }
 {
     let at = records::get0(w, 0) as usize;
     let p = records::get0(w, at);
@@ -40,6 +42,7 @@ pub fn close(w: &mut [u32], i: usize, f: &[u64])
     requires { ⌜ When-open (now w) (λ b bs ss. (i < length (b .P)) × (getD (b .P) i [] ≡ now f)) ⌝ }
     requires { ⌜ Storable (now f) ⌝ }
     ensures { λ _. ⌜ Open-becomes (closed i) (now (w .entry)) (now (w .exit)) ⌝ }
+    ensures { λ _. ⌜ outside (now (w .exit)) ≡ outside (now (w .entry)) ⌝ }
 {
     remove_p(w, i);
     let at = records::get0(w, 0) as usize;

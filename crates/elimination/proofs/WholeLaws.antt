@@ -1,9 +1,12 @@
 -- Elimination whole: a table refused in reading, a start that finds no room, and the run of a start that finds it.
 use mathlib.Core.Path.{_≡_, refl, sym, ap, subst}
+use mathlib.Core.Logic.{_⊎_, inl, inr}
 use mathlib.Core.Bool.{Bool, true, false}
-use mathlib.Core.List.{List}
-use Prim.Native.Nat.{ℕ}
+use mathlib.Core.List.{List, []}
+use Prim.Native.Nat.{ℕ, _≤_, _<_}
 use native.Mathlib.Omega.{arith}
+use borrow.Author.Tests.{leb-true, leb-false}
+use lib.Dec.{leb}
 use lib.ListN.{length}
 use Rattle.records.specs.Records.{Rec}
 use Rattle.tables.specs.Read.{Input}
@@ -11,14 +14,14 @@ use Rattle.tables.specs.declared.Reason.{Reason}
 use Rattle.tables.specs.declared.Reason.the-variants.{Room}
 use Rattle.rules.specs.Room.{Limits, State}
 use Rattle.rules.specs.Step.{Stepped, next, stopped}
-use Rattle.rules.specs.Run.{Ended, after-step, run, start, run-of}
+use Rattle.rules.specs.Run.{Ended, finished, refused, after-step, run, start, run-of}
 use Rattle.rules.specs.Eliminate.{delivered, limits-of}
-use Rattle.branches.specs.Area.{Area, Held, capacity}
+use Rattle.branches.specs.Area.{Area, Held, capacity, with-open}
 use Rattle.representation.specs.Represent.{state-of}
 use Rattle.run.specs.declared.Answer.{Answer}
 use Rattle.run.specs.declared.Outcome.the-variants.{Refused}
 use Rattle.representation.specs.Ready.{Ready, limits-in}
-use Rattle.run.specs.Stretch.{Ran}
+use Rattle.run.specs.Stretch.{Ran, Left}
 use Rattle.loading.specs.Started.{Started}
 use Rattle.delivery.specs.Delivered.{Delivered}
 use Rattle.loading.proofs.StartLaws.{limits-are}
@@ -31,6 +34,11 @@ not-started (next s) k p most v t room out x e =
 not-started (stopped why) k p most v t room out x e =
     record { answer = ap (λ (w : Reason). record { steps = 0; outcome = Refused w 0 }) (sym (x .1)); output = refl }
 
+-- What the work area holds then, if it has room for a state.
+not-started-holds : (s : Stepped) (p : ℕ) {most : ℕ} {r : Bool} {v : List Rec} → Started s p most r v → r ≡ false → 2 ≤ most → (a : Area) × Held v most a
+not-started-holds (next s) p x e h = let y = x .0 in absurd (let z : _≡_ {A = ℕ} 0 1 = cc in omega arith)
+not-started-holds (stopped why) p x e h = let d = x .2 h in (with-open (d .1 .stored) [] [], d .1 .held)
+
 held-first : (s : Stepped) {p most : ℕ} {r : Bool} {v : List Rec} → Started s p most r v → r ≡ true
     → (a : Area) × Held v most a × Ready p a × (s ≡ next (state-of a))
 held-first (next s) x e = let a = x .1 in (a .0, a .1, a .2, ap next (sym (a .3)))
@@ -41,6 +49,14 @@ module _ (t : Input) (most limit : ℕ) {r : Bool} (v : List Rec) (x : Started (
       → Delivered (delivered room t (run-of (limits-in most) limit t)) (record { steps = 0; outcome = Refused Room 0 }) out out
   unfolding run-of
   no-room room out e = not-started (start (limits-in most) t) (run (limits-in most) (t .modulus) limit 0) (t .modulus) most v t room out x e
+
+  -- Some state is held, or the work area is too short for one.
+  pub no-room-leaves : {A : Type 0} → r ≡ false → (most < 2 → A) → ((a : Area) × Held v most a) ⊎ A
+  no-room-leaves {A} e short = go (leb 2 most) (leb-true 2 most) (leb-false 2 most)
+    where
+      go : (b : Bool) → (b ≡ true → 2 ≤ most) → (b ≡ false → most < 2) → ((a : Area) × Held v most a) ⊎ A
+      go true h k = inl (not-started-holds (start (limits-in most) t) (t .modulus) x e (h refl))
+      go false h k = inr (short (k refl))
 
   -- The state that the run begins with, said of the room and the modulus that it is given.
   pub begins : {p most₁ : ℕ} → r ≡ true → t .modulus ≡ p → most₁ ≡ most → (a : Area) × Held v most₁ a × Ready p a
@@ -57,6 +73,11 @@ module _ (t : Input) (most limit : ℕ) {r : Bool} (v : List Rec) (x : Started (
       let there = subst (λ (n : ℕ). (a : Area) → Held v n a → Ready p a → Ran (run (limits-in n) p limit 0 (state-of a)) p (q .steps) (q .outcome) u n) m k in
       let here = subst (λ (n : ℕ). (a : Area) → Held v most a → Ready n a → Ran (run (limits-in most) n limit 0 (state-of a)) n (q .steps) (q .outcome) u most) (sym same) there in
       subst (λ (s : Stepped). Ran (after-step (run (limits-in most) (t .modulus) limit 0) 0 s) (t .modulus) (q .steps) (q .outcome) u most) (sym (a .3)) (here (a .0) (a .1) (a .2))
+
+-- What a run leaves, however it ends.
+pub left-holds : (E : Ended) (p : ℕ) {most : ℕ} {v : List Rec} → Left E p v most → (a : Area) × Held v most a
+left-holds (finished n ss) p l = (_, l .1)
+left-holds (refused n why) p l = l
 
 -- Said of the words of the work area.
 pub in-words : (w : List ℕ) (room limit : ℕ) (t : Input) {r : Answer} {before after : List ℕ}

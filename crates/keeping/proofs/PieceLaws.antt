@@ -5,7 +5,9 @@ use Prim.Native.Nat.{ℕ, _+_, _-_, _≤_}
 use native.Mathlib.Omega.{arith}
 use lib.ListN.{length, take, drop, length-append, length-drop}
 use lib.Seq.{take-all, take-at, drop-at, drop-append-add, paste, drop-drop}
-use Rattle.records.specs.Records.{Rec, room, moved}
+use Rattle.records.specs.Records.{Rec, room, view, Records-become, moved}
+use Rattle.branches.specs.Area.{capacity, outside}
+use Rattle.branches.proofs.OutsideLaws.{outside-stored, outside-moved}
 
 -- ── appending to a list of records, over free ones ──
 -- X is what was there, m what is appended so far, and the first k records of `after` are overwritten.
@@ -61,37 +63,52 @@ module _ {X after m : List Rec} {k : ℕ} {v : List Rec} {a : ℕ} (G : Grown X 
   }
 
 -- ── the pieces fit ──
--- The words w, as many as w₀ were, have the pieces up to record a, which is behind `end`; the next takes x records and the others `left`, below `top`.
+-- The words w, as many as w₀ were and with the same outside, have the pieces up to record a, which is behind `end`; the next takes x records and the others `left`,
+-- below `top`.
 pub record Reached (w₀ : List ℕ) (end top x left : ℕ) (w : List ℕ) (a : ℕ) : Type 0 where
   pub behind : end ≤ a
   pub fits : a + x + left ≤ top
-  pub inside : top ≤ room w₀
+  pub inside : top ≤ capacity w₀
   pub same : length w ≡ length w₀
+  pub stays : outside w ≡ outside w₀
 
 module _ {w₀ : List ℕ} {end top x left : ℕ} {w : List ℕ} {a : ℕ} (R : Reached w₀ end top x left w a) where
   -- There is room for the next piece.
   pub next-fits : a + x ≤ room w
-  next-fits = omega (arith, R)
+  next-fits = omega (arith, R .fits, R .inside, R .same)
+
+  next-inside : a + x ≤ capacity w
+  next-inside = omega (arith, R .fits, R .inside, R .same)
 
   pub next-small : top ≤ 65536 → a + x ≤ 65536
-  next-small h = omega (arith, R)
+  next-small h = omega (arith, R .fits)
 
   -- A piece that lies before `end` lies before the place that it is copied to.
   pub copied-up : {from : ℕ} → from ≤ end → from ≤ a
-  copied-up h = omega (arith, R)
+  copied-up h = omega (arith, R .behind)
 
--- It is there.
-pub reach : {w₀ : List ℕ} {end top x x₁ left : ℕ} {w w₁ : List ℕ} {a a₁ : ℕ} → Reached w₀ end top x (x₁ + left) w a → a₁ ≡ a + x → length w₁ ≡ length w
-    → Reached w₀ end top x₁ left w₁ a₁
-reach R e k = record { behind = omega (arith, R); fits = omega (arith, R); inside = R .inside; same = k ∙ R .same }
+  -- It is there: stored, or copied up. The next takes x₁, and the others `left₁`.
+  module _ {w₁ : List ℕ} {a₁ x₁ left₁ : ℕ} (same : length w₁ ≡ length w) (next : x₁ + left₁ ≤ left) where
+    reach : a₁ ≡ a + x → outside w₁ ≡ outside w → Reached w₀ end top x₁ left₁ w₁ a₁
+    reach e stays =
+        record {
+          behind = omega (arith, R .behind);
+          fits = omega (arith, R .fits);
+          inside = R .inside;
+          same = same ∙ R .same;
+          stays = stays ∙ R .stays;
+        }
 
-pub reach-last : {w₀ : List ℕ} {end top x x₁ : ℕ} {w w₁ : List ℕ} {a a₁ : ℕ} → Reached w₀ end top x x₁ w a → a₁ ≡ a + x → length w₁ ≡ length w
-    → Reached w₀ end top x₁ 0 w₁ a₁
-reach-last R e k = record { behind = omega (arith, R); fits = omega (arith, R); inside = R .inside; same = k ∙ R .same }
+    pub reach-stored : (s : List Rec) → length s ≡ x → (a₁ ≡ a + x) × Records-become (paste (view w) a s x) w w₁ → Reached w₀ end top x₁ left₁ w₁ a₁
+    reach-stored s l e = reach (e .0) (outside-stored w w₁ same a s x (omega (arith, l)) next-inside (e .1))
 
--- The first piece goes behind one record.
-pub first-fits : (w₀ w : List ℕ) (at end top front back xf x₃ xi x₄ : ℕ) → at + 1 ≤ front → front ≤ back → end ≤ top → top ≤ room w₀ → length w ≡ length w₀
-    → 1 + (back - (at + 1)) + xf + x₃ + xi + x₄ ≤ top - end → Reached w₀ end top (front - (at + 1)) (xf + ((back - front) + (x₃ + (xi + x₄)))) w (end + 1)
-first-fits w₀ w at end top front back xf x₃ xi x₄ h k l i s fits =
+    pub reach-copied : {from : ℕ} → from ≤ end → (a₁ ≡ a + x) × Records-become (moved (view w) from x a) w w₁ → Reached w₀ end top x₁ left₁ w₁ a₁
+    reach-copied {from} h e = reach (e .0) (outside-moved w w₁ same from x a (copied-up h) next-inside (e .1))
+
+-- The first piece goes behind one record, which is written.
+pub first-fits : (w₀ w : List ℕ) (at end top front back xf x₃ xi x₄ : ℕ) → at + 1 ≤ front → front ≤ back → end ≤ top → top ≤ capacity w₀ → length w ≡ length w₀
+    → 1 + (back - (at + 1)) + xf + x₃ + xi + x₄ ≤ top - end → outside w ≡ outside w₀
+    → Reached w₀ end top (front - (at + 1)) (xf + ((back - front) + (x₃ + (xi + x₄)))) w (end + 1)
+first-fits w₀ w at end top front back xf x₃ xi x₄ h k l i s fits stays =
     let e : (front - (at + 1)) + (back - front) ≡ back - (at + 1) = omega arith in
-    record { behind = omega arith; fits = omega arith; inside = i; same = s }
+    record { behind = omega arith; fits = omega arith; inside = i; same = s; stays = stays }

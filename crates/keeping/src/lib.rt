@@ -1,10 +1,11 @@
 // The branch that stays open at a split, built on top of the one set aside.
+ghost use mathlib.Core.Path.{_≡_};
 ghost use mathlib.Core.List.{_∷_};
 ghost use Prim.Native.Nat.{_≤_};
 ghost use lib.ListN.{length};
 ghost use Rattle.records.specs.Records.{view};
 ghost use Rattle.stored.specs.Stored.{Storable};
-ghost use Rattle.branches.specs.Area.{Leaves, Opened, capacity, with-open, kept-open, When-open};
+ghost use Rattle.branches.specs.Area.{Leaves, Opened, capacity, with-open, kept-open, When-open, outside};
 
 // Builds the branch that stays open on top of the one set aside, from its first n members of P with f put in at place i, its Q with the initial, and its T.
 // Whether there is room.
@@ -16,6 +17,7 @@ pub fn keep_open(w: &mut [u32], i: usize, n: usize, f: &[u64], initial: &[u64]) 
     ensures { λ r. ⌜ When-open (now (w .entry)) (λ c bs ss.
         Leaves (capacity (now (w .entry))) (with-open c bs ss) (with-open (kept-open i n (now (f .entry)) (now (initial .entry)) c) (c ∷ bs) ss)
         r (view (now (w .exit)))) ⌝ }
+    ensures { λ _. ⌜ outside (now (w .exit)) ≡ outside (now (w .entry)) ⌝ }
 {
     let at = records::get0(w, 0) as usize;
     let end = records::get1(w, 0) as usize;

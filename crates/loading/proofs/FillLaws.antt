@@ -76,11 +76,12 @@ alone-fits {c = c} x =
     omega (arith, x .held .fits, length-stack (b ∷ []))
 
 -- There is no room for more than there is no room for.
-pub filled-not : {p most : ℕ} {c d : Branch} {v u : List Rec} → Filled p most c false v → branch-size c ≤ branch-size d → Filled p most d false u
+pub filled-not : {p most : ℕ} {c d : Branch} {v : List Rec} → Filled p most c false v → branch-size c ≤ branch-size d → Filled p most d false v
 filled-not {most = most} {c = c} {d = d} x h =
     record {
       answer = sym (lt-leb (1 + branch-size d) most (omega (arith, leb-false (1 + branch-size c) most (sym (x .answer)))));
       alone = λ e. absurd (false≢true e);
+      otherwise = x .otherwise;
     }
 
 -- ── one polynomial put ──
@@ -123,6 +124,10 @@ module _ (p : ℕ) (s : List ℕ) (f : Poly) (sound : Sound p s) (is-monic : Mon
           nonzero = put-nonzero q b (x .nonzero);
           is = is;
         };
+        otherwise = λ t. (
+          c,
+          record { stored = b; held = l .otherwise t; sound = x .sound; monic = x .monic; nonzero = x .nonzero; is = x .is },
+        );
       }
 
 -- ── the loop ──
@@ -143,7 +148,7 @@ module _ (w : List ℕ) (p n : ℕ) (q : Bool) (most : ℕ) where
     put-end z =
         let is : l .done ≡ whole = sym (put-heads-none q p (l .done)) ∙ ap (λ (fs : List Poly). put-heads q p fs (l .done)) (sym (chain-end (l .chain) z)) ∙ l .same in
         let x : Alone p most whole v = subst (λ (c : Branch). Alone p most c v) is (l .alone) in
-        record { answer = sym (le-leb (1 + branch-size whole) most (alone-fits x)); alone = λ t. x }
+        record { answer = sym (le-leb (1 + branch-size whole) most (alone-fits x)); alone = λ t. x; otherwise = λ e. absurd (false≢true (sym e)) }
 
     module _ (more : i ≢ 0) where
       head : Member (l .chain)

@@ -59,7 +59,7 @@ module _ (t : Input) (most : ℕ) (v : List Rec) where
   pub start-none : (p : ℕ) → most < 2 → Started (start (limits-in most) t) p most false v
   unfolding over branch-size
   start-none p h =
-      by-test p false true (lt-ltb (most - 1) (live (first-state t)) (omega (arith, live-first t))) (refl, refl)
+      by-test p false true (lt-ltb (most - 1) (live (first-state t)) (omega (arith, live-first t))) (refl, refl, λ two. absurd (omega (arith, two, h)))
 
   started : (p : ℕ) (r : Bool) → 1 ≤ most → Filled p most (first-branch t) r v → Started (start (limits-in most) t) p most r v
   started p r h x = go (over (at-most (most - 1)) (live (first-state t))) refl
@@ -70,7 +70,7 @@ module _ (t : Input) (most : ℕ) (v : List Rec) where
           ∙ room-of-count most (live (first-state t)) (1 + branch-size (first-branch t)) h (ap (λ (n : ℕ). 1 + n) (sym (live-first t)))
 
       go : (b : Bool) → over (at-most (most - 1)) (live (first-state t)) ≡ b → Started (start (limits-in most) t) p most r v
-      go true e = by-test p r true e (answer ∙ ap not e, refl)
+      go true e = let no = answer ∙ ap not e in by-test p r true e (no, refl, λ two. x .otherwise no)
       go false e =
           let yes = answer ∙ ap not e in
           let a = x .alone yes in
@@ -86,7 +86,7 @@ module _ (t : Input) (most : ℕ) (v : List Rec) where
 
   module _ (p : ℕ) (modulus : t .modulus ≡ p) (some : 1 ≤ most) where
     -- P's chain finds no room.
-    pub start-fails : {u : List Rec} → Filled p most (with-zeros p t) false u → Started (start (limits-in most) t) (t .modulus) most false v
+    pub start-fails : Filled p most (with-zeros p t) false v → Started (start (limits-in most) t) (t .modulus) most false v
     start-fails x =
         subst (λ (n : ℕ). Started (start (limits-in most) t) n most false v) (sym modulus)
         (started p false some

@@ -44,12 +44,14 @@ pub record Alone (p most : ℕ) (c : Branch) (v : List Rec) : Type 0 where
   pub nonzero : Each (λ f. f ≢ []) (stored .P)
   pub is : branch-of stored ≡ c
 
--- The answer is whether there is room for the branch c and the control record; if so the work area holds c.
+-- The answer is whether there is room for the branch c and the control record; if so the work area holds c, and otherwise another branch alone:
+-- that of the polynomials put before.
 pub record Filled (p most : ℕ) (c : Branch) (r : Bool) (v : List Rec) : Type 0 where
   pub answer : r ≡ leb (1 + branch-size c) most
   pub alone : r ≡ true → Alone p most c v
+  pub otherwise : r ≡ false → (d : Branch) × Alone p most d v
 
--- The answer is whether the run starts; if so the work area holds its first state.
+-- The answer is whether the run starts; if so the work area holds its first state, and otherwise, given two records, a branch alone.
 abbrev pub Started : Stepped → ℕ → ℕ → Bool → List Rec → Type 0
 Started (next s) p most r v = (r ≡ true) × ((a : Area) × Held v most a × Ready p a × (state-of a ≡ s))
-Started (stopped why) p most r v = (r ≡ false) × (why ≡ Room)
+Started (stopped why) p most r v = (r ≡ false) × (why ≡ Room) × (2 ≤ most → (d : Branch) × Alone p most d v)

@@ -12,7 +12,7 @@ ghost use Rattle.tables.specs.Read.{Input, good, read-head, read-heads, read-ta
 ghost use Rattle.tables.specs.Walk.{Readable};
 ghost use Rattle.rules.specs.Branch.{Branch};
 ghost use Rattle.rules.specs.Run.{start};
-ghost use Rattle.branches.specs.Area.{Opened, Leaves, capacity, with-open, When-open};
+ghost use Rattle.branches.specs.Area.{Opened, Leaves, capacity, with-open, When-open, outside};
 ghost use Rattle.representation.specs.Ready.{limits-in};
 ghost use Rattle.loading.specs.Started.{Loaded, put-into, put-heads, Alone, Filled, Started};
 
@@ -50,6 +50,7 @@ fn put_one(work: &mut [u32], f: &[u64], in_q: bool) -> bool
     requires { ⌜ Storable (now f) ⌝ }
     ensures { λ r. ⌜ When-open (now (work .entry)) (λ b bs ss.
         Leaves (capacity (now (work .entry))) (with-open b bs ss) (with-open (put-into in_q (now (f .entry)) b) bs ss) r (view (now (work .exit)))) ⌝ }
+    ensures { λ _. ⌜ outside (now (work .exit)) ≡ outside (now (work .entry)) ⌝ }
 {
     if in_q {
         return puts::put_q(work, 0, f);
@@ -73,6 +74,7 @@ fn put_heads(
     ensures { λ q. ⌜ ((fs : List Poly) (c : Branch) → read-heads (now (table .entry)) p n (records (now (table .entry))) 0 first ≡ good fs
         → Alone p (capacity (now (work .entry))) c (view (now (work .entry)))
         → Filled p (capacity (now (work .entry))) (put-heads in_q p fs c) q (view (now (work .exit)))) ⌝ }
+    ensures { λ _. ⌜ outside (now (work .exit)) ≡ outside (now (work .entry)) ⌝ }
 {
     let mut i = first as usize;
     while i != 0 {
@@ -91,6 +93,8 @@ pub fn start(table: &[u32], work: &mut [u32], r: &mut [u64]) -> bool
     requires { ⌜ 512 ≤ length (now r) ⌝ }
     ensures { λ q. ⌜ ((t : Input) → read-table (now (table .entry)) ≡ good t
         → Started (start (limits-in (capacity (now (work .entry)))) t) (t .modulus) (capacity (now (work .entry))) q (view (now (work .exit)))) ⌝ }
+    ensures { λ _. ⌜ (capacity (now (work .entry)) < 2 → now (work .exit) ≡ now (work .entry)) ⌝ }
+    ensures { λ _. ⌜ outside (now (work .exit)) ≡ outside (now (work .entry)) ⌝ }
 {
     // Fewer than two records: no room for the control record and the branch's own.
     if work.len() < 8 {

@@ -6,7 +6,7 @@ ghost use Rattle.polynomials.specs.Poly.{monic};
 ghost use Rattle.polynomials.specs.Packed.{terms};
 ghost use Rattle.polynomials.specs.Working.{Holds};
 ghost use Rattle.records.specs.Records.{view};
-ghost use Rattle.branches.specs.Area.{Held, Leaves, Opened, capacity, with-open, When-open};
+ghost use Rattle.branches.specs.Area.{Held, Leaves, Opened, capacity, with-open, When-open, outside};
 ghost use Rattle.representation.specs.Represent.{Sound};
 ghost use Rattle.representation.specs.Ready.{Modulus};
 ghost use Rattle.members.specs.Members.{Has-left, Has-behind, next-member, taken-out, put-in};
@@ -29,6 +29,7 @@ pub fn take(w: &mut [u32], closing: bool, place: usize, left: usize, r: &mut [u6
         (n ≡ length (next-member closing place left b)) × (take n (now (r .exit)) ≡ next-member closing place left b)
         × Held (view (now (w .exit))) (capacity (now (w .entry))) (with-open (taken-out closing place left b) bs ss)) ⌝ }
     ensures { λ n. ⌜ drop n (now (r .exit)) ≡ drop n (now (r .entry)) ⌝ }
+    ensures { λ _. ⌜ outside (now (w .exit)) ≡ outside (now (w .entry)) ⌝ }
 {
     if closing {
         let j = count_q(w) - left;
@@ -50,6 +51,7 @@ pub fn put_back(w: &mut [u32], p: u64, closing: bool, left: usize, r: &mut [u64]
         × (drop n (now (r .exit)) ≡ drop n (now (r .entry))) ⌝ }
     ensures { λ k. ⌜ When-open (now (w .entry)) (λ b bs ss.
         Leaves (capacity (now (w .entry))) (with-open b bs ss) (with-open (put-in closing left (take n (now (r .exit))) b) bs ss) k (view (now (w .exit)))) ⌝ }
+    ensures { λ _. ⌜ outside (now (w .exit)) ≡ outside (now (w .entry)) ⌝ }
 {
     scaling::monic(p, &mut r[..n]);
     if closing {

@@ -10,7 +10,7 @@ ghost use Rattle.polynomials.specs.Division.{degree, leader, initial, rest};
 ghost use Rattle.records.specs.Records.{view};
 ghost use Rattle.stored.specs.Stored.{Storable, member};
 ghost use Rattle.branches.specs.Words.{is-one};
-ghost use Rattle.branches.specs.Area.{Held, Leaves, Opened, capacity, with-open, split-area, unfinished-split, When-open};
+ghost use Rattle.branches.specs.Area.{Held, Leaves, Opened, capacity, with-open, split-area, unfinished-split, When-open, outside};
 ghost use Rattle.rules.specs.Branch.{other};
 ghost use Rattle.heads.specs.Heads.{All-hold};
 ghost use Rattle.representation.specs.Represent.{Sound, branch-of};
@@ -38,6 +38,7 @@ pub fn prepare_division(w: &mut [u32], k: u32, place: usize, t: &[u64], initial:
     ensures { λ d. ⌜ When-open (now (w .entry)) (λ b bs ss.
         (d ≡ division-of (other k place (branch-of b .P)) k (degree k (terms (now (t .entry)))) (length (now (t .entry))) initial b)
         × Held (view (now (w .exit))) (capacity (now (w .entry))) (with-open (aimed (other k place (branch-of b .P)) place b) bs ss)) ⌝ }
+    ensures { λ _. ⌜ outside (now (w .exit)) ≡ outside (now (w .entry)) ⌝ }
 {
     let degree = degrees::degree(t, k);
     let pivot = t.len();
@@ -105,6 +106,7 @@ pub fn apply_split(
         Leaves (capacity (now (w .entry)))
         (unfinished-split (capacity (now (w .entry))) place (now (i .entry)) (rest-words (now (t .entry)) (now (i .entry)) (now (r .exit))) b bs ss)
         (split-area place (now (i .entry)) (rest-words (now (t .entry)) (now (i .entry)) (now (r .exit))) b bs ss) q (view (now (w .exit)))) ⌝ }
+    ensures { λ _. ⌜ outside (now (w .exit)) ≡ outside (now (w .entry)) ⌝ }
 {
     let m = i.len();
     let l = t.len() - m;

@@ -8,6 +8,7 @@ use borrow.Author.Tests.{le-leb, lt-leb}
 use mir.Syntax.{w32}
 use mir.Val.{Fits}
 use lib.ListN.{length, drop, getD, set, length-drop}
+use lib.Seq.{drop-set-lt}
 use Rattle.residues.specs.Each.{Each}
 use Rattle.residues.specs.laws.Each.{each-append}
 use Rattle.records.specs.Records.{Rec, record-of, zero-record}
@@ -16,6 +17,7 @@ use Rattle.stored.specs.laws.Stored.{length-le-polys-records}
 use Rattle.branches.specs.Area.{Stored, Held, Area, Leaves, size, with-open, stack, systems-records, Storable-branch}
 use Rattle.branches.proofs.AreaLaws.{Lies, lies, place, place-add, place-one, own-is, first-is, size-of, own-set, first-set, put-in, take-out}
 use Rattle.branches.proofs.AreaLaws.{freed, length-freed, all, at-of, end-of, end-is, own-of, own-read, control, room-is, held-again}
+use Rattle.branches.proofs.OutsideLaws.{drop-lies}
 use Rattle.branches.proofs.ControlLaws.{w0-is, w1-is, w2-is, Read, ends as control-ends, end-le-top, fits-free, over-free}
 use Rattle.places.specs.Places.{More, Counts, behind, resized}
 
@@ -97,6 +99,15 @@ module _ {v : List Rec} {most : ℕ} {b : Stored} {bs ss : List Stored} (H : Hel
     start-inside : getD v₁ 0 zero-record .w0 < most
     start-inside = omega (arith, ap (λ (r : Rec). r .w0) (first-is L), room-is H)
 
+    -- The records beyond stay when both records are written anew.
+    beyond-resized : place (at-of bs) fs + length free ≡ end-of b bs + length (H .free) → (end p q t : ℕ) → drop most (resized v₁ end p q t) ≡ drop most v
+    beyond-resized room end p q t =
+        let first : Rec = getD v₁ 0 zero-record in
+        let own : Rec = record-of p q t (getD v₁ (first .w0) zero-record .w3) in
+        let whole : place (at-of bs) fs + length free + length (systems-records ss) ≡ most = omega (arith, room, room-is H) in
+        drop-set-lt most (set v₁ (first .w0) own) 0 (record-of (first .w0) end (first .w2) (first .w3)) (omega (arith, start-inside))
+        ∙ drop-set-lt most v₁ (first .w0) own start-inside ∙ drop-lies (systems-records ss) L whole ∙ sym (drop-lies (systems-records ss) (lies H) (room-is H))
+
     held-resized : {b₁ : Stored} → all b₁ ≡ fs → end-of b₁ bs + length free ≡ end-of b bs + length (H .free) → Storable-branch b₁
         → {p q t : ℕ} → Counts p q t b₁ → {end : ℕ} → end ≡ end-of b₁ bs → {v₂ : List Rec} → v₂ ≡ resized v₁ end p q t → Held v₂ most (with-open b₁ bs ss)
     held-resized {b₁} s room h {p} {q} {t} n {end} e {v₂} put =
@@ -157,6 +168,19 @@ module _ {v : List Rec} {most : ℕ} {b : Stored} {bs ss : List Stored} (H : Hel
             held-resized into (m .more) (omega (arith, fits, length-drop (length f / 2 + 1) (H .free))) (storable-more m k (H .storable .0 .0)) n
             (omega (arith, ends)) e₂
 
+        pub beyond-put : (p q t : ℕ) → drop most (resized v₁ (end + (length f / 2 + 1)) p q t) ≡ drop most v
+        beyond-put =
+            beyond-resized into
+            (omega (
+              arith,
+              fits,
+              length-drop (length f / 2 + 1) (H .free),
+              place-one (at-of bs) xs f ys,
+              place-add (at-of bs) xs ys,
+              ap (place (at-of bs)) (m .less),
+            ))
+            (end + (length f / 2 + 1))
+
     -- ── f taken out ──
     module _ {a : Stored} {xs : List (List ℕ)} {f : List ℕ} {ys : List (List ℕ)} (m : More a b xs f ys) {from : ℕ} (there : from ≡ behind bs xs) where
       pub take-first : from < most
@@ -185,3 +209,15 @@ module _ {v : List Rec} {most : ℕ} {b : Stored} {bs ss : List Stored} (H : Hel
               let shrunk : end-of b bs ≡ end-of a bs + (length f / 2 + 1) = more-ends m bs in
               held-resized out (m .less) (omega (arith, length-freed (lies H) xs f ys (m .more))) (storable-less m (H .storable .0 .0)) c
               (omega (arith, ends, whole)) e₂
+
+          pub beyond-take : (p q t : ℕ) → drop most (resized v₁ (end - (n + 1)) p q t) ≡ drop most v
+          beyond-take =
+              beyond-resized out
+              (omega (
+                arith,
+                length-freed (lies H) xs f ys (m .more),
+                place-one (at-of bs) xs f ys,
+                place-add (at-of bs) xs ys,
+                ap (place (at-of bs)) (m .more),
+              ))
+              (end - (n + 1))

@@ -1,10 +1,11 @@
 // A polynomial put in among those of the open branch, or taken out, at a record that is known.
+ghost use mathlib.Core.Path.{_≡_};
 ghost use mathlib.Core.List.{List};
 ghost use Prim.Native.Nat.{_<_};
 ghost use lib.ListN.{getD};
 ghost use Rattle.records.specs.Records.{room, view, zero-record, Records-become};
 ghost use Rattle.stored.specs.Stored.{Storable};
-ghost use Rattle.branches.specs.Area.{Stored, Held, Leaves, capacity, with-open};
+ghost use Rattle.branches.specs.Area.{Stored, Held, Leaves, capacity, with-open, outside};
 ghost use Rattle.places.specs.Places.{Put-at, Take-at, Some-open, resized};
 
 // Puts f in at record `to`, so that P, Q and T have p, q and t members; whether there is room.
@@ -13,6 +14,7 @@ pub fn put_at(w: &mut [u32], to: usize, f: &[u64], p: u32, q: u32, t: u32) -> bo
     requires { ⌜ Some-open (Put-at (now w) to (now f) p q t) ⌝ }
     ensures { λ r. ⌜ ((c : Stored) (bs ss : List Stored) (put : Put-at (now (w .entry)) to (now (f .entry)) p q t c bs ss)
         → Leaves (capacity (now (w .entry))) (with-open (put .b) bs ss) (with-open c bs ss) r (view (now (w .exit)))) ⌝ }
+    ensures { λ _. ⌜ outside (now (w .exit)) ≡ outside (now (w .entry)) ⌝ }
 {
     let end = records::get1(w, 0) as usize;
     let top = records::get2(w, 0) as usize;
@@ -30,6 +32,7 @@ pub fn take_at(w: &mut [u32], from: usize, p: u32, q: u32, t: u32)
     requires { ⌜ Some-open (Take-at (now w) from p q t) ⌝ }
     ensures { λ _. ⌜ ((b : Stored) (bs ss : List Stored) → Take-at (now (w .entry)) from p q t b bs ss
         → Held (view (now (w .exit))) (capacity (now (w .entry))) (with-open b bs ss)) ⌝ }
+    ensures { λ _. ⌜ outside (now (w .exit)) ≡ outside (now (w .entry)) ⌝ }
 {
     let end = records::get1(w, 0) as usize;
     let n = records::get0(w, from) as usize + 1;

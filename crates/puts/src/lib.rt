@@ -1,9 +1,10 @@
 // A polynomial put into P or Q of the open branch.
+ghost use mathlib.Core.Path.{_≡_};
 ghost use Prim.Native.Nat.{_≤_};
 ghost use lib.ListN.{length};
 ghost use Rattle.records.specs.Records.{view};
 ghost use Rattle.stored.specs.Stored.{Storable};
-ghost use Rattle.branches.specs.Area.{Leaves, Opened, capacity, with-open, put-into-P, put-into-Q, When-open};
+ghost use Rattle.branches.specs.Area.{Leaves, Opened, capacity, with-open, put-into-P, put-into-Q, When-open, outside};
 
 // Puts f into P; whether there is room.
 pub fn put_p(w: &mut [u32], f: &[u64]) -> bool
@@ -11,6 +12,7 @@ pub fn put_p(w: &mut [u32], f: &[u64]) -> bool
     requires { ⌜ Storable (now f) ⌝ }
     ensures { λ r. ⌜ When-open (now (w .entry)) (λ b bs ss.
         Leaves (capacity (now (w .entry))) (with-open b bs ss) (with-open (put-into-P (now (f .entry)) b) bs ss) r (view (now (w .exit)))) ⌝ }
+    ensures { λ _. ⌜ outside (now (w .exit)) ≡ outside (now (w .entry)) ⌝ }
 {
     let at = records::get0(w, 0) as usize;
     let p = records::get0(w, at);
@@ -33,6 +35,7 @@ pub fn put_q(w: &mut [u32], left: usize, f: &[u64]) -> bool
     requires { ⌜ Storable (now f) ⌝ }
     ensures { λ r. ⌜ When-open (now (w .entry)) (λ b bs ss.
         Leaves (capacity (now (w .entry))) (with-open b bs ss) (with-open (put-into-Q left (now (f .entry)) b) bs ss) r (view (now (w .exit)))) ⌝ }
+    ensures { λ _. ⌜ outside (now (w .exit)) ≡ outside (now (w .entry)) ⌝ }
 {
     let at = records::get0(w, 0) as usize;
     let p = records::get0(w, at);

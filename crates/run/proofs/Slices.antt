@@ -1,11 +1,12 @@
 -- The slices that `run` is lent, as they are at one place of its code: the work area w, the pivot t, its initial i, the member divided r, and
--- x, y and z for products. They keep their lengths.
+-- x, y and z for products. They keep their lengths, and w what lies outside its records.
 use mathlib.Core.Path.{_≡_, refl, _∙_}
 use mathlib.Core.Bool.{Bool, true}
 use mathlib.Core.List.{List}
 use Prim.Native.Nat.{ℕ, _≤_, _<_}
 use native.Mathlib.Omega.{arith}
 use lib.ListN.{length}
+use Rattle.branches.specs.Area.{outside}
 
 pub record Slices : Type 0 where
   pub w : List ℕ
@@ -19,7 +20,7 @@ pub record Slices : Type 0 where
 abbrev pub slices : List ℕ → List ℕ → List ℕ → List ℕ → List ℕ → List ℕ → List ℕ → Slices
 slices w t i r x y z = record { w = w; t = t; i = i; r = r; x = x; y = y; z = z }
 
--- The slices b are as long as the slices a.
+-- The slices b are as long as the slices a, and the same lies outside the work area's records.
 pub record Kept (a b : Slices) : Type 0 where
   pub w : length (b .w) ≡ length (a .w)
   pub t : length (b .t) ≡ length (a .t)
@@ -28,9 +29,10 @@ pub record Kept (a b : Slices) : Type 0 where
   pub x : length (b .x) ≡ length (a .x)
   pub y : length (b .y) ≡ length (a .y)
   pub z : length (b .z) ≡ length (a .z)
+  pub out : outside (b .w) ≡ outside (a .w)
 
 pub kept-all : {a : Slices} → Kept a a
-kept-all = record { w = refl; t = refl; i = refl; r = refl; x = refl; y = refl; z = refl }
+kept-all = record { w = refl; t = refl; i = refl; r = refl; x = refl; y = refl; z = refl; out = refl }
 
 pub kept-then : {a b c : Slices} → Kept a b → Kept b c → Kept a c
 kept-then K L = record {
@@ -41,6 +43,7 @@ kept-then K L = record {
   x = L .x ∙ K .x;
   y = L .y ∙ K .y;
   z = L .z ∙ K .z;
+  out = L .out ∙ K .out;
 }
 
 -- What the run asks of the scratch: the initial of a pivot that fits t fits i, every member fits r, and what fits x fits r, y and z.

@@ -18,12 +18,12 @@ abbrev pub outcome-of : Ended → Outcome
 outcome-of (finished n ss) = Systems (length ss)
 outcome-of (refused n why) = Refused why 0
 
--- A finished run leaves its systems in the work area; a refused one leaves it free.
+-- A finished run leaves its systems in the work area; a refused one leaves some state.
 abbrev pub Left : Ended → ℕ → List Rec → ℕ → Type 0
 Left (finished n ss) p v most =
     (stored : List Stored) × Held v most (record { branches = []; systems = stored }) × Ready p (record { branches = []; systems = stored })
     × (reverse (map system-of stored) ≡ ss)
-Left (refused n why) p v most = Unit {0}
+Left (refused n why) p v most = (a : Area) × Held v most a
 
 -- A run that comes to `ended` has done so many steps, has this outcome, and leaves v in the work area.
 pub record Ran (ended : Ended) (p : ℕ) (n : ℕ) (o : Outcome) (v : List Rec) (most : ℕ) : Type 0 where

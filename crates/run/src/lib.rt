@@ -4,7 +4,7 @@ ghost use mathlib.Core.Logic.{_⊎_};
 ghost use Prim.Native.Nat.{_-_, _≤_, _<_};
 ghost use lib.ListN.{length};
 ghost use Rattle.records.specs.Records.{view};
-ghost use Rattle.branches.specs.Area.{Area, capacity, Held-in};
+ghost use Rattle.branches.specs.Area.{Area, capacity, Held-in, outside};
 ghost use Rattle.rules.specs.Run.{run};
 ghost use Rattle.representation.specs.Represent.{state-of};
 ghost use Rattle.representation.specs.Ready.{Ready, Modulus, limits-in};
@@ -60,6 +60,7 @@ pub fn run(
     ensures { λ q. ⌜ ((a : Area) → Held-in (now (w .entry)) a → Ready p a
         → Stretches (run (limits-in (capacity (now (w .entry)))) p (limit - from) from (state-of a)) p limit q (view (now (w .exit))) (capacity (now (w .entry)))) ⌝ }
     ensures { λ q. ⌜ (q .ending ≡ Paused → (length (now (t .entry)) < 512) ⊎ (length (now (x .entry)) < 1024)) ⌝ }
+    ensures { λ _. ⌜ outside (now (w .exit)) ≡ outside (now (w .entry)) ⌝ }
 {
     let mut steps: u32 = from;
     let mut crowded = false;

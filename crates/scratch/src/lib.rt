@@ -1,8 +1,9 @@
 // The run in scratch of its own: short for a small job, then long where the run pauses.
+ghost use mathlib.Core.Path.{_≡_};
 ghost use Prim.Native.Nat.{_-_, _≤_};
 ghost use lib.ListN.{length};
 ghost use Rattle.records.specs.Records.{view};
-ghost use Rattle.branches.specs.Area.{Area, capacity, Held-in};
+ghost use Rattle.branches.specs.Area.{Area, capacity, Held-in, outside};
 ghost use Rattle.rules.specs.Run.{run};
 ghost use Rattle.representation.specs.Represent.{state-of};
 ghost use Rattle.representation.specs.Ready.{Ready, Modulus, limits-in};
@@ -17,6 +18,7 @@ pub fn run_short(work: &mut [u32], p: u64, limit: u32, divided: &mut [u64]) -> A
     requires { ⌜ Modulus p × ((a : Area) × Held-in (now work) a × Ready p a) × (512 ≤ length (now divided)) ⌝ }
     ensures { λ q. ⌜ ((a : Area) → Held-in (now (work .entry)) a → Ready p a
         → Ran (run (limits-in (capacity (now (work .entry)))) p limit 0 (state-of a)) p (q .steps) (q .outcome) (view (now (work .exit))) (capacity (now (work .entry)))) ⌝ }
+    ensures { λ _. ⌜ outside (now (work .exit)) ≡ outside (now (work .entry)) ⌝ }
 {
     let mut pivot = [0u64; 32];
     let mut initial = [0u64; 32];
@@ -48,6 +50,7 @@ pub fn run_long(work: &mut [u32], p: u64, limit: u32, from: u32) -> Answer
     requires { ⌜ Modulus p × (from ≤ limit) × ((a : Area) × Held-in (now work) a × Ready p a) ⌝ }
     ensures { λ q. ⌜ ((a : Area) → Held-in (now (work .entry)) a → Ready p a
         → Ran (run (limits-in (capacity (now (work .entry)))) p (limit - from) from (state-of a)) p (q .steps) (q .outcome) (view (now (work .exit))) (capacity (now (work .entry)))) ⌝ }
+    ensures { λ _. ⌜ outside (now (work .exit)) ≡ outside (now (work .entry)) ⌝ }
 {
     let mut pivot = [0u64; 512];
     let mut initial = [0u64; 512];

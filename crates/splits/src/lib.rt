@@ -7,7 +7,7 @@ ghost use lib.ListN.{length, getD};
 ghost use Rattle.records.specs.Records.{view};
 ghost use Rattle.stored.specs.Stored.{member, Storable};
 ghost use Rattle.branches.specs.Words.{is-one};
-ghost use Rattle.branches.specs.Area.{Leaves, Opened, capacity, split-area, unfinished-split, When-open};
+ghost use Rattle.branches.specs.Area.{Leaves, Opened, capacity, split-area, unfinished-split, When-open, outside};
 
 // The initial goes into Q, and a branch is set aside with P without its member at place i, which is f, then the initial, then the rest; with Q as it
 // was; with T. Whether there is room. The open branch is made the one set aside, and the other is built on top of it; without room it stops on the way (`unfinished-split`).
@@ -21,6 +21,7 @@ pub fn split(w: &mut [u32], i: usize, f: &[u64], initial: &[u64], rest: &[u64]) 
     ensures { λ r. ⌜ When-open (now (w .entry)) (λ b bs ss.
         Leaves (capacity (now (w .entry))) (unfinished-split (capacity (now (w .entry))) i (now (initial .entry)) (now (rest .entry)) b bs ss)
         (split-area i (now (initial .entry)) (now (rest .entry)) b bs ss) r (view (now (w .exit)))) ⌝ }
+    ensures { λ _. ⌜ outside (now (w .exit)) ≡ outside (now (w .entry)) ⌝ }
 {
     let at = records::get0(w, 0) as usize;
     let p = records::get0(w, at) as usize;

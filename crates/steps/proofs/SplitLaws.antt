@@ -72,5 +72,5 @@ module _ (p k i : ℕ) (prime : Prime p) (b : Stored) (bs ss : List Stored) (R :
     pub split-next : q ≡ true → (a : Area) × (S ≡ next (state-of a)) × Held v most a × Ready p a
     split-next e = (split-area i ini rst b bs ss, splits ∙ ap if-so e, u .held e, ready-split)
 
-    pub split-stop : q ≡ false → S ≡ stopped Room
-    split-stop e = splits ∙ ap if-so e
+    pub split-stop : q ≡ false → (S ≡ stopped Room) × ((a : Area) × Held v most a)
+    split-stop e = (splits ∙ ap if-so e, (a₀, u .otherwise e))

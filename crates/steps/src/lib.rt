@@ -4,7 +4,7 @@ ghost use mathlib.Core.List.{List, map, reverse};
 ghost use Prim.Native.Nat.{_≤_, _<_};
 ghost use lib.ListN.{length};
 ghost use Rattle.records.specs.Records.{view};
-ghost use Rattle.branches.specs.Area.{Stored, capacity, with-open, Held-in, When-open};
+ghost use Rattle.branches.specs.Area.{Stored, capacity, with-open, Held-in, When-open, outside};
 ghost use Rattle.rules.specs.Rule.{rule-with};
 ghost use Rattle.rules.specs.Step.{apply, step};
 ghost use Rattle.representation.specs.Represent.{branch-of, system-of, chosen};
@@ -42,6 +42,7 @@ fn with_pivot(
         (apply (limits-in (capacity (now (w .entry)))) p (map branch-of bs) (reverse (map system-of ss)) (rule-with k (chosen b place) (branch-of b)) (branch-of b))
         q (now (t .exit)) (now (i .exit)) (view (now (w .exit))) (capacity (now (w .entry))) bs ss) ⌝ }
     ensures { λ q. ⌜ (q ≡ Crowded → (length (now (t .entry)) < 512) × (now (w .exit) ≡ now (w .entry))) ⌝ }
+    ensures { λ _. ⌜ outside (now (w .exit)) ≡ outside (now (w .entry)) ⌝ }
 {
     if t.len() < branches::words_p(w, place) {
         return Prepared::Crowded;
@@ -67,6 +68,7 @@ pub fn prepare(w: &mut [u32], p: u64, t: &mut [u64], i: &mut [u64], r: &mut [u64
         (step (limits-in (capacity (now (w .entry)))) p (branch-of b) (map branch-of bs) (reverse (map system-of ss)))
         q (now (t .exit)) (now (i .exit)) (view (now (w .exit))) (capacity (now (w .entry))) bs ss) ⌝ }
     ensures { λ q. ⌜ (q ≡ Crowded → (length (now (t .entry)) < 512) × (now (w .exit) ≡ now (w .entry))) ⌝ }
+    ensures { λ _. ⌜ outside (now (w .exit)) ≡ outside (now (w .entry)) ⌝ }
 {
     match survey::choose(w) {
         Choice::Drop => {

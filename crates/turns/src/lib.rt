@@ -3,12 +3,13 @@ ghost use mathlib.Core.Path.{_≡_};
 ghost use mathlib.Core.List.{[], _∷_};
 ghost use Prim.Native.Nat.{_≤_};
 ghost use Rattle.records.specs.Records.{view};
-ghost use Rattle.branches.specs.Area.{Area, Held, Opened, capacity, with-open, empty, has-branch, Held-in, When-open};
+ghost use Rattle.branches.specs.Area.{Area, Held, Opened, capacity, with-open, empty, has-branch, Held-in, When-open, outside};
 
 // An empty first branch, whatever the words were.
 pub fn begin(w: &mut [u32])
     requires { ⌜ 2 ≤ capacity (now w) ⌝ }
     ensures { λ _. ⌜ Held (view (now (w .exit))) (capacity (now (w .entry))) (with-open empty [] []) ⌝ }
+    ensures { λ _. ⌜ outside (now (w .exit)) ≡ outside (now (w .entry)) ⌝ }
 {
     let most = branches::count_records(w);
     records::write(w, 0, 1, 2, most as u32, 0);
@@ -28,6 +29,7 @@ pub fn drop(w: &mut [u32])
     requires { ⌜ Opened (now w) ⌝ }
     ensures { λ _. ⌜ When-open (now (w .entry)) (λ b bs ss.
         Held (view (now (w .exit))) (capacity (now (w .entry))) (record { branches = bs; systems = ss })) ⌝ }
+    ensures { λ _. ⌜ outside (now (w .exit)) ≡ outside (now (w .entry)) ⌝ }
 {
     let at = records::get0(w, 0) as usize;
     let under = records::get3(w, at);
@@ -41,6 +43,7 @@ pub fn list(w: &mut [u32])
     requires { ⌜ Opened (now w) ⌝ }
     ensures { λ _. ⌜ When-open (now (w .entry)) (λ b bs ss.
         Held (view (now (w .exit))) (capacity (now (w .entry))) (record { branches = bs; systems = b ∷ ss })) ⌝ }
+    ensures { λ _. ⌜ outside (now (w .exit)) ≡ outside (now (w .entry)) ⌝ }
 {
     let at = records::get0(w, 0) as usize;
     let end = records::get1(w, 0) as usize;

@@ -84,7 +84,7 @@ module _ {b : Stored} {bs ss : List Stored} where
   is-member m H = start m .pre .1 .0 b bs ss H
 
   after : (m : Removed) → Entry m b bs ss → Held-in (w m) (with-open (without-P (i m) b) bs ss)
-  after m H = held-by _ _ (start m .args .w .now) (w m) (sym (m .remove-p .kept .0)) (m .remove-p .ensures b bs ss H)
+  after m H = held-by _ _ (start m .args .w .now) (w m) (sym (m .remove-p .kept .0)) (m .remove-p .ensures .0 b bs ss H)
 
   end-P-is : (r : Reading) → let m = removed r in Entry m b bs ss → skip-to (view (w m)) (at r + 1) (p r) ≡ place (at-of bs) (remove (i m) (b .P))
   end-P-is r H = end-P (after (removed r) H) _ (at-read r .get0 .ensures) _ (p-read r .get02 .ensures)
@@ -175,13 +175,15 @@ same-length : tie.Need-same-length
 same-length c = search needs
 
 returns : tie.Need-returns
-returns c b bs ss H =
+returns c =
     let k = c .before .before in
     let g = k .before .before in
     let m = removed (from-gap g) in
-    let s = start m .args .w .now in
-    let fits = closed-fits b (i m) (is-member m H .0) (held-by _ _ s (w m) (sym (m .remove-p .kept .0)) H) in
-    held-by _ _ (w m) s (m .remove-p .kept .0) (held-left (k .put-at .ensures _ _ _ (put g H)) fits)
+    let s = start m .args .w .now in (
+      λ b bs ss H. let fits = closed-fits b (i m) (is-member m H .0) (held-by _ _ s (w m) (sym (m .remove-p .kept .0)) H) in
+          held-by _ _ (w m) s (m .remove-p .kept .0) (held-left (k .put-at .ensures .0 _ _ _ (put g H)) fits),
+      k .put-at .ensures .1 ∙ m .remove-p .ensures .1,
+    )
 
 pub close-spec : {M : Type 1} → statement M
 close-spec =

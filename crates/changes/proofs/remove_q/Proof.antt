@@ -140,7 +140,7 @@ same-length : tie.Need-same-length
 same-length c = search needs
 
 returns : tie.Need-returns
-returns c b bs ss H = let m = c .before .before in m .take-at .ensures _ _ _ (taken (m .before .before) H)
+returns c = let m = c .before .before in (λ b bs ss H. m .take-at .ensures .0 _ _ _ (taken (m .before .before) H), m .take-at .ensures .1)
 
 pub remove-q-spec : {M : Type 1} → statement M
 remove-q-spec =

@@ -99,7 +99,7 @@ returns-2 c =
     let k = call c in
     let m = k .before .before .before in
     let out = accepted-in m .args .output .now in
-    let d = k .eliminate-accepted .ensures (accepted m .0) (accepted m .1) in
+    let d = k .eliminate-accepted .ensures .0 (accepted m .0) (accepted m .1) in
     record {
       answer = d .answer ∙ sym (ap answer-of (is-delivered m));
       output-is = d .output ∙ sym (ap (λ (d : Eliminated). output-after d out) (is-delivered m));

@@ -1,6 +1,6 @@
 -- `eliminate_accepted` meets its contract: the start, the run from its state, and the run delivered. All is said in the room that there was at entry.
 use mathlib.Core.Path.{_≡_, sym, _∙_, subst}
-use mathlib.Core.Logic.{⊎-elim}
+use mathlib.Core.Logic.{inl, ⊎-elim}
 use mathlib.Core.Bool.{true}
 use mathlib.Core.List.{List}
 use Prim.Native.Nat.{ℕ, _/_, _≤_}
@@ -12,7 +12,7 @@ use Rattle.records.specs.Records.{view}
 use Rattle.tables.specs.Read.{Input, good, read-table}
 use Rattle.tables.specs.laws.Chains.{readable-words}
 use Rattle.rules.specs.Run.{Ended, start, run-of}
-use Rattle.branches.specs.Area.{Area, capacity, Held-in}
+use Rattle.branches.specs.Area.{Area, Held, capacity, outside, Held-in}
 use Rattle.branches.proofs.LengthLaws.{same-capacity}
 use Rattle.representation.specs.Ready.{Ready, Modulus, limits-in}
 use Rattle.run.specs.declared.Answer.{Answer}
@@ -21,7 +21,7 @@ use Rattle.loading.specs.Started.{Started}
 use Rattle.loading.proofs.MonicLaws.{readable-modulus}
 use Rattle.tables.specs.laws.Accepted.{TableRead, table-read}
 use Rattle.scratch.proofs.StretchLaws.{Runs, runs-from-0}
-use Rattle.elimination.proofs.WholeLaws.{no-room, begins, run-is, in-words}
+use Rattle.elimination.proofs.WholeLaws.{no-room, no-room-leaves, begins, run-is, left-holds, in-words}
 use Rattle.elimination.proofs.eliminate_accepted.Statement.{statement}
 use Rattle.elimination.proofs.eliminate_accepted.Tie as tie
 
@@ -57,7 +57,7 @@ module _ (m : tie.After-start) where
 
   begun : (t : Input) → read-table (entry .args .table .now) ≡ good t
       → Started (start (limits-in (most entry)) t) (t .modulus) (most entry) (m .start .result) (view area)
-  begun t e = m .start .ensures t e
+  begun t e = m .start .ensures .0 t e
 
 -- ── it found no room; or it found room ──
 abbrev no-room-in : tie.Then1 → tie.After-start
@@ -102,7 +102,8 @@ module _ (m : tie.Joined2) where
 
   -- What both calls tell.
   abbrev Has-run : Answer → List ℕ → Type 0
-  Has-run q v = (length v ≡ length (area from-start)) × Runs (modulus (run-due m)) (entry from-start .args .limit) (area from-start) q v
+  Has-run q v =
+      (length v ≡ length (area from-start)) × Runs (modulus (run-due m)) (entry from-start .args .limit) (area from-start) q v × (outside v ≡ outside (area from-start))
 
   same-answer : {q : Answer} {v : List ℕ} → left ≡ v → answer ≡ q → Has-run q v → Has-run answer left
   same-answer {q} {v} e f h = subst (Has-run answer) (sym e) (subst (λ (q : Answer). Has-run q v) (sym f) h)
@@ -110,8 +111,8 @@ module _ (m : tie.Joined2) where
   has-run : Has-run answer left
   has-run =
       ⊎-elim
-      (λ c. same-answer (c .7) (c .8) (c .3 .kept .0, c .3 .ensures))
-      (λ c. same-answer (c .5) (c .6) (c .2 .kept .0, runs-from-0 _ _ _ _ _ (c .2 .ensures)))
+      (λ c. same-answer (c .7) (c .8) (c .3 .kept .0, c .3 .ensures .0, c .3 .ensures .1))
+      (λ c. same-answer (c .5) (c .6) (c .2 .kept .0, runs-from-0 _ _ _ _ _ (c .2 .ensures .0), c .2 .ensures .1))
       (m .if2 .came)
 
   left-room : most (entry from-start) ≡ capacity left
@@ -136,11 +137,17 @@ same-length : tie.Need-same-length
 same-length c = search needs
 
 returns : tie.Need-returns
-returns c t e =
+returns c =
     let f = no-room-in c in
     let s = entry f in
-    in-words (s .args .work .now) (room s) (s .args .limit) t
-    (no-room t (most s) (s .args .limit) (view (area f)) (begun f t e) (room s) (s .args .output .now) (not-true (f .start .result) (c .if1 .taken)))
+    let none = not-true (f .start .result) (c .if1 .taken) in (
+      λ t e. in-words (s .args .work .now) (room s) (s .args .limit) t
+          (no-room t (most s) (s .args .limit) (view (area f)) (begun f t e) (room s) (s .args .output .now) none),
+      (
+        no-room-leaves (s .pre .0) (most s) (s .args .limit) (view (area f)) (begun f (s .pre .0) (s .pre .1)) none (f .start .ensures .1 .0),
+        f .start .ensures .1 .1,
+      ),
+    )
 
 shared-slice-read-p : tie.Need-shared-slice-read-p
 shared-slice-read-p c = omega (arith, header (entry (to-start (c .before))))
@@ -178,11 +185,17 @@ same-length-3 : tie.Need-same-length-3
 same-length-3 c = search needs
 
 returns-2 : tie.Need-returns-2
-returns-2 c t e =
+returns-2 c =
     let d = c .before .before in
     let n = delivers (d .before) in
     let s = entry (from-start n) in
-    in-words (s .args .work .now) (room s) (s .args .limit) t (d .deliver .ensures t (due s t) e (ran n t e))
+    let r = ran n (s .pre .0) (s .pre .1) in (
+      λ t e. in-words (s .args .work .now) (room s) (s .args .limit) t (d .deliver .ensures t (due s t) e (ran n t e)),
+      (
+        inl (subst (λ (k : ℕ). (a : Area) × Held (view (left n)) k a) (sym (left-room n)) (left-holds (due s (s .pre .0)) _ (r .left))),
+        has-run n .2 ∙ from-start n .start .ensures .1 .1,
+      ),
+    )
 
 pub eliminate-accepted-spec : {M : Type 1} → statement M
 eliminate-accepted-spec =

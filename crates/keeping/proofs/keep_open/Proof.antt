@@ -4,6 +4,7 @@ use mathlib.Core.Path.{refl, _∙_}
 use Prim.Native.Nat.{_-_}
 use native.Mathlib.Omega.{arith}
 use Rattle.records.specs.Records.{view}
+use Rattle.branches.proofs.OutsideLaws.{outside-set}
 use Rattle.keeping.proofs.KeptLaws.{no-room, kept}
 use Rattle.keeping.proofs.PieceLaws.{next-fits, next-small, copied-up}
 use borrow.Author.Needs.{needs}
@@ -106,8 +107,7 @@ same-length : tie.Need-same-length
 same-length c = refl
 
 returns : tie.Need-returns
-returns c b bs ss H =
-    let r = words (c .before) in no-room H (i r) (n r) (members r H) (f r) (initial r) (placed (c .before) H) (c .if1 .taken)
+returns c = let r = words (c .before) in (λ b bs ss H. no-room H (i r) (n r) (members r H) (f r) (initial r) (placed (c .before) H) (c .if1 .taken), refl)
 
 add-write : tie.Need-add-write
 add-write c = omega (arith, in-order (c .before .before))
@@ -170,7 +170,7 @@ append-block-requires-4 c κs =
     let m = c .before .before .before in (copied-up (after-5 m) (in-order (from-5 m) .end-of), next-fits (after-5 m))
 
 get3-requires : tie.Need-get3-requires
-get3-requires c κs = let m = c .before .before .before in omega (arith, in-order (from-6 m), same-words m)
+get3-requires c κs = let m = c .before .before .before in omega (arith, in-order (from-6 m), after-6 m .same)
 
 cast-write-3 : tie.Need-cast-write-3
 cast-write-3 c = omega (arith, in-order (from-6 (c .before .before .before .before .before)))
@@ -184,13 +184,13 @@ cast-write-5 : tie.Need-cast-write-5
 cast-write-5 c = omega (arith, in-order (from-6 (c .before .before .before .before .before)))
 
 write-requires-2 : tie.Need-write-requires-2
-write-requires-2 c κs = let m = c .before .before .before .before .before in omega (arith, in-order (from-6 m), same-words m)
+write-requires-2 c κs = let m = c .before .before .before .before .before in omega (arith, in-order (from-6 m), after-6 m .same)
 
 same-length-2 : tie.Need-same-length-2
-same-length-2 c = let k = c .before .before in k .write2 .kept .0 ∙ same-words (k .before .before .before .before .before .before)
+same-length-2 c = let k = c .before .before in k .write2 .kept .0 ∙ after-6 (k .before .before .before .before .before .before) .same
 
 returns-2 : tie.Need-returns-2
-returns-2 c b bs ss H =
+returns-2 c =
     let k = c .before .before in
     let m₆ = k .before .before .before .before .before .before in
     let m₅ = m₆ .before .before .before .before in
@@ -200,33 +200,37 @@ returns-2 c b bs ss H =
     let m₁ = m₂ .before .before .before .before in
     let o = m₁ .before .before .before .before in
     let p = from-own o in
-    let r = words p in
-    kept H (i r) (n r) (members r H) (f r) (initial r) (placed p H) (o .before .before .if1 .left) (start r .pre .1 .1 .0) (start r .pre .1 .1 .1)
-    (record {
-      v₁ = view (o .write .last .0);
-      own-put = o .write .ensures .0;
-      a₁ = m₁ .append-block .result;
-      v₂ = view (m₁ .append-block .last .0);
-      front-copied = (m₁ .append-block .ensures .0, m₁ .append-block .ensures .1 .0);
-      a₂ = m₂ .append .result;
-      v₃ = view (m₂ .append .last .0);
-      f-put = (m₂ .append .ensures .0, m₂ .append .ensures .1 .0);
-      a₃ = m₃ .append-block2 .result;
-      v₄ = view (m₃ .append-block2 .last .0);
-      back-copied = (m₃ .append-block2 .ensures .0, m₃ .append-block2 .ensures .1 .0);
-      a₄ = m₄ .append-block3 .result;
-      v₅ = view (m₄ .append-block3 .last .0);
-      Q-copied = (m₄ .append-block3 .ensures .0, m₄ .append-block3 .ensures .1 .0);
-      a₅ = m₅ .append2 .result;
-      v₆ = view (m₅ .append2 .last .0);
-      initial-put = (m₅ .append2 .ensures .0, m₅ .append2 .ensures .1 .0);
-      a₆ = m₆ .append-block4 .result;
-      v₇ = view (m₆ .append-block4 .last .0);
-      T-copied = (m₆ .append-block4 .ensures .0, m₆ .append-block4 .ensures .1 .0);
-      systems = k .before .before .get3 .result;
-      systems-word = k .before .before .get3 .ensures;
-      control-put = k .write2 .ensures .0;
-    })
+    let r = words p in (
+      λ b bs ss H. kept H (i r) (n r) (members r H) (f r) (initial r) (placed p H) (o .before .before .if1 .left) (start r .pre .1 .1 .0) (start r .pre .1 .1 .1)
+          (record {
+            v₁ = view (o .write .last .0);
+            own-put = o .write .ensures .0;
+            a₁ = m₁ .append-block .result;
+            v₂ = view (m₁ .append-block .last .0);
+            front-copied = (m₁ .append-block .ensures .0, m₁ .append-block .ensures .1 .0);
+            a₂ = m₂ .append .result;
+            v₃ = view (m₂ .append .last .0);
+            f-put = (m₂ .append .ensures .0, m₂ .append .ensures .1 .0);
+            a₃ = m₃ .append-block2 .result;
+            v₄ = view (m₃ .append-block2 .last .0);
+            back-copied = (m₃ .append-block2 .ensures .0, m₃ .append-block2 .ensures .1 .0);
+            a₄ = m₄ .append-block3 .result;
+            v₅ = view (m₄ .append-block3 .last .0);
+            Q-copied = (m₄ .append-block3 .ensures .0, m₄ .append-block3 .ensures .1 .0);
+            a₅ = m₅ .append2 .result;
+            v₆ = view (m₅ .append2 .last .0);
+            initial-put = (m₅ .append2 .ensures .0, m₅ .append2 .ensures .1 .0);
+            a₆ = m₆ .append-block4 .result;
+            v₇ = view (m₆ .append-block4 .last .0);
+            T-copied = (m₆ .append-block4 .ensures .0, m₆ .append-block4 .ensures .1 .0);
+            systems = k .before .before .get3 .result;
+            systems-word = k .before .before .get3 .ensures;
+            control-put = k .write2 .ensures .0;
+          }),
+      outside-set _ _ (k .write2 .kept .0) 0 _ (omega (arith, in-order p .top-of, after-6 m₆ .inside, after-6 m₆ .same, o .before .before .if1 .left))
+          (k .write2 .ensures .0, k .write2 .ensures .1)
+          ∙ after-6 m₆ .stays,
+    )
 
 pub keep-open-spec : {M : Type 1} → statement M
 keep-open-spec =

@@ -1,6 +1,6 @@
 -- `put_heads` meets its contract. The loop's invariant: the polynomials from index i on, put into the branch that the work area holds, make
 -- the whole branch. The measure is the count of records that index i can still reach.
-use mathlib.Core.Path.{_≡_, sym, _∙_, subst}
+use mathlib.Core.Path.{_≡_, refl, sym, _∙_, subst}
 use mathlib.Core.Bool.{Bool}
 use mathlib.Core.List.{List, []}
 use Prim.Native.Nat.{ℕ}
@@ -16,7 +16,7 @@ use Rattle.tables.specs.Read.{good, read-heads}
 use Rattle.tables.specs.laws.Linked.{left, Member, chain-next, chain-less}
 use Rattle.tables.specs.laws.Accepted.{some-record}
 use Rattle.rules.specs.Branch.{Branch}
-use Rattle.branches.specs.Area.{capacity, with-open, Held}
+use Rattle.branches.specs.Area.{capacity, outside, with-open, Held}
 use Rattle.branches.proofs.LengthLaws.{same-capacity}
 use Rattle.representation.specs.laws.Sounds.{sound-storable}
 use Rattle.loading.specs.Started.{Loaded, put-heads, Alone}
@@ -32,7 +32,7 @@ Left table p n first work₀ q work i =
 
 abbrev Inv-loop : tie.InvT-loop
 Inv-loop table p n first work₀ r₀ in-q i₀ work r i =
-    (length work ≡ length work₀) × (length r ≡ length r₀) × Left table p n first work₀ in-q work i
+    (length work ≡ length work₀) × (length r ≡ length r₀) × Left table p n first work₀ in-q work i × (outside work ≡ outside work₀)
 
 abbrev μ-loop : tie.MeasureT-loop
 μ-loop table p n first work₀ r₀ in-q i₀ work r i = left (records table) i
@@ -45,6 +45,7 @@ loop-holds c =
       omega arith,
       omega arith,
       λ fs b e x. put-first (a .table .now) (a .p) (a .n) (a .in-q) (capacity (a .work .now)) (a .first) (view (a .work .now)) fs b some e x,
+      refl,
     )
 
 -- In a turn: the start, and what is left to put, for the chain and the branch that the contract's `requires` tells of.
@@ -102,7 +103,7 @@ puts c =
     let a = start (d .before .before) .args in
     let l = d .before .before .before .loop in
     subst (λ (m : ℕ). Puts (view (l .work)) m (a .in-q) (take (d .load-monic .result) (words d)) (c .put-one .result) (view (c .put-one .last .0)))
-    (same-capacity (l .work) (a .work .now) (l .inv .0)) (c .put-one .ensures)
+    (same-capacity (l .work) (a .work .now) (l .inv .0)) (c .put-one .ensures .0)
 
 same-length : tie.Need-same-length Inv-loop μ-loop
 same-length c = search needs
@@ -111,13 +112,15 @@ same-length-2 : tie.Need-same-length-2 Inv-loop μ-loop
 same-length-2 c = search needs
 
 returns : tie.Need-returns Inv-loop μ-loop
-returns c fs b e x =
+returns c =
     let k = c .before .before .before in
     let d = k .before .before .before .before .before in
     let a = start (d .before .before) .args in
-    let l = d .before .before .before .loop in
-    put-fails (a .table .now) (a .p) (a .n) (a .in-q) (capacity (a .work .now)) (put-heads (a .in-q) (a .p) fs b) (l .i) (view (l .work)) (l .inv .2 fs b e x) (d .before .before .loop-test .taken)
-    (d .load-monic .result) (words d) (d .load-monic .ensures) (k .put-one .result) (view (k .put-one .last .0)) (puts k) (not-true (k .put-one .result) (c .if1 .taken))
+    let l = d .before .before .before .loop in (
+      λ fs b e x. put-fails (a .table .now) (a .p) (a .n) (a .in-q) (capacity (a .work .now)) (put-heads (a .in-q) (a .p) fs b) (l .i) (view (l .work)) (l .inv .2 fs b e x) (d .before .before .loop-test .taken)
+          (d .load-monic .result) (words d) (d .load-monic .ensures) (k .put-one .result) (view (k .put-one .last .0)) (puts k) (not-true (k .put-one .result) (c .if1 .taken)),
+      k .put-one .ensures .1 ∙ l .inv .3,
+    )
 
 word-requires : tie.Need-word-requires Inv-loop μ-loop
 word-requires c κs = (head (c .before .before .before .before .before .before .before .before .before .before) .inside, omega arith)
@@ -142,6 +145,7 @@ loop-again c =
           (put-next (a .table .now) (a .p) (a .n) (a .in-q) (capacity (a .work .now)) (put-heads (a .in-q) (a .p) fs b)
           (l .i) (view (l .work)) (l .inv .2 fs b e x) (d .before .before .loop-test .taken)
           (d .load-monic .result) (words d) (d .load-monic .ensures) (k .put-one .result) (view (k .put-one .last .0)) (puts k) (not-false (k .put-one .result) (c .before .if1 .left))),
+      k .put-one .ensures .1 ∙ l .inv .3,
     )
 
 same-length-3 : tie.Need-same-length-3 Inv-loop μ-loop
@@ -151,10 +155,12 @@ same-length-4 : tie.Need-same-length-4 Inv-loop μ-loop
 same-length-4 c = search needs
 
 returns-2 : tie.Need-returns-2 Inv-loop μ-loop
-returns-2 c fs b e x =
+returns-2 c =
     let a = c .before .before .before .before .before .args in
-    let l = c .before .loop in
-    put-end (a .table .now) (a .p) (a .n) (a .in-q) (capacity (a .work .now)) (put-heads (a .in-q) (a .p) fs b) (l .i) (view (l .work)) (l .inv .2 fs b e x) (c .loop-test .left)
+    let l = c .before .loop in (
+      λ fs b e x. put-end (a .table .now) (a .p) (a .n) (a .in-q) (capacity (a .work .now)) (put-heads (a .in-q) (a .p) fs b) (l .i) (view (l .work)) (l .inv .2 fs b e x) (c .loop-test .left),
+      l .inv .3,
+    )
 
 pub put-heads-spec : {M : Type 1} → statement M
 put-heads-spec =

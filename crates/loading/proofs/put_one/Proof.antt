@@ -18,8 +18,9 @@ returns : tie.Need-returns
 returns c =
     let a = c .before .before .before .before .before .before .before .args in
     let k = c .before .before in
-    subst (λ (q : Bool). Puts (view (a .work .now)) (capacity (a .work .now)) q (a .f .now) (k .put-q .result) (view (k .put-q .last .0)))
-    (sym (k .before .before .if1 .taken)) (k .put-q .ensures)
+    let puts = subst (λ (q : Bool). Puts (view (a .work .now)) (capacity (a .work .now)) q (a .f .now) (k .put-q .result) (view (k .put-q .last .0)))
+    (sym (k .before .before .if1 .taken)) (k .put-q .ensures .0) in
+    (puts, k .put-q .ensures .1)
 
 put-p-requires : tie.Need-put-p-requires
 put-p-requires c κs = search needs
@@ -31,8 +32,9 @@ returns-2 : tie.Need-returns-2
 returns-2 c =
     let a = c .before .before .before .before .before .before .before .args in
     let k = c .before .before in
-    subst (λ (q : Bool). Puts (view (a .work .now)) (capacity (a .work .now)) q (a .f .now) (k .put-p .result) (view (k .put-p .last .0)))
-    (sym (k .before .before .if1 .left)) (k .put-p .ensures)
+    let puts = subst (λ (q : Bool). Puts (view (a .work .now)) (capacity (a .work .now)) q (a .f .now) (k .put-p .result) (view (k .put-p .last .0)))
+    (sym (k .before .before .if1 .left)) (k .put-p .ensures .0) in
+    (puts, k .put-p .ensures .1)
 
 pub put-one-spec : {M : Type 1} → statement M
 put-one-spec =

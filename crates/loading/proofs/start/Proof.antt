@@ -1,5 +1,5 @@
 -- `start` meets its contract: an empty branch, then P's chain, then Q's. All is said in the room that there was at entry.
-use mathlib.Core.Path.{_≡_, sym, _∙_, subst}
+use mathlib.Core.Path.{_≡_, refl, sym, _∙_, subst}
 use mathlib.Core.Bool.{Bool, true}
 use mathlib.Core.List.{List}
 use Prim.Native.Nat.{ℕ, _≤_}
@@ -12,7 +12,7 @@ use Rattle.tables.specs.Words.{word}
 use Rattle.tables.specs.Read.{Input, good, read-table}
 use Rattle.tables.specs.laws.Chains.{readable-words}
 use Rattle.tables.specs.laws.Accepted.{TableRead, table-read}
-use Rattle.branches.specs.Area.{capacity}
+use Rattle.branches.specs.Area.{capacity, outside}
 use Rattle.branches.proofs.LengthLaws.{same-capacity}
 use Rattle.loading.specs.Started.{put-heads, Alone, Filled}
 use Rattle.loading.proofs.StartLaws.{no-polynomial, alone-empty, with-zeros, start-none, start-fails, start-put}
@@ -39,11 +39,14 @@ most s = capacity (s .args .work .now)
 room : (c : tie.After-begin) → capacity (c .begin .last .0) ≡ capacity (start c .args .work .now)
 room c = same-capacity (c .begin .last .0) (start c .args .work .now) (c .begin .kept .0)
 
+two : (c : tie.After-begin) → 2 ≤ capacity (start c .args .work .now)
+two c = let h = c .before .before .before .before .if1 .left in omega arith
+
 some : (c : tie.After-begin) → 1 ≤ capacity (start c .args .work .now)
-some c = let h = c .before .before .before .before .if1 .left in omega arith
+some c = omega (arith, two c)
 
 begun : (c : tie.After-begin) → Alone (p (start c)) (capacity (start c .args .work .now)) no-polynomial (view (c .begin .last .0))
-begun c = alone-empty (c .begin .ensures)
+begun c = alone-empty (c .begin .ensures .0)
 
 -- ── after P's chain ──
 abbrev begun-by : tie.After-put-heads → tie.After-begin
@@ -61,10 +64,13 @@ put c t e =
     let d = begun-by c in
     let s = start d in
     subst (λ (m : ℕ). Alone (p s) m no-polynomial (view (d .begin .last .0)) → Filled (p s) m (with-zeros (p s) t) (c .put-heads .result) (view (work c)))
-    (room d) (c .put-heads .ensures (t .P) no-polynomial (table-read (s .args .table .now) t e .zeros)) (begun d)
+    (room d) (c .put-heads .ensures .0 (t .P) no-polynomial (table-read (s .args .table .now) t e .zeros)) (begun d)
 
 room-2 : (c : tie.After-put-heads) → capacity (work c) ≡ most (entry c)
 room-2 c = same-capacity (work c) (entry c .args .work .now) (c .put-heads .kept .1 .1 .1 .1 .0 ∙ begun-by c .begin .kept .0)
+
+outside-zeros : (c : tie.After-put-heads) → outside (work c) ≡ outside (entry c .args .work .now)
+outside-zeros c = c .put-heads .ensures .1 ∙ begun-by c .begin .ensures .1
 
 -- Where it found room.
 abbrev zeros-put : tie.Else2 → tie.After-put-heads
@@ -77,9 +83,12 @@ zeros-in c t e = let k = zeros-put c in put k t e .alone (not-false (k .put-head
 
 -- ── the needs ──
 returns : tie.Need-returns
-returns c t e =
-    let a = c .before .before .before .before .args in
-    start-none t (capacity (a .work .now)) (view (a .work .now)) (t .modulus) (let h = c .if1 .taken in omega arith)
+returns c = (
+  (λ t e.
+      let a = c .before .before .before .before .args in
+      start-none t (capacity (a .work .now)) (view (a .work .now)) (t .modulus) (let h = c .if1 .taken in omega arith)),
+  (λ h. refl, refl),
+)
 
 shared-slice-read-p : tie.Need-shared-slice-read-p
 shared-slice-read-p c = omega (arith, header (c .before .before .before .before .before))
@@ -108,11 +117,14 @@ same-length-2 : tie.Need-same-length-2
 same-length-2 c = search needs
 
 returns-2 : tie.Need-returns-2
-returns-2 c t e =
+returns-2 c =
     let k = c .before .before .before .before .before in
-    let s = entry k in
-    start-fails t (most s) (view (work k)) (p s) (table-read (s .args .table .now) t e .modulus) (some (begun-by k))
-    (subst (λ (b : Bool). Filled (p s) (most s) (with-zeros (p s) t) b (view (work k))) (not-true (k .put-heads .result) (c .if2 .taken)) (put k t e))
+    let s = entry k in (
+      (λ t e.
+          start-fails t (most s) (view (work k)) (p s) (table-read (s .args .table .now) t e .modulus) (some (begun-by k))
+          (subst (λ (b : Bool). Filled (p s) (most s) (with-zeros (p s) t) b (view (work k))) (not-true (k .put-heads .result) (c .if2 .taken)) (put k t e))),
+      (λ h. absurd (omega (arith, h, two (begun-by k))), outside-zeros k),
+    )
 
 shared-slice-read-put-heads-2 : tie.Need-shared-slice-read-put-heads-2
 shared-slice-read-put-heads-2 c = omega (arith, header (entry (zeros-put (c .before))))
@@ -133,16 +145,19 @@ same-length-4 : tie.Need-same-length-4
 same-length-4 c = search needs
 
 returns-3 : tie.Need-returns-3
-returns-3 c t e =
+returns-3 c =
     let n = c .before .before .before .before in
     let f = n .before .before .before .before in
     let k = zeros-put f in
-    let s = entry k in
-    let b = with-zeros (p s) t in
-    let v = view (n .put-heads2 .last .1 .1 .1 .1 .0) in
-    start-put t (most s) v (p s) (table-read (s .args .table .now) t e .modulus) (some (begun-by k)) (n .put-heads2 .result)
-    (subst (λ (m : ℕ). Alone (p s) m b (view (work k)) → Filled (p s) m (put-heads true (p s) (t .Q) b) (n .put-heads2 .result) v)
-    (room-2 k) (n .put-heads2 .ensures (t .Q) b (table-read (s .args .table .now) t e .nonzeros)) (zeros-in f t e))
+    let s = entry k in (
+      (λ t e.
+          let b = with-zeros (p s) t in
+          let v = view (n .put-heads2 .last .1 .1 .1 .1 .0) in
+          start-put t (most s) v (p s) (table-read (s .args .table .now) t e .modulus) (some (begun-by k)) (n .put-heads2 .result)
+          (subst (λ (m : ℕ). Alone (p s) m b (view (work k)) → Filled (p s) m (put-heads true (p s) (t .Q) b) (n .put-heads2 .result) v)
+          (room-2 k) (n .put-heads2 .ensures .0 (t .Q) b (table-read (s .args .table .now) t e .nonzeros)) (zeros-in f t e))),
+      (λ h. absurd (omega (arith, h, two (begun-by k))), n .put-heads2 .ensures .1 ∙ outside-zeros k),
+    )
 
 pub start-spec : {M : Type 1} → statement M
 start-spec =

@@ -84,7 +84,7 @@ returns c =
     let e = c .before .before .before .before .before in
     let a = e .before in (
       (sound-of a, monic-of a, made-behind (is-made a)),
-      (λ b bs ss H. put-by (start a .args .left) b bs ss _ _ _ (words a) (e .if1 .taken) (c .before .before .put-q .ensures b bs ss H)),
+      (λ b bs ss H. put-by (start a .args .left) b bs ss _ _ _ (words a) (e .if1 .taken) (c .before .before .put-q .ensures .0 b bs ss H), c .before .before .put-q .ensures .1),
     )
 
 slice-reshare-prefix-put-p : tie.Need-slice-reshare-prefix-put-p
@@ -108,7 +108,7 @@ returns-2 c =
     let e = c .before .before .before .before .before in
     let a = e .before in (
       (sound-of a, monic-of a, made-behind (is-made a)),
-      (λ b bs ss H. put-by (start a .args .left) b bs ss _ _ _ (words a) (e .if1 .left) (c .before .before .put-p .ensures b bs ss H)),
+      (λ b bs ss H. put-by (start a .args .left) b bs ss _ _ _ (words a) (e .if1 .left) (c .before .before .put-p .ensures .0 b bs ss H), c .before .before .put-p .ensures .1),
     )
 
 pub put-back-spec : {M : Type 1} → statement M

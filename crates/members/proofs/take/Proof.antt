@@ -80,8 +80,8 @@ returns c =
       (λ b bs ss H.
           let l = d .load-q .ensures b bs ss H in
           took-Q (s .args .place) (s .args .left) b bs ss _ _ _ _ (e .if1 .taken) (a .count-q .result) (a .count-q .ensures b bs ss H)
-          (l .0, l .1) (c .before .before .remove-q .ensures b bs ss H)),
-      d .load-q .ensures (o .0) (o .1) (o .2) (o .3) .2,
+          (l .0, l .1) (c .before .before .remove-q .ensures .0 b bs ss H)),
+      (d .load-q .ensures (o .0) (o .1) (o .2) (o .3) .2, c .before .before .remove-q .ensures .1),
     )
 
 load-p-requires : tie.Need-load-p-requires
@@ -112,8 +112,8 @@ returns-2 c =
     let o = s .pre .0 in (
       (λ b bs ss H.
           let l = d .load-p .ensures b bs ss H in
-          took-P (s .args .place) (s .args .left) b bs ss _ _ _ _ (e .if1 .left) (l .0, l .1) (c .before .before .remove-p .ensures b bs ss H)),
-      d .load-p .ensures (o .0) (o .1) (o .2) (o .3) .2,
+          took-P (s .args .place) (s .args .left) b bs ss _ _ _ _ (e .if1 .left) (l .0, l .1) (c .before .before .remove-p .ensures .0 b bs ss H)),
+      (d .load-p .ensures (o .0) (o .1) (o .2) (o .3) .2, c .before .before .remove-p .ensures .1),
     )
 
 pub take-spec : {M : Type 1} → statement M

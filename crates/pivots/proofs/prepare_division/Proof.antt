@@ -1,5 +1,5 @@
 -- `prepare_division` meets its contract: another member of P is found, or the pivot is moved to T.
-use mathlib.Core.Path.{sym, _∙_}
+use mathlib.Core.Path.{refl, sym, _∙_}
 use borrow.Author.Needs.{needs}
 use mathlib.Core.List.{List, map}
 use Rattle.polynomials.specs.Packed.{terms}
@@ -27,7 +27,7 @@ Entry s b bs ss = Held-in (s .args .w .now) (with-open b bs ss)
 
 moved : (c : tie.After-close) (b : Stored) (bs ss : List Stored) → Entry (start c) b bs ss
     → Held (view (c .close .last .0)) (capacity (start c .args .w .now)) (with-open (closed (start c .args .place) b) bs ss)
-moved c b bs ss H = c .close .ensures b bs ss H
+moved c b bs ss H = c .close .ensures .0 b bs ss H
 
 moved-there : (c : tie.After-close) (b : Stored) (bs ss : List Stored) → Entry (start c) b bs ss
     → Held-in (c .close .last .0) (with-open (closed (start c .args .place) b) bs ss)
@@ -47,11 +47,13 @@ same-length : tie.Need-same-length
 same-length c = search needs
 
 returns : tie.Need-returns
-returns c = λ b bs ss H.
+returns c =
     let m = c .before .before .before in
-    let s = entry m in
-    let o = other (s .args .k) (s .args .place) (map terms (b .P)) in
-    aims-at _ _ _ _ (s .args .place) b bs ss _ _ o _ _ (sym (m .find-other .ensures b bs ss H) ∙ c .before .j .given .1) (m .before .before .degree .ensures) H
+    let s = entry m in (
+      λ b bs ss H. let o = other (s .args .k) (s .args .place) (map terms (b .P)) in
+          aims-at _ _ _ _ (s .args .place) b bs ss _ _ o _ _ (sym (m .find-other .ensures b bs ss H) ∙ c .before .j .given .1) (m .before .before .degree .ensures) H,
+      refl,
+    )
 
 enum-told : tie.Need-enum-told
 enum-told c = search needs
@@ -69,14 +71,16 @@ same-length-2 : tie.Need-same-length-2
 same-length-2 c = search needs
 
 returns-2 : tie.Need-returns-2
-returns-2 c = λ b bs ss H.
+returns-2 c =
     let m = c .before .before .before .before in
     let a = searched m in
-    let s = start m in
-    let o = other (s .args .k) (s .args .place) (map terms (b .P)) in
-    let none = sym (a .find-other .ensures b bs ss H) ∙ m .before .before .enum-told .given .1 in
-    aims-all _ _ _ _ (s .args .place) b bs ss _ _ o _ _ none (a .before .before .degree .ensures)
-    (c .count-q .ensures (closed (s .args .place) b) bs ss (moved-there m b bs ss H)) (moved m b bs ss H)
+    let s = start m in (
+      λ b bs ss H. let o = other (s .args .k) (s .args .place) (map terms (b .P)) in
+          let none = sym (a .find-other .ensures b bs ss H) ∙ m .before .before .enum-told .given .1 in
+          aims-all _ _ _ _ (s .args .place) b bs ss _ _ o _ _ none (a .before .before .degree .ensures)
+          (c .count-q .ensures (closed (s .args .place) b) bs ss (moved-there m b bs ss H)) (moved m b bs ss H),
+      m .close .ensures .1,
+    )
 
 pub prepare-division-spec : {M : Type 1} → statement M
 prepare-division-spec =

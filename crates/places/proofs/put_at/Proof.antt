@@ -1,11 +1,12 @@
 -- `put_at` meets its contract: where there is room the records from `to` on are moved up, f is stored, and then the counts and the end are written.
 use Prim.Native.Nat.{ℕ}
-use mathlib.Core.Path.{refl}
+use mathlib.Core.Path.{refl, _∙_}
 use mathlib.Core.List.{List}
 use Rattle.branches.specs.Area.{Stored}
 use Rattle.branches.proofs.LengthLaws.{inside-room, still-inside}
+use Rattle.branches.proofs.OutsideLaws.{outside-stays}
 use Rattle.places.specs.Places.{Put-at}
-use Rattle.places.proofs.PlaceLaws.{end-inside, no-room, put-inside, put-start, leaves-held, held-put}
+use Rattle.places.proofs.PlaceLaws.{end-inside, no-room, put-inside, put-start, leaves-held, held-put, beyond-put}
 use borrow.Author.Needs.{needs}
 use Rattle.places.proofs.put_at.Statement.{statement}
 use Rattle.places.proofs.put_at.Tie as tie
@@ -60,7 +61,7 @@ same-length : tie.Need-same-length
 same-length c = refl
 
 returns : tie.Need-returns
-returns c b bs ss A = let r = c .before in no-room (A .held) (end-read r .get1 .ensures) (r .get2 .ensures) (A .adds) (c .if1 .taken)
+returns c = let r = c .before in (λ b bs ss A. no-room (A .held) (end-read r .get1 .ensures) (r .get2 .ensures) (A .adds) (c .if1 .taken), refl)
 
 insert-requires : tie.Need-insert-requires
 insert-requires c κs =
@@ -88,14 +89,18 @@ same-length-2 : tie.Need-same-length-2
 same-length-2 c = search needs
 
 returns-2 : tie.Need-returns-2
-returns-2 c b bs ss A =
+returns-2 c =
     let k = c .before .before in
     let i = insert-of (k .before) in
     let s = room-of i in
     let r = s .before in
-    leaves-held
-    (held-put (A .held) (end-read r .get1 .ensures) (A .adds) (A .there) (r .get2 .ensures) (s .if1 .left) (i .insert .ensures .0) (start r .pre .0) (A .counts)
-    (k .resize .ensures .0))
+    let A = opened r in (
+      λ b bs ss A. leaves-held
+          (held-put (A .held) (end-read r .get1 .ensures) (A .adds) (A .there) (r .get2 .ensures) (s .if1 .left) (i .insert .ensures .0) (start r .pre .0) (A .counts)
+          (k .resize .ensures .0)),
+      outside-stays (w r) (k .resize .last .0) (k .resize .kept .0 ∙ i .insert .kept .0) (k .resize .ensures .0, k .resize .ensures .1 ∙ i .insert .ensures .1)
+          (beyond-put (A .held) (end-read r .get1 .ensures) (A .adds) (A .there) (r .get2 .ensures) (s .if1 .left) (i .insert .ensures .0) _ _ _),
+    )
 
 pub put-at-spec : {M : Type 1} → statement M
 put-at-spec =

@@ -1,11 +1,13 @@
 -- `take_at` meets its contract: the records behind the polynomial are moved down over it, and then the counts and the end are written.
+use mathlib.Core.Path.{_∙_}
 use Prim.Native.Nat.{ℕ}
 use mathlib.Core.List.{List}
 use native.Mathlib.Omega.{arith}
 use Rattle.branches.specs.Area.{Stored}
 use Rattle.branches.proofs.LengthLaws.{inside-room, still-inside}
+use Rattle.branches.proofs.OutsideLaws.{outside-stays}
 use Rattle.places.specs.Places.{Take-at}
-use Rattle.places.proofs.PlaceLaws.{take-first, take-inside, take-start, held-take}
+use Rattle.places.proofs.PlaceLaws.{take-first, take-inside, take-start, held-take, beyond-take}
 use borrow.Author.Needs.{needs}
 use Rattle.places.proofs.take_at.Statement.{statement}
 use Rattle.places.proofs.take_at.Tie as tie
@@ -85,12 +87,16 @@ same-length : tie.Need-same-length
 same-length c = search needs
 
 returns : tie.Need-returns
-returns c b bs ss A =
+returns c =
     let s = c .before .before in
     let m = remove-of (s .before) in
     let n = size-of m in
     let r = from-size n in
-    held-take (A .held) (r .get1 .ensures) (A .takes) (A .there) (n .get0 .ensures) (m .remove .ensures .0) (A .counts) (s .resize .ensures .0)
+    let A = opened r in (
+      λ b bs ss A. held-take (A .held) (r .get1 .ensures) (A .takes) (A .there) (n .get0 .ensures) (m .remove .ensures .0) (A .counts) (s .resize .ensures .0),
+      outside-stays (w r) (s .resize .last .0) (s .resize .kept .0 ∙ m .remove .kept .0) (s .resize .ensures .0, s .resize .ensures .1 ∙ m .remove .ensures .1)
+          (beyond-take (A .held) (r .get1 .ensures) (A .takes) (A .there) (n .get0 .ensures) (m .remove .ensures .0) _ _ _),
+    )
 
 pub take-at-spec : {M : Type 1} → statement M
 take-at-spec =

@@ -128,7 +128,7 @@ same-length : tie.Need-same-length
 same-length c = refl
 
 returns : tie.Need-returns
-returns c b bs ss H = let g = f (c .before) in leaves-same H _ (kept-P g b (put-P-zero g (b .P) (c .if1 .taken)))
+returns c = let g = f (c .before) in (λ b bs ss H. leaves-same H _ (kept-P g b (put-P-zero g (b .P) (c .if1 .taken))), refl)
 
 add-contains : tie.Need-add-contains
 add-contains c = search needs
@@ -143,8 +143,8 @@ same-length-2 : tie.Need-same-length-2
 same-length-2 c = refl
 
 returns-2 : tie.Need-returns-2
-returns-2 c b bs ss H =
-    let g = f (from-contains (c .before)) in leaves-same H _ (kept-P g b (put-P-found g (b .P) (found-is (c .before) H ∙ c .if2 .taken)))
+returns-2 c =
+    let g = f (from-contains (c .before)) in (λ b bs ss H. leaves-same H _ (kept-P g b (put-P-found g (b .P) (found-is (c .before) H ∙ c .if2 .taken))), refl)
 
 add-skip : tie.Need-add-skip
 add-skip c = search needs
@@ -166,7 +166,7 @@ same-length-3 c = search needs
 
 returns-3 : tie.Need-returns-3
 unfolding put
-returns-3 c b bs ss H = let k = c .before .before in k .put-at .ensures _ _ _ (put (k .before .before) H)
+returns-3 c = let k = c .before .before in (λ b bs ss H. k .put-at .ensures .0 _ _ _ (put (k .before .before) H), k .put-at .ensures .1)
 
 pub put-p-spec : {M : Type 1} → statement M
 put-p-spec =

@@ -165,10 +165,10 @@ same-length : tie.Need-same-length
 same-length c = refl
 
 returns : tie.Need-returns
-returns c b bs ss H =
+returns c =
     let r = c .before .before .before .before .before in
     let is-1 = is-one-of-tests (f r) (c .before .before .before .before .if1 .taken) (c .before .before .if2 .taken) (c .if3 .taken) in
-    leaves-same H _ (kept-Q (left r) (f r) b (put-Q-one (f r) _ is-1))
+    (λ b bs ss H. leaves-same H _ (kept-Q (left r) (f r) b (put-Q-one (f r) _ is-1)), refl)
 
 add-skip : tie.Need-add-skip
 add-skip c = search needs
@@ -196,8 +196,8 @@ same-length-2 : tie.Need-same-length-2
 same-length-2 c = refl
 
 returns-2 : tie.Need-returns-2
-returns-2 c b bs ss H =
-    let r = from-contains (c .before) in leaves-same H _ (kept-Q (left r) (f r) b (put-Q-found (f r) _ (found-is (c .before) H ∙ c .if4 .taken)))
+returns-2 c =
+    let r = from-contains (c .before) in (λ b bs ss H. leaves-same H _ (kept-Q (left r) (f r) b (put-Q-found (f r) _ (found-is (c .before) H ∙ c .if4 .taken))), refl)
 
 skip-requires-2 : tie.Need-skip-requires-2
 skip-requires-2 c κs = seen-inside (skip-before-contains (c .before .before))
@@ -213,7 +213,7 @@ same-length-3 c = search needs
 
 returns-3 : tie.Need-returns-3
 unfolding put
-returns-3 c b bs ss H = let k = c .before .before in k .put-at .ensures _ _ _ (put (k .before .before) H)
+returns-3 c = let k = c .before .before in (λ b bs ss H. k .put-at .ensures .0 _ _ _ (put (k .before .before) H), k .put-at .ensures .1)
 
 pub put-q-spec : {M : Type 1} → statement M
 put-q-spec =

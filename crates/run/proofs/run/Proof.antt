@@ -12,7 +12,7 @@ use Rattle.polynomials.specs.laws.Answers.{formed-degree, formed-terms}
 use Rattle.tables.specs.declared.Reason.the-variants.{Degree, Terms, Room}
 use Rattle.run.proofs.Slices.{kept-all, kept-then}
 use Rattle.run.proofs.Invariants.{AtRun, run-begins}
-use Rattle.run.proofs.MembersLaws.{members-open, members-left, member-open, member-behind, member-degree, member-terms}
+use Rattle.run.proofs.MembersLaws.{members-open, members-left, member-open, member-held, member-behind, member-degree, member-terms}
 use Rattle.run.proofs.RunLaws.{final-not-paused, run-holds-some, run-has-control, run-finished, run-no-steps, run-goes-on}
 use Rattle.run.proofs.run.Statement.{statement}
 use Rattle.run.proofs.run.Tie as tie
@@ -157,42 +157,45 @@ division-again c = let m = to-rounded c in (rounds-go-on c, kept-then (rounds-ke
 returns : Of tie.Need-returns
 returns c =
     let m = c .before .before in
-    (run-finished (run-invariant (none-in m)) (none-open m) (c .get3 .result) (c .get3 .ensures), final-not-paused)
+    (run-finished (run-invariant (none-in m)) (none-open m) (c .get3 .result) (c .get3 .ensures), (final-not-paused, kept-at-turn (none-in m) .out))
 
 returns-2 : Of tie.Need-returns-2
 returns-2 c =
     let m = c .before in
-    (run-no-steps (run-invariant (to-turn m)) (all-open m) (at-turn (to-turn m) .w) (c .if2 .taken), final-not-paused)
+    (run-no-steps (run-invariant (to-turn m)) (all-open m) (c .if2 .taken), (final-not-paused, kept-at-turn (to-turn m) .out))
 
 returns-3 : Of tie.Need-returns-3
-returns-3 c = let P = crowded-pauses c in (P .0, λ e. P .1)
+returns-3 c = let P = crowded-pauses c in (P .0, (λ e. P .1, kept-at-turn (crowded-run c) .out))
 
 returns-4 : Of tie.Need-returns-4
-returns-4 c = let P = pivot-pauses c in (P .0, λ e. P .1)
+returns-4 c = let P = pivot-pauses c in (P .0, (λ e. P .1, kept-at-prepared (crowded-in c) .out))
 
 returns-5 : Of tie.Need-returns-5
-returns-5 c = (step-stops c (at-prepared (stopped-in c) .w), final-not-paused)
+returns-5 c = (step-stops c, (final-not-paused, kept-at-prepared (stopped-in c) .out))
 
 returns-6 : Of tie.Need-returns-6
 returns-6 c =
     let m = degree-in c in
     let d = round-of m in
     let e = formed-degree _ (round-call m .round-anywhere .result) _ (c .enum-told3 .given .1) (round-forms m) in
-    let s = member-degree (member-out (to-taken d)) (passes m degree-passed (λ g. refl) e) in
-    (left-stops (division-of d) Degree (at-rounded m .w) s, final-not-paused)
+    let A = member-out (to-taken d) in
+    let s = member-degree A (passes m degree-passed (λ g. refl) e) in
+    (left-stops (division-of d) Degree (at-rounded m .w) (kept-at-round m .w) (member-held A) s, (final-not-paused, kept-at-round m .out))
 
 returns-7 : Of tie.Need-returns-7
 returns-7 c =
     let m = terms-in c in
     let d = round-of m in
     let e = formed-terms _ (round-call m .round-anywhere .result) _ (c .enum-told4 .given .1) (round-forms m) in
-    let s = member-terms (member-out (to-taken d)) (passes m terms-passed (λ g. refl) e) in
-    (left-stops (division-of d) Terms (at-rounded m .w) s, final-not-paused)
+    let A = member-out (to-taken d) in
+    let s = member-terms A (passes m terms-passed (λ g. refl) e) in
+    (left-stops (division-of d) Terms (at-rounded m .w) (kept-at-round m .w) (member-held A) s, (final-not-paused, kept-at-round m .out))
 
 returns-8 : Of tie.Need-returns-8
 returns-8 c =
     let m = c .before in
-    (left-stops (division-of (put-of m)) Room (at-put m .w) (member-goes m .1 (not-true (fits m) (c .if6 .taken))), final-not-paused)
+    let s = member-goes m .1 (not-true (fits m) (c .if6 .taken)) in
+    (left-stops (division-of (put-of m)) Room (at-put m .w) (kept-at-put m .w) (s .1) (s .0), (final-not-paused, kept-at-put m .out))
 
 -- The needs between the returns: the seven slices lent are as long as they were.
 pub run-spec : {M : Type 1} → statement M

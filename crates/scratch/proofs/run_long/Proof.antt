@@ -50,13 +50,14 @@ stretch : (m : tie.After-run) →
 stretch m = record { same = m .run .kept .0; answers = m .run .ensures .0 }
 
 returns : tie.Need-returns
-returns c = stretch-ends (stretch (answered (c .before .before .before))) (c .before .ending .given .1)
+returns c =
+    let m = answered (c .before .before .before) in (stretch-ends (stretch m) (c .before .ending .given .1), m .run .ensures .1 .1)
 
 same-length-2 : tie.Need-same-length-2
 same-length-2 c = search needs
 
 returns-2 : tie.Need-returns-2
-returns-2 c a H R = absurd (⊎-elim (λ l. omega (arith, l)) (λ l. omega (arith, l)) (answered (c .before .before) .run .ensures .1 (c .enum-told .given .1)))
+returns-2 c = absurd (⊎-elim (λ l. omega (arith, l)) (λ l. omega (arith, l)) (answered (c .before .before) .run .ensures .1 .0 (c .enum-told .given .1)))
 
 pub run-long-spec : {M : Type 1} → statement M
 run-long-spec =

@@ -1,4 +1,5 @@
 -- `run_short` meets its contract: its stretch ends as the run does, or pauses, and the long stretch goes on.
+use mathlib.Core.Path.{_∙_}
 use native.Mathlib.Omega.{arith}
 use borrow.Author.Needs.{needs}
 use Rattle.scratch.proofs.StretchLaws.{Told, runs-from-0, stretch-ends, pause-within, pause-holds, stretch-goes-on}
@@ -56,7 +57,7 @@ returns : tie.Need-returns
 returns c =
     let m = answered (c .before .before .before) in
     let a = entry m .args in
-    runs-from-0 (a .p) (a .limit) (a .work .now) _ (m .run .last .0) (stretch-ends (stretch m) (c .before .ending .given .1))
+    (runs-from-0 (a .p) (a .limit) (a .work .now) _ (m .run .last .0) (stretch-ends (stretch m) (c .before .ending .given .1)), m .run .ensures .1 .1)
 
 -- It has paused, and `run_long` is called.
 abbrev paused : tie.After-run-long-arg → tie.After-run
@@ -80,9 +81,11 @@ returns-2 c =
     let l = c .before .before in
     let m = paused (l .before) in
     let a = entry m .args in
-    let r = l .run-long in
-    runs-from-0 (a .p) (a .limit) (a .work .now) (r .result) (r .last .0)
-    (stretch-goes-on (stretch m) (l .before .before .enum-told .given .1) (r .result) (r .last .0) (r .ensures))
+    let r = l .run-long in (
+      runs-from-0 (a .p) (a .limit) (a .work .now) (r .result) (r .last .0)
+          (stretch-goes-on (stretch m) (l .before .before .enum-told .given .1) (r .result) (r .last .0) (r .ensures .0)),
+      r .ensures .1 ∙ m .run .ensures .1 .1,
+    )
 
 pub run-short-spec : {M : Type 1} → statement M
 run-short-spec =

@@ -6,7 +6,7 @@ use native.Mathlib.Omega.{arith}
 use borrow.Author.Tests.{not-true, not-false}
 use lib.ListN.{length}
 use Rattle.records.specs.Records.{view}
-use Rattle.branches.specs.Area.{Stored, Leaves, capacity, with-open, put-into-P, without-P, aside, Held-in}
+use Rattle.branches.specs.Area.{Stored, Leaves, capacity, outside, with-open, put-into-P, without-P, aside, Held-in}
 use Rattle.branches.proofs.AreaLaws.{at-inside, p-is}
 use Rattle.branches.proofs.LengthLaws.{inside-room, held-by, left-by}
 use Rattle.splits.proofs.AsideLaws.{length-aside, kept-aside, no-initial, no-rest, stops-aside, same-members}
@@ -80,19 +80,26 @@ same-initial c = c .put-p .kept .0 ∙ remove-of c .remove-p .kept .0
 same-rest : (c : tie.After-put-p2) → length (c .put-p2 .last .0) ≡ length (w (from-rest c))
 same-rest c = c .put-p2 .kept .0 ∙ same-initial (initial-of c)
 
+-- What lies outside is as at the start.
+outside-initial : (c : tie.After-put-p) → outside (c .put-p .last .0) ≡ outside (w (from-initial c))
+outside-initial c = c .put-p .ensures .1 ∙ remove-of c .remove-p .ensures .1
+
+outside-rest : (c : tie.After-put-p2) → outside (c .put-p2 .last .0) ≡ outside (w (from-rest c))
+outside-rest c = c .put-p2 .ensures .1 ∙ outside-initial (initial-of c)
+
 module _ {b : Stored} {bs ss : List Stored} where
   count-is : (r : Reading) → Holds (w r) b bs ss → r .get02 .result ≡ length (b .P)
   count-is r H = p-is H _ (at-read r .get0 .ensures) _ (r .get02 .ensures)
 
   removed : (c : tie.After-remove-p) → Holds (w (from-remove c)) b bs ss → Holds (c .remove-p .last .0) (without (from-remove c) b) bs ss
-  removed c H = held-by _ _ (w (from-remove c)) (c .remove-p .last .0) (sym (c .remove-p .kept .0)) (c .remove-p .ensures b bs ss H)
+  removed c H = held-by _ _ (w (from-remove c)) (c .remove-p .last .0) (sym (c .remove-p .kept .0)) (c .remove-p .ensures .0 b bs ss H)
 
   initial-leaves : (c : tie.After-put-p) → Holds (w (from-initial c)) b bs ss
       → let r = from-initial c in
       Leaves (capacity (w r)) (with-open (without r b) bs ss) (with-open (with-initial r b) bs ss) (c .put-p .result) (view (c .put-p .last .0))
   initial-leaves c H =
       let m = remove-of c in
-      left-by _ _ (m .remove-p .last .0) (w (from-remove m)) (m .remove-p .kept .0) refl refl (c .put-p .ensures _ bs ss (removed m H))
+      left-by _ _ (m .remove-p .last .0) (w (from-remove m)) (m .remove-p .kept .0) refl refl (c .put-p .ensures .0 _ bs ss (removed m H))
 
   initial-put : (c : tie.Else1)
       → let m = c .before .before .before in Holds (w (from-initial m)) b bs ss → Holds (m .put-p .last .0) (with-initial (from-initial m) b) bs ss
@@ -105,7 +112,7 @@ module _ {b : Stored} {bs ss : List Stored} where
       Leaves (capacity (w r)) (with-open (with-initial r b) bs ss) (with-open (with-rest r b) bs ss) (c .put-p2 .result) (view (c .put-p2 .last .0))
   rest-leaves c H =
       let m = initial-of c in
-      left-by _ _ (m .put-p .last .0) (w (from-initial m)) (same-initial m) refl refl (c .put-p2 .ensures _ bs ss (initial-put (c .before .before) H))
+      left-by _ _ (m .put-p .last .0) (w (from-initial m)) (same-initial m) refl refl (c .put-p2 .ensures .0 _ bs ss (initial-put (c .before .before) H))
 
   rest-put : (c : tie.Else2)
       → let m = c .before .before .before in Holds (w (from-rest m)) b bs ss → Holds (m .put-p2 .last .0) (with-rest (from-rest m) b) bs ss
@@ -149,10 +156,10 @@ same-length : tie.Need-same-length
 same-length c = same-initial (c .before .before .before)
 
 returns : tie.Need-returns
-returns c b bs ss H =
+returns c =
     let m = c .before .before .before in
     let r = from-initial m in
-    no-initial (capacity (w r)) (i r) (initial r) (rest r) b bs ss (initial-leaves m H) (not-true _ (c .if1 .taken))
+    (λ b bs ss H. no-initial (capacity (w r)) (i r) (initial r) (rest r) b bs ss (initial-leaves m H) (not-true _ (c .if1 .taken)), outside-initial m)
 
 put-p-requires-2 : tie.Need-put-p-requires-2
 put-p-requires-2 c κs =
@@ -163,11 +170,13 @@ same-length-2 : tie.Need-same-length-2
 same-length-2 c = same-rest (c .before .before .before)
 
 returns-2 : tie.Need-returns-2
-returns-2 c b bs ss H =
+returns-2 c =
     let m = c .before .before .before in
-    let r = from-rest m in
-    no-rest (capacity (w r)) (i r) (initial r) (rest r) b bs ss (initial-leaves (initial-of m) H) (not-false _ (m .before .before .if1 .left)) (rest-leaves m H)
-    (not-true _ (c .if2 .taken))
+    let r = from-rest m in (
+      λ b bs ss H. no-rest (capacity (w r)) (i r) (initial r) (rest r) b bs ss (initial-leaves (initial-of m) H) (not-false _ (m .before .before .if1 .left))
+          (rest-leaves m H) (not-true _ (c .if2 .taken)),
+      outside-rest m,
+    )
 
 sub-keep-open : tie.Need-sub-keep-open
 sub-keep-open c =
@@ -191,16 +200,18 @@ same-length-3 : tie.Need-same-length-3
 same-length-3 c = let k = c .before .before in k .keep-open .kept .0 ∙ same-rest (rest-of k)
 
 returns-3 : tie.Need-returns-3
-returns-3 c b bs ss H =
+returns-3 c =
     let k = c .before .before in
     let m = rest-of k in
-    let r = from-rest m in
-    let h = start r .pre .1 .0 b bs ss H in
-    let n : r .get02 .result - 1 + 1 ≡ length (b .P) = omega (arith, count-is r H, h .0) in
-    left-by _ _ (m .put-p2 .last .0) (w r) (same-rest m)
-    (stops-aside (capacity (w r)) (i r) (initial r) (rest r) b bs ss (rest-leaves m H) (not-false _ (k .before .before .if2 .left)))
-    (ap (λ (x : Stored). with-open x (with-rest r b ∷ bs) ss) (kept-aside (i r) _ (f r) (initial r) (rest r) b (h .0) n (h .1) (h .2) (h .3)))
-    (k .keep-open .ensures _ bs ss (rest-put (k .before .before) H))
+    let r = from-rest m in (
+      λ b bs ss H. let h = start r .pre .1 .0 b bs ss H in
+          let n : r .get02 .result - 1 + 1 ≡ length (b .P) = omega (arith, count-is r H, h .0) in
+          left-by _ _ (m .put-p2 .last .0) (w r) (same-rest m)
+          (stops-aside (capacity (w r)) (i r) (initial r) (rest r) b bs ss (rest-leaves m H) (not-false _ (k .before .before .if2 .left)))
+          (ap (λ (x : Stored). with-open x (with-rest r b ∷ bs) ss) (kept-aside (i r) _ (f r) (initial r) (rest r) b (h .0) n (h .1) (h .2) (h .3)))
+          (k .keep-open .ensures .0 _ bs ss (rest-put (k .before .before) H)),
+      k .keep-open .ensures .1 ∙ outside-rest m,
+    )
 
 pub split-spec : {M : Type 1} → statement M
 split-spec =

@@ -74,8 +74,8 @@ returns c = (
       let p = entry m .args .p in
       let l = limits (entry m) in
       let e = chosen-drop (branch-of b) (sym (m .choose .ensures b bs ss H) ∙ t .enum-told .given .1) in
-      (record { branches = bs; systems = ss }, step-by l p b bs ss _ e ∙ drop-state l p b bs ss, d .drop .ensures b bs ss H, ready-dropped l p b bs ss R)),
-  begun _ tt,
+      (record { branches = bs; systems = ss }, step-by l p b bs ss _ e ∙ drop-state l p b bs ss, d .drop .ensures .0 b bs ss H, ready-dropped l p b bs ss R)),
+  (begun _ tt, c .before .before .drop .ensures .1),
 )
 
 enum-told-2 : tie.Need-enum-told-2
@@ -97,8 +97,8 @@ returns-2 c = (
       let l = limits (entry m) in
       let e = chosen-list (branch-of b) (sym (m .choose .ensures b bs ss H) ∙ t .enum-told2 .given .1) in
       let ready = ready-listed l p b bs ss R (map-none (b .P) (e .1)) in
-      (record { branches = bs; systems = b ∷ ss }, step-by l p b bs ss _ (e .0) ∙ list-state l p b bs ss, d .list .ensures b bs ss H, ready)),
-  begun _ tt,
+      (record { branches = bs; systems = b ∷ ss }, step-by l p b bs ss _ (e .0) ∙ list-state l p b bs ss, d .list .ensures .0 b bs ss H, ready)),
+  (begun _ tt, c .before .before .list .ensures .1),
 )
 
 enum-known-k : tie.Need-enum-known-k

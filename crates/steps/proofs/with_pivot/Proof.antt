@@ -170,7 +170,7 @@ returns c =
           longer = omega (arith, c .if1 .taken, c .before .words-p .ensures b bs ss H);
         },
       )),
-      (λ e. (omega (arith, c .if1 .taken, c .before .words-p .ensures (o .0) (o .1) (o .2) (o .3), few), refl)),
+      ((λ e. (omega (arith, c .if1 .taken, c .before .words-p .ensures (o .0) (o .1) (o .2) (o .3), few), refl)), refl),
     )
 
 load-p-requires : tie.Need-load-p-requires
@@ -245,12 +245,12 @@ returns-2 c = (
       let v = to-division d .before in
       let g = formed v in
       let a = loaded g in
-      let e = d .prepare-division .ensures b bs ss H in (
+      let e = d .prepare-division .ensures .0 b bs ss H in (
         _,
         comes (limits-in (capacity (start a .args .w .now))) (p a) (k a) (place a) b bs ss R L (T a) (n a) (held-pivot v b bs ss H R L) (I g) (m g) (first g) _ _ _
             (e .0) (e .1) (rule v b bs ss H R L true (to-division d .if2 .taken)),
       )),
-  begun _ tt,
+  (begun _ tt, c .before .before .prepare-division .ensures .1),
 )
 
 slice-reshare-prefix-apply-split : tie.Need-slice-reshare-prefix-apply-split
@@ -305,8 +305,8 @@ returns-3 c = (
       let a = loaded g in
       let e = d .apply-split .ensures in
       split-next (p a) (k a) (place a) (start a .pre .0 .0 .prime) b bs ss R L (ini g) _ (first g .sound) (of-chosen v b bs ss H R L) (e .0 .0)
-      (e .0 .1 ∙ rest-of-pivot v b bs ss H R L) _ _ H _ _ (e .1 b bs ss H) (rule v b bs ss H R L false (to-split d .if2 .left)) (c .if3 .taken)),
-  begun _ tt,
+      (e .0 .1 ∙ rest-of-pivot v b bs ss H R L) _ _ H _ _ (e .1 .0 b bs ss H) (rule v b bs ss H R L false (to-split d .if2 .left)) (c .if3 .taken)),
+  (begun _ tt, c .before .before .before .before .before .apply-split .ensures .1 .1),
 )
 
 same-length-9 : tie.Need-same-length-9
@@ -330,8 +330,8 @@ returns-4 c = (
       let a = loaded g in
       let e = d .apply-split .ensures in
       split-stop (p a) (k a) (place a) (start a .pre .0 .0 .prime) b bs ss R L (ini g) _ (first g .sound) (of-chosen v b bs ss H R L) (e .0 .0)
-      (e .0 .1 ∙ rest-of-pivot v b bs ss H R L) _ _ H _ _ (e .1 b bs ss H) (rule v b bs ss H R L false (to-split d .if2 .left)) (c .if3 .left)),
-  begun _ tt,
+      (e .0 .1 ∙ rest-of-pivot v b bs ss H R L) _ _ H _ _ (e .1 .0 b bs ss H) (rule v b bs ss H R L false (to-split d .if2 .left)) (c .if3 .left)),
+  (begun _ tt, c .before .before .before .before .before .apply-split .ensures .1 .1),
 )
 
 pub with-pivot-spec : {M : Type 1} → statement M

@@ -6,6 +6,7 @@ use lib.ListN.{set}
 use Rattle.records.specs.Records.{record-of, view}
 use Rattle.records.proofs.Rows.{length-view}
 use Rattle.branches.specs.Area.{capacity}
+use Rattle.branches.proofs.OutsideLaws.{outside-set}
 use Rattle.turns.proofs.TurnLaws.{begun}
 use borrow.Author.Needs.{needs}
 use Rattle.turns.proofs.begin.Statement.{statement}
@@ -32,8 +33,12 @@ returns c =
     let w = s .args .w .now in
     let v = view w in
     let p = c .before .before .before .before .before .before in
-    begun v _ _ (capacity w) (s .pre) (omega (arith, length-view w)) (omega arith)
-    (p .write .ensures .0 ∙ ap (λ (k : ℕ). set v 0 (record-of 1 2 k 0)) (p .before .before .count-records .ensures)) (c .before .before .write2 .ensures .0)
+    let q = c .before .before in (
+      begun v _ _ (capacity w) (s .pre) (omega (arith, length-view w)) (omega arith)
+          (p .write .ensures .0 ∙ ap (λ (k : ℕ). set v 0 (record-of 1 2 k 0)) (p .before .before .count-records .ensures)) (q .write2 .ensures .0),
+      outside-set _ _ (q .write2 .kept .0) 1 _ (omega (arith, s .pre, p .write .kept .0)) (q .write2 .ensures .0, q .write2 .ensures .1)
+          ∙ outside-set _ _ (p .write .kept .0) 0 _ (omega (arith, s .pre)) (p .write .ensures .0, p .write .ensures .1),
+    )
 
 pub begin-spec : {M : Type 1} → statement M
 begin-spec =

@@ -1,7 +1,9 @@
 -- `drop`: `dropped` with the words read.
+use native.Mathlib.Omega.{arith}
 use Rattle.branches.proofs.AreaLaws.{lies, first-is, at-is, at-inside, own-read}
 use Rattle.branches.proofs.LengthLaws.{inside-room}
 use Rattle.branches.proofs.ControlLaws.{w2-is, w3-is}
+use Rattle.branches.proofs.OutsideLaws.{outside-set}
 use Rattle.turns.proofs.TurnLaws.{dropped}
 use borrow.Author.Needs.{needs}
 use Rattle.turns.proofs.drop.Statement.{statement}
@@ -34,14 +36,17 @@ same-length : tie.Need-same-length
 same-length c = search needs
 
 returns : tie.Need-returns
-returns c b bs ss H =
-    let systems = c .before .before .before .before in
+returns c =
+    let k = c .before .before in
+    let systems = k .before .before in
     let top = systems .before .before in
     let under = top .before .before in
-    let at = under .before .before in
-    let control = first-is (lies H) in
-    dropped H _ _ _ _ _ (w3-is (own-read H _ (at .get0 .ensures)) (under .get3 .ensures)) (at-is H _ (at .get0 .ensures)) (w2-is control (top .get2 .ensures))
-    (w3-is control (systems .get32 .ensures)) (c .before .before .write .ensures .0)
+    let at = under .before .before in (
+      λ b bs ss H. let control = first-is (lies H) in
+          dropped H _ _ _ _ _ (w3-is (own-read H _ (at .get0 .ensures)) (under .get3 .ensures)) (at-is H _ (at .get0 .ensures)) (w2-is control (top .get2 .ensures))
+          (w3-is control (systems .get32 .ensures)) (k .write .ensures .0),
+      outside-set _ _ (k .write .kept .0) 0 _ (omega (arith, at-inside (at .before .before .before .pre .3) _ (at .get0 .ensures))) (k .write .ensures .0, k .write .ensures .1),
+    )
 
 pub drop-spec : {M : Type 1} → statement M
 drop-spec =

@@ -1,14 +1,14 @@
 -- `list` meets its contract: the branch's records are moved up to the systems, and both records are written anew.
-use mathlib.Core.Path.{_≡_}
+use mathlib.Core.Path.{_≡_, _∙_}
 use mathlib.Core.List.{List}
-use Prim.Native.Nat.{ℕ, _≤_, _<_}
+use Prim.Native.Nat.{ℕ, _-_, _≤_, _<_}
 use native.Mathlib.Omega.{arith}
 use lib.ListN.{length}
 use Rattle.records.specs.Records.{record-of, room, view}
-use Rattle.branches.specs.Area.{Stored, with-open, Held-in}
-use Rattle.branches.proofs.LengthLaws.{inside-room}
+use Rattle.branches.specs.Area.{Stored, capacity, with-open, Held-in}
 use Rattle.branches.proofs.AreaLaws.{own-of, lies, first-is, own-read}
 use Rattle.branches.proofs.ControlLaws.{record-equal, w0-is, w1-is, w2-is, w3-is, Read, bounds-inside}
+use Rattle.branches.proofs.OutsideLaws.{outside-set, outside-moved}
 use Rattle.turns.proofs.TurnLaws.{few-systems, listed}
 use borrow.Author.Needs.{needs}
 use Rattle.turns.proofs.list.Statement.{statement}
@@ -100,8 +100,8 @@ module _ {b : Stored} {bs ss : List Stored} where
 opened : (r : Reading) → Entry r (start r .pre .0) (start r .pre .1) (start r .pre .2)
 opened r = start r .pre .3
 
-inside : (r : Reading) → (at r < end r) × (end r ≤ top r) × (top r ≤ room (w r))
-inside r = let h = bounds-inside (opened r) (bounds r) (top-read r .get2 .ensures) in (h .0, h .1, inside-room (w r) (h .2))
+inside : (r : Reading) → (at r < end r) × (end r ≤ top r) × (top r ≤ capacity (w r))
+inside r = bounds-inside (opened r) (bounds r) (top-read r .get2 .ensures)
 
 own-inside : (r : Reading) → at r < room (w r)
 own-inside r = let h = inside r in omega (arith, h .0, h .1, h .2)
@@ -171,11 +171,17 @@ same-length : tie.Need-same-length
 same-length c = search needs
 
 returns : tie.Need-returns
-returns c b bs ss H =
-    let o = own-before-control (c .before .before .before) in
+returns c =
+    let k = c .before .before in
+    let o = own-before-control (k .before) in
     let m = move-of o in
     let r = from-move m in
-    listed H (bounds r) (top-read r .get2 .ensures) (own-is (m .before .before) H) (systems-is r H) (m .move-up .ensures .0) (o .write .ensures .0) (c .before .before .write2 .ensures .0)
+    let h = inside r in (
+      λ b bs ss H. listed H (bounds r) (top-read r .get2 .ensures) (own-is (m .before .before) H) (systems-is r H) (m .move-up .ensures .0) (o .write .ensures .0) (k .write2 .ensures .0),
+      outside-set _ _ (k .write2 .kept .0) 0 _ (omega (arith, h, o .write .kept .0, m .move-up .kept .0)) (k .write2 .ensures .0, k .write2 .ensures .1)
+          ∙ outside-set _ _ (o .write .kept .0) _ _ (omega (arith, h, m .move-up .kept .0)) (o .write .ensures .0, o .write .ensures .1)
+          ∙ outside-moved _ _ (m .move-up .kept .0) (at r) (end r - at r) (top r - (end r - at r)) (omega (arith, h)) (omega (arith, h)) (m .move-up .ensures),
+    )
 
 pub list-spec : {M : Type 1} → statement M
 list-spec =

@@ -7,12 +7,14 @@ use lib.ListN.{length}
 use Rattle.records.specs.Records.{room, view}
 use Rattle.records.proofs.Rows.{length-view}
 use Rattle.stored.specs.Stored.{skip-to}
-use Rattle.branches.specs.Area.{Stored, with-open, Held-in}
+use Rattle.stored.specs.laws.Stored.{length-poly-records}
+use Rattle.branches.specs.Area.{Stored, capacity, with-open, Held-in}
 use Rattle.branches.proofs.LengthLaws.{inside-room}
+use Rattle.branches.proofs.OutsideLaws.{outside-set}
 use Rattle.branches.proofs.AreaLaws as area
 use Rattle.branches.proofs.ControlLaws.{w2-is, Read, start-is, ends, free-is}
 use Rattle.keeping.proofs.KeptLaws.{end-front, end-back, end-P, end-Q, Placed, Ordered, ordered, to-back, to-Q, to-T, parts-inside, kept}
-use Rattle.keeping.proofs.PieceLaws.{Reached, reach, reach-last, first-fits}
+use Rattle.keeping.proofs.PieceLaws.{Reached, reach-stored, reach-copied, first-fits}
 use Rattle.keeping.proofs.keep_open.Tie as tie
 
 -- ── the places, and the ways back from one to another ──
@@ -234,29 +236,36 @@ pub after-own : (c : tie.After-write)
 after-own c =
     let p = from-own c in
     let o = in-order p in
-    first-fits _ _ (at (words p)) _ _ (front p) (back p) (x-f p) (x-Q p) (x-initial p) (x-T p) (o .front-of) (o .back-of) (o .top-of) (o .room-of)
-    (c .write .kept .0) (c .before .before .if1 .left)
+    let r = words p in
+    let inside : top r ≤ capacity (w r) = omega (arith, o .room-of, o .most-of) in
+    first-fits _ _ (at r) _ _ (front p) (back p) (x-f p) (x-Q p) (x-initial p) (x-T p) (o .front-of) (o .back-of) (o .top-of) inside (c .write .kept .0)
+    (c .before .before .if1 .left)
+    (outside-set _ _ (c .write .kept .0) _ _ (omega (arith, inside, c .before .before .if1 .left)) (c .write .ensures .0, c .write .ensures .1))
 
 pub after-1 : (c : tie.After-append-block)
     → let p = from-1 c in
     Up-to p (x-f p) (x-back p + (x-Q p + (x-initial p + x-T p))) (c .append-block .last .0) (c .append-block .result)
-after-1 c = reach (after-own (c .before .before .before .before)) (c .append-block .ensures .0) (c .append-block .kept .0)
+after-1 c =
+    let m = c .before .before .before .before in
+    reach-copied (after-own m) (c .append-block .kept .0) (omega arith) {from = at (words (from-own m)) + 1} (omega (arith, in-order (from-own m))) (c .append-block .ensures)
 
 pub after-2 : (c : tie.After-append)
     → let p = from-2 c in Up-to p (x-back p) (x-Q p + (x-initial p + x-T p)) (c .append .last .0) (c .append .result)
-after-2 c = reach (after-1 (c .before .before .before .before)) (c .append .ensures .0) (c .append .kept .0)
+after-2 c = reach-stored (after-1 (c .before .before .before .before)) (c .append .kept .0) (omega arith) _ (length-poly-records _) (c .append .ensures)
 
 pub after-3 : (c : tie.After-append-block2)
     → let p = from-3 c in Up-to p (x-Q p) (x-initial p + x-T p) (c .append-block2 .last .0) (c .append-block2 .result)
-after-3 c = reach (after-2 (c .before .before .before .before)) (c .append-block2 .ensures .0) (c .append-block2 .kept .0)
+after-3 c =
+    let m = c .before .before .before .before in reach-copied (after-2 m) (c .append-block2 .kept .0) (omega arith) (before-end (from-2 m) .0) (c .append-block2 .ensures)
 
 pub after-4 : (c : tie.After-append-block3)
     → let p = from-4 c in Up-to p (x-initial p) (x-T p) (c .append-block3 .last .0) (c .append-block3 .result)
-after-4 c = reach (after-3 (c .before .before .before .before)) (c .append-block3 .ensures .0) (c .append-block3 .kept .0)
+after-4 c =
+    let m = c .before .before .before .before in reach-copied (after-3 m) (c .append-block3 .kept .0) (omega arith) (before-end (from-3 m) .1) (c .append-block3 .ensures)
 
 pub after-5 : (c : tie.After-append2) → let p = from-5 c in Up-to p (x-T p) 0 (c .append2 .last .0) (c .append2 .result)
-after-5 c = reach-last (after-4 (c .before .before .before .before)) (c .append2 .ensures .0) (c .append2 .kept .0)
+after-5 c = reach-stored (after-4 (c .before .before .before .before)) (c .append2 .kept .0) (omega arith) _ (length-poly-records _) (c .append2 .ensures)
 
--- The words at the end are as many as at the start.
-pub same-words : (c : tie.After-append-block4) → length (c .append-block4 .last .0) ≡ length (w (words (from-6 c)))
-same-words c = c .append-block4 .kept .0 ∙ after-5 (c .before .before .before .before) .same
+pub after-6 : (c : tie.After-append-block4) → Up-to (from-6 c) 0 0 (c .append-block4 .last .0) (c .append-block4 .result)
+after-6 c =
+    let m = c .before .before .before .before in reach-copied (after-5 m) (c .append-block4 .kept .0) (omega arith) (in-order (from-5 m) .end-of) (c .append-block4 .ensures)

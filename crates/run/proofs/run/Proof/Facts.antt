@@ -22,7 +22,7 @@ use Rattle.division.specs.Lent.{lent-for-round}
 use Rattle.tables.specs.declared.Reason.{Reason}
 use Rattle.tables.specs.declared.Reason.the-variants.{Room}
 use Rattle.rules.specs.Step.{Stepped, stopped, remainder-by}
-use Rattle.branches.specs.Area.{capacity}
+use Rattle.branches.specs.Area.{Area, capacity, outside, Held-in}
 use Rattle.pivots.specs.declared.Division.{Division}
 use Rattle.steps.specs.declared.Prepared.{Prepared}
 use Rattle.steps.specs.declared.Prepared.the-variants.{Done, Members, Stop}
@@ -33,7 +33,7 @@ use Rattle.run.proofs.Slices.{Kept, kept-then, Suits, suits-kept, Crowd
 use Rattle.run.proofs.Invariants.{AtRun, AtMembers, AtDivision, division-begins, round-less, division-goes-on, division-ends, division-passes}
 use Rattle.run.proofs.MembersLaws.{AtMember, PutBack, Comes-to, member-taken, member-inside, member-holds, member-put-back}
 use Rattle.run.proofs.RunLaws.{Goes-to, Stops, Some-open, All-open, None-open, ended, paused, Answers, run-open-some, run-paused, run-stopped}
-use Rattle.run.proofs.RunLaws.{Preparation, Pivot-in, prepared-as, prepared-done, prepared-stop, prepared-pivot}
+use Rattle.run.proofs.RunLaws.{Preparation, Pivot-in, prepared-as, prepared-done, prepared-stop, prepared-held, prepared-pivot}
 use Rattle.run.proofs.RunLaws.{members-first, members-done, members-stop}
 pub use Places.*
 
@@ -98,7 +98,7 @@ module _ (m : StepPrepared) where
   prepare-keeps : Kept (at-turn (to-run m)) (at-prepared m)
   prepare-keeps =
       let k = prepare-call m .prepare .kept in
-      record { w = k .0; t = k .1 .1 .0; i = k .1 .1 .1 .0; r = k .1 .1 .1 .1 .0; x = refl; y = refl; z = refl }
+      record { w = k .0; t = k .1 .1 .0; i = k .1 .1 .1 .0; r = k .1 .1 .1 .1 .0; x = refl; y = refl; z = refl; out = prepare-call m .prepare .ensures .1 .1 }
 
   pub kept-at-prepared : Kept (at-entry (to-entry (to-run m))) (at-prepared m)
   kept-at-prepared = kept-then (kept-at-turn (to-run m)) prepare-keeps
@@ -117,7 +117,8 @@ module _ (m : StepPrepared) where
   steps-left = omega (arith, to-step (to-due m) .if2 .left)
 
   -- Where the step stops, the run does.
-  run-stops : (why : Reason) (v : List ℕ) → Stops (capacity (at-turn (to-run m) .w)) (p (to-run m)) (at-turn (to-run m) .w) why → Refuses (to-run m) why v
+  run-stops : (why : Reason) (v : List ℕ) → length v ≡ length (at-entry (to-entry (to-run m)) .w) → ((a : Area) × Held-in v a)
+      → Stops (capacity (at-turn (to-run m) .w)) (p (to-run m)) (at-turn (to-run m) .w) why → Refuses (to-run m) why v
   run-stops = run-stopped (run-invariant (to-run m)) (all-open (open-of (to-due m))) steps-left
 
 -- ── the pivot does not fit t ──
@@ -125,7 +126,7 @@ pub pivot-pauses : (m : PivotCrowded) → Pauses (to-run (crowded-in m)) (at-pre
 pivot-pauses m =
     let r = to-run (crowded-in m) in
     let short : (length (at-turn r .t) < 512) × (at-prepared (crowded-in m) .w ≡ at-turn r .w) =
-    prepare-call (crowded-in m) .prepare .ensures .1 (m .enum-told2 .given .1) in
+    prepare-call (crowded-in m) .prepare .ensures .1 .0 (m .enum-told2 .given .1) in
     (run-paused (run-invariant r) _ (short .1), inl (omega (arith, short .0, kept-at-turn r .t)))
 
 -- ── the step is to stop ──
@@ -133,10 +134,11 @@ module _ (m : StepStopped) where
   abbrev reason : Reason
   reason = m .before .why .given .0 .0
 
-  pub step-stops : (v : List ℕ) → Refuses (to-run (stopped-in m)) reason v
-  step-stops v =
+  pub step-stops : Refuses (to-run (stopped-in m)) reason (at-prepared (stopped-in m) .w)
+  step-stops =
       let s = stopped-in m in
-      run-stops s reason v (prepared-stop reason (prepared-as (preparation s) (Stop reason) (m .before .why .given .1)))
+      let P = prepared-as (preparation s) (Stop reason) (m .before .why .given .1) in
+      run-stops s reason (at-prepared s .w) (kept-at-prepared s .w) (prepared-held reason P (some-open (open-of (to-due s)))) (prepared-stop reason P)
 
 -- ── members are to be divided ──
 module _ (m : MembersFound) where
@@ -171,8 +173,9 @@ module _ (m : MembersFound) where
   pub members-begin : Left (at-found m .w) (found .left)
   members-begin = members-first members-prepared (some-open (open-of (to-due (to-prepared m))))
 
-  pub left-stops : (why : Reason) (v : List ℕ) → Left-comes-to (stopped why) → Refuses (run-of m) why v
-  left-stops why v h = run-stops (to-prepared m) why v (members-stop members-prepared why h)
+  pub left-stops : (why : Reason) (v : List ℕ) → length v ≡ length (at-entry (entry-of m) .w) → ((a : Area) × Held-in v a)
+      → Left-comes-to (stopped why) → Refuses (run-of m) why v
+  left-stops why v same held h = run-stops (to-prepared m) why v same held (members-stop members-prepared why h)
 
 -- ── a turn of the members begins ──
 module _ (m : MembersTurn) where
@@ -193,7 +196,7 @@ module _ (m : MemberTaken) where
   take-keeps : Kept (at-members (to-members m)) (at-taken m)
   take-keeps =
       let k = take-call m .take .kept in
-      record { w = k .0; t = refl; i = refl; r = k .1 .1 .1 .1 .0; x = refl; y = refl; z = refl }
+      record { w = k .0; t = refl; i = refl; r = k .1 .1 .1 .1 .0; x = refl; y = refl; z = refl; out = take-call m .take .ensures .1 .1 }
 
   pub crowds-taken : Crowds (to-members m .members .crowded) (at-taken m)
   crowds-taken = to-members m .members .inv .2
@@ -285,7 +288,7 @@ module _ (m : RoundDone) where
   pub round-keeps : Kept (at-division (round-of m)) (at-rounded m)
   round-keeps =
       let k = round-call m .round-anywhere .kept .1 .1 .1 .1 .1 .1 in
-      record { w = refl; t = refl; i = refl; r = k .0; x = k .1 .1 .0; y = k .1 .1 .1 .0; z = k .1 .1 .1 .1 .0 }
+      record { w = refl; t = refl; i = refl; r = k .0; x = k .1 .1 .0; y = k .1 .1 .1 .0; z = k .1 .1 .1 .1 .0; out = refl }
 
   pub kept-at-round : Kept (at-entry (entry-of (division-of (round-of m)))) (at-rounded m)
   kept-at-round = kept-then (kept-at-prepared (to-prepared (division-of (round-of m)))) (kept-then (division-keeps (round-of m)) round-keeps)
@@ -335,7 +338,7 @@ module _ (m : MemberPut) where
   put-back-keeps : Kept (at-division (put-of m)) (at-put m)
   put-back-keeps =
       let k = put-call m .put-back .kept in
-      record { w = k .0; t = refl; i = refl; r = k .1 .1 .1 .1 .0; x = refl; y = refl; z = refl }
+      record { w = k .0; t = refl; i = refl; r = k .1 .1 .1 .1 .0; x = refl; y = refl; z = refl; out = put-call m .put-back .ensures .1 .1 }
 
   pub member-keeps : Kept (at-found (division-of (put-of m))) (at-put m)
   member-keeps = kept-then (division-keeps (put-of m)) put-back-keeps
@@ -354,9 +357,10 @@ module _ (m : MemberPut) where
       PutBack (modulo f) (found f .closing) left-then (divided (put-of m)) (take (put-of m .division .n) (at-put m .r)) (at-division (put-of m) .w) fits (at-put m .w)
   put-back =
       let e = put-call m .put-back .ensures in
-      record { same = put-back-keeps .w; sound = e .0 .0; monic-of = e .0 .1; puts = e .1 }
+      record { same = put-back-keeps .w; sound = e .0 .0; monic-of = e .0 .1; puts = e .1 .0 }
 
-  pub member-goes : (fits ≡ true → Left (division-of (put-of m)) (at-put m .w) left-then) × (fits ≡ false → Left-comes-to (division-of (put-of m)) (stopped Room))
+  pub member-goes : (fits ≡ true → Left (division-of (put-of m)) (at-put m .w) left-then)
+      × (fits ≡ false → Left-comes-to (division-of (put-of m)) (stopped Room) × ((a : Area) × Held-in (at-put m .w) a))
   member-goes =
       let d = put-of m in
       member-put-back (member-out (to-taken d)) (residues (division-of d) .prime) (division-invariant d .holds) (remainder-stands (to-divided m)) put-back
@@ -376,13 +380,13 @@ module _ (m : StepDone) where
       ⊎-elim
       (λ c. (
         subst Goes (sym (c .2)) (prepared-done (prepared-as P Done (c .1 .given .1))),
-        record { w = ap length (c .2); t = refl; i = refl; r = ap length (c .3); x = ap length (c .4); y = ap length (c .5); z = ap length (c .6) },
+        record { w = ap length (c .2); t = refl; i = refl; r = ap length (c .3); x = ap length (c .4); y = ap length (c .5); z = ap length (c .6); out = ap outside (c .2) },
         λ e. omega (arith, crowds-at-turn done-run (sym (c .7) ∙ e), ap length (c .4)),
       ))
       (λ c. (
         subst Goes (sym (c .5)) (members-done (prepared-as P (Members (c .1 .given .0 .0)) (c .1 .given .1)) (c .3 .inv .0) (omega (arith, c .4 .left))),
         kept-then (c .3 .inv .1)
-            record { w = ap length (c .5); t = refl; i = refl; r = ap length (c .6); x = ap length (c .7); y = ap length (c .8); z = ap length (c .9) },
+            record { w = ap length (c .5); t = refl; i = refl; r = ap length (c .6); x = ap length (c .7); y = ap length (c .8); z = ap length (c .9); out = ap outside (c .5) },
         λ e. omega (arith, c .3 .inv .2 (sym (c .10) ∙ e), ap length (c .7)),
       ))
       (m .match .came)

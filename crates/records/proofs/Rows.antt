@@ -95,4 +95,4 @@ module _ (w : List ℕ) (i a b c d : ℕ) (h : i < room w) where
       (λ t. set (set (set (s1 w i a) (e₁ t) b) (e₂ t) c) (e₃ t) d) ∙ sets-eq (a ∷ b ∷ c ∷ d ∷ []) w (4 * i) (omega arith)
 
   pub record-written-store : Record-written i a b c d w (store w i a b c d)
-  record-written-store = (view-store, words-behind-store, store-is-paste)
+  record-written-store = ((view-store, words-behind-store), store-is-paste)

@@ -50,7 +50,7 @@ Records-become v w w' = (view w' ≡ v) × (words-behind w' ≡ words-behind w)
 
 -- Record i of w becomes a, b, c, d, and so w becomes w': said of the records, of the words behind them, and word for word, which implies both.
 abbrev pub Record-written : ℕ → ℕ → ℕ → ℕ → ℕ → List ℕ → List ℕ → Type 0
-Record-written i a b c d w w' = (view w' ≡ set (view w) i (record-of a b c d)) × (words-behind w' ≡ words-behind w) × (w' ≡ paste w (4 * i) (a ∷ b ∷ c ∷ d ∷ []) 4)
+Record-written i a b c d w w' = Records-become (set (view w) i (record-of a b c d)) w w' × (w' ≡ paste w (4 * i) (a ∷ b ∷ c ∷ d ∷ []) 4)
 
 -- The n records from `from` on, copied over those from `to` on.
 abbrev pub moved : List Rec → ℕ → ℕ → ℕ → List Rec

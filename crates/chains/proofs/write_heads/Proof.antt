@@ -112,7 +112,7 @@ loop-again c =
       omega arith,
       omega arith,
       ap (λ (k : ℕ). skip-to v (i + 1 + k) (left - 1)) is ∙ sym (skip-to-turn v i left (left - 1) less) ∙ turn .inv .2,
-      heads-turn v (turn .out) (put .last .0) (body .last .1 .1 .0) at (at + 1 + n) i left (left - 1) n (if1 .first) (if2 .next) (put .ensures .2) (body .ensures)
+      heads-turn v (turn .out) (put .last .0) (body .last .1 .1 .0) at (at + 1 + n) i left (left - 1) n (if1 .first) (if2 .next) (put .ensures .1) (body .ensures)
           (omega arith) is refl less (omega (arith, length-view (a .w .now))) (omega arith)
           (λ h. ⊎-elim (λ w. omega arith) (λ w. omega arith) (if1 .came)) (λ h. ⊎-elim (λ w. omega arith) (λ w. omega arith) (if1 .came))
           (λ h. ⊎-elim (λ w. omega arith) (λ w. omega arith) (if2 .came)) (λ h. ⊎-elim (λ w. omega arith) (λ w. omega arith) (if2 .came))

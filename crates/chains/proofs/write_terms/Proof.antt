@@ -106,7 +106,7 @@ loop-again c =
       omega arith,
       omega arith,
       terms-turn (view (a .w .now)) (turn .out) (put .last .0) (a .to + i) (a .to + (i + 1)) (j + i) (j + (i + 1)) (n - i) (n - (i + 1))
-          (coefficient .result) (high .result) (low .result) (if1 .next) (put .ensures .2)
+          (coefficient .result) (high .result) (low .result) (if1 .next) (put .ensures .1)
           (omega arith) (omega arith) (omega arith) (omega (arith, length-view (a .w .now))) (omega arith)
           (coefficient .ensures) (high .ensures) (low .ensures) (omega arith) (omega arith)
           (λ h. ⊎-elim (λ w. omega arith) (λ w. omega arith) (if1 .came)) (λ h. ⊎-elim (λ w. omega arith) (λ w. omega arith) (if1 .came))

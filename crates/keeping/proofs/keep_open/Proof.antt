@@ -204,7 +204,7 @@ returns-2 c =
       λ b bs ss H. kept H (i r) (n r) (members r H) (f r) (initial r) (placed p H) (o .before .before .if1 .left) (start r .pre .1 .1 .0) (start r .pre .1 .1 .1)
           (record {
             v₁ = view (o .write .last .0);
-            own-put = o .write .ensures .0;
+            own-put = o .write .ensures .0 .0;
             a₁ = m₁ .append-block .result;
             v₂ = view (m₁ .append-block .last .0);
             front-copied = (m₁ .append-block .ensures .0, m₁ .append-block .ensures .1 .0);
@@ -225,10 +225,10 @@ returns-2 c =
             T-copied = (m₆ .append-block4 .ensures .0, m₆ .append-block4 .ensures .1 .0);
             systems = k .before .before .get3 .result;
             systems-word = k .before .before .get3 .ensures;
-            control-put = k .write2 .ensures .0;
+            control-put = k .write2 .ensures .0 .0;
           }),
       outside-set _ _ (k .write2 .kept .0) 0 _ (omega (arith, in-order p .top-of, after-6 m₆ .inside, after-6 m₆ .same, o .before .before .if1 .left))
-          (k .write2 .ensures .0, k .write2 .ensures .1)
+          (k .write2 .ensures .0)
           ∙ after-6 m₆ .stays,
     )
 

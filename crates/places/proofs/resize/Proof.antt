@@ -43,8 +43,8 @@ returns c =
     let top = systems .before .before in
     let at = top .before .before in
     let a = at .before .before .before .args in
-    let own = o .write .ensures in
-    let control = s .write2 .ensures in (
+    let own = o .write .ensures .0 in
+    let control = s .write2 .ensures .0 in (
       rewritten (view (a .w .now)) (a .end) (a .p) (a .q) (a .t)
           (at .get0 .ensures) (top .get2 .ensures) (systems .get3 .ensures) (under .get32 .ensures) (own .0) (control .0),
       control .1 ∙ own .1,

@@ -52,7 +52,7 @@ same-length c = search needs
 returns : tie.Need-returns
 returns c =
     let start = c .before .before .before .before .before .before .before .before .before in
-    let stored = c .before .before .write .ensures in
+    let stored = c .before .before .write .ensures .0 in
     (stored .0 ∙ ap (set (view (start .args .w .now)) (start .args .to)) (sym (getD-view (start .args .w .now) (start .args .from) (start .pre .0))), stored .1)
 
 pub copy-spec : {M : Type 1} → statement M

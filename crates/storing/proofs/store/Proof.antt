@@ -89,8 +89,8 @@ loop-again c =
       (
         paste-turn zero-record (view (head .last .0)) (view (turn .loop .w)) (view (again .last .0)) (term-records f) (a .at + 1) i
             (term-record (getD f (2 * i) 0) (getD f (2 * i + 1) 0)) (omega (arith, length-view (head .last .0))) (omega (arith, length-term-records f))
-            (turn .loop .inv .2 .0) (again .ensures .0) (getD-term-records f i (omega arith)),
-        again .ensures .1 ∙ turn .loop .inv .2 .1,
+            (turn .loop .inv .2 .0) (again .ensures .0 .0) (getD-term-records f i (omega arith)),
+        again .ensures .0 .1 ∙ turn .loop .inv .2 .1,
       ),
     )
 
@@ -105,9 +105,9 @@ returns c =
     let n = length (a .f .now) / 2 in
     let done : c .before .loop .i ≡ n = omega arith in
     let now = c .before .loop .inv .2 in (
-      now .0 ∙ (λ t. paste (put .ensures .0 t) (a .at + 1) S (done t))
+      now .0 ∙ (λ t. paste (put .ensures .0 .0 t) (a .at + 1) S (done t))
           ∙ head-then-terms (view (a .w .now)) S (head n) (a .at) n (omega (arith, length-view (a .w .now))),
-      now .1 ∙ put .ensures .1,
+      now .1 ∙ put .ensures .0 .1,
     )
 
 pub store-spec : {M : Type 1} → statement M

@@ -35,9 +35,9 @@ returns c =
     let p = c .before .before .before .before .before .before in
     let q = c .before .before in (
       begun v _ _ (capacity w) (s .pre) (omega (arith, length-view w)) (omega arith)
-          (p .write .ensures .0 ∙ ap (λ (k : ℕ). set v 0 (record-of 1 2 k 0)) (p .before .before .count-records .ensures)) (q .write2 .ensures .0),
-      outside-set _ _ (q .write2 .kept .0) 1 _ (omega (arith, s .pre, p .write .kept .0)) (q .write2 .ensures .0, q .write2 .ensures .1)
-          ∙ outside-set _ _ (p .write .kept .0) 0 _ (omega (arith, s .pre)) (p .write .ensures .0, p .write .ensures .1),
+          (p .write .ensures .0 .0 ∙ ap (λ (k : ℕ). set v 0 (record-of 1 2 k 0)) (p .before .before .count-records .ensures)) (q .write2 .ensures .0 .0),
+      outside-set _ _ (q .write2 .kept .0) 1 _ (omega (arith, s .pre, p .write .kept .0)) (q .write2 .ensures .0)
+          ∙ outside-set _ _ (p .write .kept .0) 0 _ (omega (arith, s .pre)) (p .write .ensures .0),
     )
 
 pub begin-spec : {M : Type 1} → statement M

@@ -44,8 +44,8 @@ returns c =
     let at = under .before .before in (
       λ b bs ss H. let control = first-is (lies H) in
           dropped H _ _ _ _ _ (w3-is (own-read H _ (at .get0 .ensures)) (under .get3 .ensures)) (at-is H _ (at .get0 .ensures)) (w2-is control (top .get2 .ensures))
-          (w3-is control (systems .get32 .ensures)) (k .write .ensures .0),
-      outside-set _ _ (k .write .kept .0) 0 _ (omega (arith, at-inside (at .before .before .before .pre .3) _ (at .get0 .ensures))) (k .write .ensures .0, k .write .ensures .1),
+          (w3-is control (systems .get32 .ensures)) (k .write .ensures .0 .0),
+      outside-set _ _ (k .write .kept .0) 0 _ (omega (arith, at-inside (at .before .before .before .pre .3) _ (at .get0 .ensures))) (k .write .ensures .0),
     )
 
 pub drop-spec : {M : Type 1} → statement M

@@ -177,9 +177,9 @@ returns c =
     let m = move-of o in
     let r = from-move m in
     let h = inside r in (
-      λ b bs ss H. listed H (bounds r) (top-read r .get2 .ensures) (own-is (m .before .before) H) (systems-is r H) (m .move-up .ensures .0) (o .write .ensures .0) (k .write2 .ensures .0),
-      outside-set _ _ (k .write2 .kept .0) 0 _ (omega (arith, h, o .write .kept .0, m .move-up .kept .0)) (k .write2 .ensures .0, k .write2 .ensures .1)
-          ∙ outside-set _ _ (o .write .kept .0) _ _ (omega (arith, h, m .move-up .kept .0)) (o .write .ensures .0, o .write .ensures .1)
+      λ b bs ss H. listed H (bounds r) (top-read r .get2 .ensures) (own-is (m .before .before) H) (systems-is r H) (m .move-up .ensures .0) (o .write .ensures .0 .0) (k .write2 .ensures .0 .0),
+      outside-set _ _ (k .write2 .kept .0) 0 _ (omega (arith, h, o .write .kept .0, m .move-up .kept .0)) (k .write2 .ensures .0)
+          ∙ outside-set _ _ (o .write .kept .0) _ _ (omega (arith, h, m .move-up .kept .0)) (o .write .ensures .0)
           ∙ outside-moved _ _ (m .move-up .kept .0) (at r) (end r - at r) (top r - (end r - at r)) (omega (arith, h)) (omega (arith, h)) (m .move-up .ensures),
     )
 

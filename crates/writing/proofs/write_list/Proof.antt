@@ -169,7 +169,7 @@ returns c ss h =
     let put = c .before .before .before .before .write in
     let first = c .before .before .before .before .before .before .if1 in
     list-written ss (a .p) (a .n) (first .first) (c .before .before .before .before .before .before .before .before .get3 .result) (a .out .now) (put .last .0) (loop .out)
-    (put .ensures .2)
+    (put .ensures .1)
     (omega (arith, start .pre .1 ss h .0, list-some (reverse (map system-of ss))))
     (c .before .before .before .before .before .before .before .before .get3 .ensures ∙ control v (capacity (a .w .now)) ss h .count)
     (λ h. ⊎-elim (λ w. omega arith) (λ w. omega arith) (first .came))

@@ -139,7 +139,7 @@ returns c s h =
     let o₂ = first .last .1 .1 .1 .0 in
     let o₃ = second .last .1 .1 .1 .0 in
     system-written s (a .out .now) o₁ o₂ o₃ (a .at) to (a .next) (if1 .first-t) (if2 .first-u)
-    (put .ensures .2)
+    (put .ensures .1)
     (heads-over o₁ o₂ (a .at + 1) (skip-to v from-t t - from-t) _ (s .T) (first .ensures) (e .polys-T) (omega (arith, k .skip2 .ensures)))
     (heads-over o₂ o₃ to (skip-to v (a .i + 1) u - (a .i + 1)) _ (s .Q) (second .ensures) (e .polys-U) (omega (arith, k .before .skip .ensures)))
     (omega arith)

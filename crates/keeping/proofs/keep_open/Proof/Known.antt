@@ -240,7 +240,7 @@ after-own c =
     let inside : top r ≤ capacity (w r) = omega (arith, o .room-of, o .most-of) in
     first-fits _ _ (at r) _ _ (front p) (back p) (x-f p) (x-Q p) (x-initial p) (x-T p) (o .front-of) (o .back-of) (o .top-of) inside (c .write .kept .0)
     (c .before .before .if1 .left)
-    (outside-set _ _ (c .write .kept .0) _ _ (omega (arith, inside, c .before .before .if1 .left)) (c .write .ensures .0, c .write .ensures .1))
+    (outside-set _ _ (c .write .kept .0) _ _ (omega (arith, inside, c .before .before .if1 .left)) (c .write .ensures .0))
 
 pub after-1 : (c : tie.After-append-block)
     → let p = from-1 c in

@@ -23,7 +23,7 @@ heading steps o k = record { outcome = outcome-numbers o .outcome; steps = steps
 abbrev pub heading-of : Answer → ℕ → Heading
 heading-of a k = heading (a .steps) (a .outcome) k
 
--- The words of a job's table stand at the start of the slice.
+-- A job's table lies within the slice, whose first words it is.
 abbrev pub Shaped : Job → List ℕ → Type 0
 Shaped (Next s i) w = s .table ≤ length w
 Shaped End w = Unit {0}

@@ -23,7 +23,6 @@ use Rattle.polynomials.specs.Bounds.{
   Bounded,
   within,
   degree-passed,
-  terms-passed,
   and-then,
   degrees-over,
   tested,

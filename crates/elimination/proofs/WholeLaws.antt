@@ -1,12 +1,9 @@
 -- Elimination whole: a table refused in reading, a start that finds no room, and the run of a start that finds it.
 use mathlib.Core.Path.{_≡_, refl, sym, ap, subst}
-use mathlib.Core.Logic.{_⊎_, inl, inr}
 use mathlib.Core.Bool.{Bool, true, false}
 use mathlib.Core.List.{List, []}
-use Prim.Native.Nat.{ℕ, _≤_, _<_}
+use Prim.Native.Nat.{ℕ, _≤_}
 use native.Mathlib.Omega.{arith}
-use borrow.Author.Tests.{leb-true, leb-false}
-use lib.Dec.{leb}
 use lib.ListN.{length}
 use Rattle.records.specs.Records.{Rec}
 use Rattle.tables.specs.Read.{Input}
@@ -27,41 +24,40 @@ use Rattle.delivery.specs.Delivered.{Delivered}
 use Rattle.loading.proofs.StartLaws.{limits-are}
 
 -- ── the start ──
-not-started : (s : Stepped) (k : State → Ended) (p most : ℕ) {r : Bool} (v : List Rec) (t : Input) (room : ℕ) (out : List ℕ) → Started s p most r v → r ≡ false
-    → Delivered (delivered room t (after-step k 0 s)) (record { steps = 0; outcome = Refused Room 0 }) out out
-not-started (next s) k p most v t room out x e =
-    let y = x .0 in absurd (let z : _≡_ {A = ℕ} 0 1 = cc in omega arith)
-not-started (stopped why) k p most v t room out x e =
-    record { answer = ap (λ (w : Reason). record { steps = 0; outcome = Refused w 0 }) (sym (x .1)); output = refl }
+module _ (t : Input) where
+  not-started : (s : Stepped) (k : State → Ended) (most : ℕ) {r : Bool} (v : List Rec) (room : ℕ) (out : List ℕ) → Started t s most r v → r ≡ false
+      → Delivered (delivered room t (after-step k 0 s)) (record { steps = 0; outcome = Refused Room 0 }) out out
+  not-started (next s) k most v room out x e =
+      let y = x .0 in absurd (let z : _≡_ {A = ℕ} 0 1 = cc in omega arith)
+  not-started (stopped why) k most v room out x e =
+      record { answer = ap (λ (w : Reason). record { steps = 0; outcome = Refused w 0 }) (sym (x .1)); output = refl }
 
--- What the work area holds then, if it has room for a state.
-not-started-holds : (s : Stepped) (p : ℕ) {most : ℕ} {r : Bool} {v : List Rec} → Started s p most r v → r ≡ false → 2 ≤ most → (a : Area) × Held v most a
-not-started-holds (next s) p x e h = let y = x .0 in absurd (let z : _≡_ {A = ℕ} 0 1 = cc in omega arith)
-not-started-holds (stopped why) p x e h = let d = x .2 h in (with-open (d .1 .stored) [] [], d .1 .held)
+  -- What the work area holds then, if it has room for a state.
+  not-started-holds : (s : Stepped) {most : ℕ} {r : Bool} {v : List Rec} → Started t s most r v → r ≡ false → 2 ≤ most → (a : Area) × Held v most a
+  not-started-holds (next s) x e h = let y = x .0 in absurd (let z : _≡_ {A = ℕ} 0 1 = cc in omega arith)
+  not-started-holds (stopped why) x e h = let d = x .2 h .2 in (with-open (d .stored) [] [], d .held)
 
-held-first : (s : Stepped) {p most : ℕ} {r : Bool} {v : List Rec} → Started s p most r v → r ≡ true
-    → (a : Area) × Held v most a × Ready p a × (s ≡ next (state-of a))
-held-first (next s) x e = let a = x .1 in (a .0, a .1, a .2, ap next (sym (a .3)))
-held-first (stopped why) x e = let y = x .0 in absurd (let z : _≡_ {A = ℕ} 0 1 = cc in omega arith)
+  held-first : (s : Stepped) {most : ℕ} {r : Bool} {v : List Rec} → Started t s most r v → r ≡ true
+      → (2 ≤ most) × ((a : Area) × Held v most a × Ready (t .modulus) a × (s ≡ next (state-of a)))
+  held-first (next s) x e = let a = x .2 in (x .1, (a .0, a .1, a .2, ap next (sym (a .3))))
+  held-first (stopped why) x e = let y = x .0 in absurd (let z : _≡_ {A = ℕ} 0 1 = cc in omega arith)
 
-module _ (t : Input) (most limit : ℕ) {r : Bool} (v : List Rec) (x : Started (start (limits-in most) t) (t .modulus) most r v) where
+module _ (t : Input) (most limit : ℕ) {r : Bool} (v : List Rec) (x : Started t (start (limits-in most) t) most r v) where
   pub no-room : (room : ℕ) (out : List ℕ) → r ≡ false
       → Delivered (delivered room t (run-of (limits-in most) limit t)) (record { steps = 0; outcome = Refused Room 0 }) out out
   unfolding run-of
-  no-room room out e = not-started (start (limits-in most) t) (run (limits-in most) (t .modulus) limit 0) (t .modulus) most v t room out x e
+  no-room room out e = not-started t (start (limits-in most) t) (run (limits-in most) (t .modulus) limit 0) most v room out x e
 
-  -- Some state is held, or the work area is too short for one.
-  pub no-room-leaves : {A : Type 0} → r ≡ false → (most < 2 → A) → ((a : Area) × Held v most a) ⊎ A
-  no-room-leaves {A} e short = go (leb 2 most) (leb-true 2 most) (leb-false 2 most)
-    where
-      go : (b : Bool) → (b ≡ true → 2 ≤ most) → (b ≡ false → most < 2) → ((a : Area) × Held v most a) ⊎ A
-      go true h k = inl (not-started-holds (start (limits-in most) t) (t .modulus) x e (h refl))
-      go false h k = inr (short (k refl))
+  pub no-room-leaves : r ≡ false → 2 ≤ most → (a : Area) × Held v most a
+  no-room-leaves = not-started-holds t (start (limits-in most) t) x
+
+  pub started-in-two : r ≡ true → 2 ≤ most
+  started-in-two e = held-first t (start (limits-in most) t) x e .0
 
   -- The state that the run begins with, said of the room and the modulus that it is given.
   pub begins : {p most₁ : ℕ} → r ≡ true → t .modulus ≡ p → most₁ ≡ most → (a : Area) × Held v most₁ a × Ready p a
   begins e q m =
-      let a = held-first (start (limits-in most) t) x e in
+      let a = held-first t (start (limits-in most) t) x e .1 in
       (a .0, subst (λ (n : ℕ). Held v n (a .0)) (sym m) (a .1), subst (λ (n : ℕ). Ready n (a .0)) q (a .2))
 
   pub run-is : {p most₁ : ℕ} {q : Answer} {u : List Rec} → r ≡ true → t .modulus ≡ p → most₁ ≡ most
@@ -69,7 +65,7 @@ module _ (t : Input) (most limit : ℕ) {r : Bool} (v : List Rec) (x : Started (
       → Ran (run-of (limits-in most) limit t) (t .modulus) (q .steps) (q .outcome) u most
   unfolding run-of
   run-is {p = p} {q = q} {u = u} e same m k =
-      let a = held-first (start (limits-in most) t) x e in
+      let a = held-first t (start (limits-in most) t) x e .1 in
       let there = subst (λ (n : ℕ). (a : Area) → Held v n a → Ready p a → Ran (run (limits-in n) p limit 0 (state-of a)) p (q .steps) (q .outcome) u n) m k in
       let here = subst (λ (n : ℕ). (a : Area) → Held v most a → Ready n a → Ran (run (limits-in most) n limit 0 (state-of a)) n (q .steps) (q .outcome) u most) (sym same) there in
       subst (λ (s : Stepped). Ran (after-step (run (limits-in most) (t .modulus) limit 0) 0 s) (t .modulus) (q .steps) (q .outcome) u most) (sym (a .3)) (here (a .0) (a .1) (a .2))
@@ -77,7 +73,7 @@ module _ (t : Input) (most limit : ℕ) {r : Bool} (v : List Rec) (x : Started (
 -- What a run leaves, however it ends.
 pub left-holds : (E : Ended) (p : ℕ) {most : ℕ} {v : List Rec} → Left E p v most → (a : Area) × Held v most a
 left-holds (finished n ss) p l = (_, l .1)
-left-holds (refused n why) p l = l
+left-holds (refused n why) p l = (_, l .3)
 
 -- Said of the words of the work area.
 pub in-words : (w : List ℕ) (room limit : ℕ) (t : Input) {r : Answer} {before after : List ℕ}

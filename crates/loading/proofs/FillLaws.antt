@@ -2,12 +2,13 @@
 use mathlib.Core.Path.{_≡_, refl, sym, _∙_, ap, subst}
 use mathlib.Core.Logic.{_≢_}
 use mathlib.Core.Bool.{Bool, true, false, _||_, false≢true}
-use mathlib.Core.List.{List, [], _∷_, map}
-use Prim.Native.Nat.{ℕ, _+_, _≤_, _<_}
+use mathlib.Core.List.{List, [], _∷_, _++_, map, append-nil, append-assoc}
+use Prim.Native.Nat.{ℕ, suc, _+_, _≤_, _<_}
 use native.Mathlib.Omega.{arith}
 use borrow.Author.Tests.{le-leb, lt-leb, leb-false}
 use lib.Dec.{leb}
-use lib.ListN.{take}
+use lib.ListN.{length, take, length-append}
+use lib.Seq.{take-append-seam}
 use Rattle.residues.specs.Each.{Each}
 use Rattle.polynomials.specs.Poly.{Poly, monic}
 use Rattle.polynomials.specs.Packed.{terms}
@@ -53,12 +54,21 @@ unfolding branch-size
 size-put-heads true p fs c = omega (arith, size-put-all (rules.put-Q p) (size-put-Q p) fs (c .Q))
 size-put-heads false p fs c = omega (arith, size-put-all (rules.put-P p) (size-put-P p) fs (c .P))
 
-put-heads-next : (q : Bool) (p : ℕ) (f : Poly) (fs : List Poly) (c : Branch) → put-heads q p (f ∷ fs) c ≡ put-heads q p fs (put-heads q p (f ∷ []) c)
+put-all-append : (put : Poly → List Poly → List Poly) (fs gs out : List Poly) → put-all put (fs ++ gs) out ≡ put-all put gs (put-all put fs out)
 unfolding put-all
-put-heads-next true p f fs c = refl
-put-heads-next false p f fs c = refl
+put-all-append put [] gs out = refl
+put-all-append put (f ∷ fs) gs out = put-all-append put fs gs (put f out)
 
-put-heads-none : (q : Bool) (p : ℕ) (c : Branch) → put-heads q p [] c ≡ c
+put-heads-append : (q : Bool) (p : ℕ) (fs gs : List Poly) (c : Branch) → put-heads q p (fs ++ gs) c ≡ put-heads q p gs (put-heads q p fs c)
+put-heads-append true p fs gs c = λ i. record { P = c .P; Q = put-all-append (rules.put-Q p) fs gs (c .Q) i; T = c .T }
+put-heads-append false p fs gs c = λ i. record { P = put-all-append (rules.put-P p) fs gs (c .P) i; Q = c .Q; T = c .T }
+
+-- The first of them make it no larger than all.
+pub size-first : (q : Bool) (p : ℕ) (fs gs : List Poly) (c : Branch) → branch-size (put-heads q p fs c) ≤ branch-size (put-heads q p (fs ++ gs) c)
+size-first q p fs gs c =
+    subst (λ (d : Branch). branch-size (put-heads q p fs c) ≤ branch-size d) (sym (put-heads-append q p fs gs c)) (size-put-heads q p gs (put-heads q p fs c))
+
+pub put-heads-none : (q : Bool) (p : ℕ) (c : Branch) → put-heads q p [] c ≡ c
 unfolding put-all
 put-heads-none true p c = refl
 put-heads-none false p c = refl
@@ -75,14 +85,11 @@ alone-fits {c = c} x =
     let e : branch-size (branch-of b) ≡ branch-size c = ap branch-size (x .is) in
     omega (arith, x .held .fits, length-stack (b ∷ []))
 
--- There is no room for more than there is no room for.
-pub filled-not : {p most : ℕ} {c d : Branch} {v : List Rec} → Filled p most c false v → branch-size c ≤ branch-size d → Filled p most d false v
-filled-not {most = most} {c = c} {d = d} x h =
-    record {
-      answer = sym (lt-leb (1 + branch-size d) most (omega (arith, leb-false (1 + branch-size c) most (sym (x .answer)))));
-      alone = λ e. absurd (false≢true e);
-      otherwise = x .otherwise;
-    }
+-- The branch c, which was alone, becomes d if there is room for that, and otherwise stays; the answer is whether there is room.
+record Becomes (p most : ℕ) (c d : Branch) (r : Bool) (v : List Rec) : Type 0 where
+  answer : r ≡ leb (1 + branch-size d) most
+  alone : r ≡ true → Alone p most d v
+  otherwise : r ≡ false → Alone p most c v
 
 -- ── one polynomial put ──
 -- s, put into whatever branch is open, is put so.
@@ -109,7 +116,7 @@ module _ (p : ℕ) (s : List ℕ) (f : Poly) (sound : Sound p s) (is-monic : Mon
   put-nonzero true b h = h
   put-nonzero false b h = put-P-nonzero s (b .P) h
 
-  put-alone : {most : ℕ} {c : Branch} {v u : List Rec} {r : Bool} (q : Bool) → Alone p most c v → Puts v most q s r u → Filled p most (put-heads q p (f ∷ []) c) r u
+  put-alone : {most : ℕ} {c : Branch} {v u : List Rec} {r : Bool} (q : Bool) → Alone p most c v → Puts v most q s r u → Becomes p most c (put-heads q p (f ∷ []) c) r u
   put-alone {most} {c} {v} {u} {r} q x puts =
       let b = x .stored in
       let l = puts b [] [] (x .held) in
@@ -124,57 +131,77 @@ module _ (p : ℕ) (s : List ℕ) (f : Poly) (sound : Sound p s) (is-monic : Mon
           nonzero = put-nonzero q b (x .nonzero);
           is = is;
         };
-        otherwise = λ t. (
-          c,
-          record { stored = b; held = l .otherwise t; sound = x .sound; monic = x .monic; nonzero = x .nonzero; is = x .is },
-        );
+        otherwise = λ t. record { stored = b; held = l .otherwise t; sound = x .sound; monic = x .monic; nonzero = x .nonzero; is = x .is };
       }
 
 -- ── the loop ──
--- The polynomials from index i on, put into the branch that the work area holds, make the branch `whole`.
-pub record PutLeft (w : List ℕ) (p n : ℕ) (q : Bool) (most : ℕ) (whole : Branch) (i : ℕ) (v : List Rec) : Type 0 where
+-- The polynomials fs are those done and those from index i on; the work area holds the branch c with those done.
+pub record PutLeft (w : List ℕ) (p n : ℕ) (q : Bool) (most : ℕ) (fs : List Poly) (c : Branch) (i : ℕ) (v : List Rec) : Type 0 where
   pub chain : HeadsLeft w p n i
-  pub done : Branch
-  pub alone : Alone p most done v
-  pub same : put-heads q p (chain .rest) done ≡ whole
+  pub done : List Poly
+  pub parts : fs ≡ done ++ chain .rest
+  pub alone : Alone p most (put-heads q p done c) v
 
-module _ (w : List ℕ) (p n : ℕ) (q : Bool) (most : ℕ) where
-  pub put-first : (i : ℕ) (v : List Rec) (fs : List Poly) (c : Branch) → 0 < records w → read-heads w p n (records w) 0 i ≡ good fs → Alone p most c v
-      → PutLeft w p n q most (put-heads q p fs c) i v
-  put-first i v fs c h e x = record { chain = heads-left w p n 0 i fs h e; done = c; alone = x; same = refl }
+module _ (w : List ℕ) (p n : ℕ) (q : Bool) (most : ℕ) (fs : List Poly) (c : Branch) where
+  pub put-first : (i : ℕ) (v : List Rec) → 0 < records w → read-heads w p n (records w) 0 i ≡ good fs → Alone p most c v → PutLeft w p n q most fs c i v
+  put-first i v h e x =
+      record { chain = heads-left w p n 0 i fs h e; done = []; parts = refl; alone = subst (λ (d : Branch). Alone p most d v) (sym (put-heads-none q p c)) x }
 
-  module _ (whole : Branch) (i : ℕ) (v : List Rec) (l : PutLeft w p n q most whole i v) where
-    pub put-end : i ≡ 0 → Filled p most whole true v
+  module _ (i : ℕ) (v : List Rec) (l : PutLeft w p n q most fs c i v) where
+    pub put-end : i ≡ 0 → Filled p most q fs c true v
     put-end z =
-        let is : l .done ≡ whole = sym (put-heads-none q p (l .done)) ∙ ap (λ (fs : List Poly). put-heads q p fs (l .done)) (sym (chain-end (l .chain) z)) ∙ l .same in
-        let x : Alone p most whole v = subst (λ (c : Branch). Alone p most c v) is (l .alone) in
-        record { answer = sym (le-leb (1 + branch-size whole) most (alone-fits x)); alone = λ t. x; otherwise = λ e. absurd (false≢true (sym e)) }
+        let is : l .done ≡ fs = sym (append-nil (l .done)) ∙ ap (λ (gs : List Poly). l .done ++ gs) (sym (chain-end (l .chain) z)) ∙ sym (l .parts) in
+        let x : Alone p most (put-heads q p fs c) v = subst (λ (gs : List Poly). Alone p most (put-heads q p gs c) v) is (l .alone) in
+        record { answer = sym (le-leb (1 + branch-size (put-heads q p fs c)) most (alone-fits x)); alone = λ t. x; otherwise = λ e. absurd (false≢true (sym e)) }
 
     module _ (more : i ≢ 0) where
       head : Member (l .chain)
       head = chain-next (l .chain) more
 
-      -- The branch with the polynomial of record i put.
-      with-head : Branch
-      with-head = put-heads q p (head .member ∷ []) (l .done)
+      -- Those done and the polynomial of record i.
+      with-head : List Poly
+      with-head = l .done ++ (head .member ∷ [])
 
-      whole-is : put-heads q p (head .behind) with-head ≡ whole
+      with-head-parts : fs ≡ with-head ++ head .behind
       unfolding with-head
-      whole-is = sym (put-heads-next q p (head .member) (head .behind) (l .done)) ∙ ap (λ (fs : List Poly). put-heads q p fs (l .done)) (sym (head .parts)) ∙ l .same
+      with-head-parts =
+          l .parts ∙ ap (λ (gs : List Poly). l .done ++ gs) (head .parts) ∙ sym (append-assoc (l .done) (head .member ∷ []) (head .behind))
 
       -- The first m words of s are its monic polynomial, and were put.
       module _ (m : ℕ) (s : List ℕ) (loaded : (f : Poly) → read-head w p n i ≡ good f → Loaded p f m s) (r : Bool) (u : List Rec) (puts : Puts v most q (take m s) r u) where
-        filled : Filled p most with-head r u
+        becomes : Becomes p most (put-heads q p (l .done) c) (put-heads q p with-head c) r u
         unfolding with-head
-        filled =
+        becomes =
             let x = loaded (head .member) (head .is-read) in
-            put-alone p (take m s) (head .member) (x .sound) (x .monic) (x .holds) q (l .alone) puts
+            subst (λ (d : Branch). Becomes p most (put-heads q p (l .done) c) d r u) (sym (put-heads-append q p (l .done) (head .member ∷ []) c))
+            (put-alone p (take m s) (head .member) (x .sound) (x .monic) (x .holds) q (l .alone) puts)
 
-        pub put-fails : r ≡ false → Filled p most whole false u
+        pub put-fails : r ≡ false → Filled p most q fs c false u
+        unfolding with-head
         put-fails z =
-            filled-not (subst (λ (b : Bool). Filled p most with-head b u) z filled)
-            (subst (λ (c : Branch). branch-size with-head ≤ branch-size c) whole-is (size-put-heads q p (head .behind) with-head))
+            let none : most < 1 + branch-size (put-heads q p with-head c) = leb-false (1 + branch-size (put-heads q p with-head c)) most (sym (becomes .answer) ∙ z) in
+            subst (λ (gs : List Poly). Filled p most q gs c false u) (sym with-head-parts)
+            (record {
+              answer = sym (lt-leb (1 + branch-size (put-heads q p (with-head ++ head .behind) c)) most (omega (arith, none, size-first q p with-head (head .behind) c)));
+              alone = λ e. absurd (false≢true e);
+              otherwise = λ e. (
+                length (l .done),
+                omega (arith, length-append (l .done) (head .member ∷ []), length-append with-head (head .behind)),
+                subst (λ (gs : List Poly). most < 1 + branch-size (put-heads q p gs c)) (sym first-more) none,
+                subst (λ (gs : List Poly). Alone p most (put-heads q p gs c) u) (sym first-done) (becomes .otherwise z),
+              );
+            })
+          where
+            first-done : take (length (l .done)) (with-head ++ head .behind) ≡ l .done
+            first-done =
+                ap (λ (gs : List Poly). take (length (l .done)) gs) (append-assoc (l .done) (head .member ∷ []) (head .behind))
+                ∙ take-append-seam (l .done) (head .member ∷ head .behind)
 
-        pub put-next : r ≡ true → PutLeft w p n q most whole (word w i 3) u
+            first-more : take (suc (length (l .done))) (with-head ++ head .behind) ≡ with-head
+            first-more =
+                let one-more : suc (length (l .done)) ≡ length with-head = omega (arith, length-append (l .done) (head .member ∷ [])) in
+                ap (λ (k : ℕ). take k (with-head ++ head .behind)) one-more ∙ take-append-seam with-head (head .behind)
+
+        pub put-next : r ≡ true → PutLeft w p n q most fs c (word w i 3) u
         unfolding head
-        put-next z = record { chain = chain-on (l .chain) more; done = with-head; alone = filled .alone z; same = whole-is }
+        put-next z = record { chain = chain-on (l .chain) more; done = with-head; parts = with-head-parts; alone = becomes .alone z }

@@ -3,12 +3,13 @@ use mathlib.Core.Path.{_≡_}
 use mathlib.Core.Logic.{_≢_}
 use mathlib.Core.Bool.{Bool, true, false}
 use mathlib.Core.List.{List, []}
-use Prim.Native.Nat.{ℕ, _+_, _≤_}
+use Prim.Native.Nat.{ℕ, suc, _+_, _-_, _≤_, _<_}
 use lib.Dec.{leb}
 use lib.ListN.{take, length}
 use Rattle.residues.specs.Each.{Each}
 use Rattle.polynomials.specs.Poly.{Poly, monic}
 use Rattle.polynomials.specs.Packed.{terms}
+use Rattle.tables.specs.Read.{Input}
 use Rattle.tables.specs.declared.Reason.the-variants.{Room}
 use Rattle.rules.specs.Branch.{Branch, put-P, put-Q, put-all}
 use Rattle.rules.specs.Room.{branch-size}
@@ -44,14 +45,23 @@ pub record Alone (p most : ℕ) (c : Branch) (v : List Rec) : Type 0 where
   pub nonzero : Each (λ f. f ≢ []) (stored .P)
   pub is : branch-of stored ≡ c
 
--- The answer is whether there is room for the branch c and the control record; if so the work area holds c, and otherwise another branch alone:
--- that of the polynomials put before.
-pub record Filled (p most : ℕ) (c : Branch) (r : Bool) (v : List Rec) : Type 0 where
-  pub answer : r ≡ leb (1 + branch-size c) most
-  pub alone : r ≡ true → Alone p most c v
-  pub otherwise : r ≡ false → (d : Branch) × Alone p most d v
+-- The polynomials fs, put into the branch c one after the other: the answer is whether there is room for all of them and the control record.
+-- If so the work area holds the branch with all, and otherwise with the first j, those before one that has no room.
+pub record Filled (p most : ℕ) (in-q : Bool) (fs : List Poly) (c : Branch) (r : Bool) (v : List Rec) : Type 0 where
+  pub answer : r ≡ leb (1 + branch-size (put-heads in-q p fs c)) most
+  pub alone : r ≡ true → Alone p most (put-heads in-q p fs c) v
+  pub otherwise : r ≡ false → (j : ℕ) × (j < length fs) × (most < 1 + branch-size (put-heads in-q p (take (suc j) fs) c)) × Alone p most (put-heads in-q p (take j fs) c) v
 
--- The answer is whether the run starts; if so the work area holds its first state, and otherwise, given two records, a branch alone.
-abbrev pub Started : Stepped → ℕ → ℕ → Bool → List Rec → Type 0
-Started (next s) p most r v = (r ≡ true) × ((a : Area) × Held v most a × Ready p a × (state-of a ≡ s))
-Started (stopped why) p most r v = (r ≡ false) × (why ≡ Room) × (2 ≤ most → (d : Branch) × Alone p most d v)
+abbrev pub no-polynomial : Branch
+no-polynomial = record { P = []; Q = []; T = [] }
+
+-- The branch of a table's first k polynomials, those of P before those of Q.
+abbrev pub first-put : Input → ℕ → Branch
+first-put t k = put-heads true (t .modulus) (take (k - length (t .P)) (t .Q)) (put-heads false (t .modulus) (take k (t .P)) no-polynomial)
+
+-- The answer is whether the run starts. If so there are two records, and the work area holds its first state; otherwise, given two records, the
+-- branch of the table's first k polynomials, those before one that has no room.
+abbrev pub Started : Input → Stepped → ℕ → Bool → List Rec → Type 0
+Started t (next s) most r v = (r ≡ true) × (2 ≤ most) × ((a : Area) × Held v most a × Ready (t .modulus) a × (state-of a ≡ s))
+Started t (stopped why) most r v =
+    (r ≡ false) × (why ≡ Room) × (2 ≤ most → (k : ℕ) × (most < 1 + branch-size (first-put t k)) × Alone (t .modulus) most (first-put t k) v)

@@ -14,7 +14,7 @@ ghost use Rattle.rules.specs.Branch.{Branch};
 ghost use Rattle.rules.specs.Run.{start};
 ghost use Rattle.branches.specs.Area.{Opened, Leaves, capacity, with-open, When-open, outside};
 ghost use Rattle.representation.specs.Ready.{limits-in};
-ghost use Rattle.loading.specs.Started.{Loaded, put-into, put-heads, Alone, Filled, Started};
+ghost use Rattle.loading.specs.Started.{Loaded, put-into, Alone, Filled, Started};
 
 // Loads the polynomial with its head in record `head` into the first words of `out`; how many.
 fn load_head(table: &[u32], p: u32, n: u32, head: usize, out: &mut [u64]) -> usize
@@ -73,7 +73,7 @@ fn put_heads(
     requires { ⌜ 512 ≤ length (now r) ⌝ }
     ensures { λ q. ⌜ ((fs : List Poly) (c : Branch) → read-heads (now (table .entry)) p n (records (now (table .entry))) 0 first ≡ good fs
         → Alone p (capacity (now (work .entry))) c (view (now (work .entry)))
-        → Filled p (capacity (now (work .entry))) (put-heads in_q p fs c) q (view (now (work .exit)))) ⌝ }
+        → Filled p (capacity (now (work .entry))) in_q fs c q (view (now (work .exit)))) ⌝ }
     ensures { λ _. ⌜ outside (now (work .exit)) ≡ outside (now (work .entry)) ⌝ }
 {
     let mut i = first as usize;
@@ -92,7 +92,7 @@ pub fn start(table: &[u32], work: &mut [u32], r: &mut [u64]) -> bool
     requires { ⌜ ((t : Input) × (read-table (now table) ≡ good t)) ⌝ }
     requires { ⌜ 512 ≤ length (now r) ⌝ }
     ensures { λ q. ⌜ ((t : Input) → read-table (now (table .entry)) ≡ good t
-        → Started (start (limits-in (capacity (now (work .entry)))) t) (t .modulus) (capacity (now (work .entry))) q (view (now (work .exit)))) ⌝ }
+        → Started t (start (limits-in (capacity (now (work .entry)))) t) (capacity (now (work .entry))) q (view (now (work .exit)))) ⌝ }
     ensures { λ _. ⌜ (capacity (now (work .entry)) < 2 → now (work .exit) ≡ now (work .entry)) ⌝ }
     ensures { λ _. ⌜ outside (now (work .exit)) ≡ outside (now (work .entry)) ⌝ }
 {

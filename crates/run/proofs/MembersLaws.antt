@@ -19,7 +19,7 @@ use Rattle.rules.specs.Room.{Limits}
 use Rattle.rules.specs.Step.{Stepped, next, stopped, after-division, remainder-by, state, replace}
 use Rattle.records.specs.Records.{view}
 use Rattle.branches.specs.Words.{put-Q, put-Q-before, remove}
-use Rattle.branches.specs.Area.{Stored, Area, Held, Leaves, Opened, with-open, without-P, without-Q, capacity, Held-in}
+use Rattle.branches.specs.Area.{Stored, Held, Leaves, Opened, with-open, without-P, without-Q, capacity, Held-in}
 use Rattle.branches.proofs.LengthLaws.{same-capacity}
 use Rattle.branches.specs.laws.Words.{length-remove, each-remove}
 use Rattle.representation.specs.Represent.{Sound, branch-of, system-of, state-of, with-new, Monic}
@@ -163,15 +163,12 @@ module _ {p k : ℕ} {f : Poly} {closing : Bool} {place left₀ : ℕ} {w₀ w :
     member-cap : capacity w ≡ capacity w₀
     member-cap = same-capacity w w₀ (A .same)
 
+    -- What the area holds while the member is out.
     pub member-open : Opened w
     member-open =
         let s = A .some in
         let b = taken-out closing place left (s .0) in
         (b, s .1, s .2, subst (λ (m : ℕ). Held (view w) m (with-open b (s .1) (s .2))) (sym member-cap) (s .3 .2))
-
-    -- What the area holds while the member is out.
-    pub member-held : (a : Area) × Held-in w a
-    member-held = let o = member-open in (with-open (o .0) (o .1) (o .2), o .3)
 
     pub member-behind : (b : Stored) (bs ss : List Stored) → Held-in w (with-open b bs ss) → Has-behind closing (left - 1) b
     member-behind b bs ss H =
@@ -268,16 +265,17 @@ module _ {p k : ℕ} {f : Poly} {closing : Bool} {place left₀ : ℕ} {w₀ w :
           let s = A .all b₀ bs ss H R M in
           sym (s .4) ∙ goes-as (s .0) bs ss (s .1) (s .2) (s .3) false t
 
-      member-stays-out : q ≡ false → (a : Area) × Held-in v a
+      member-stays-out : q ≡ false → Opened v
       member-stays-out t =
           let s = A .some in
-          let a = with-open (taken-out closing place left (s .0)) (s .1) (s .2) in
-          (a, subst (λ (m : ℕ). Held (view v) m a) (sym (same-capacity v w₀ (B .same ∙ A .same))) (was-put (s .0) (s .1) (s .2) (s .3) (s .4) (s .5) .otherwise t))
+          let b = taken-out closing place left (s .0) in
+          let held = was-put (s .0) (s .1) (s .2) (s .3) (s .4) (s .5) .otherwise t in
+          (b, s .1, s .2, subst (λ (m : ℕ). Held (view v) m (with-open b (s .1) (s .2))) (sym (same-capacity v w₀ (B .same ∙ A .same))) held)
 
       -- Where there is room, the members go on; else the step stops, and the member stays out.
       pub member-put-back :
           (q ≡ true → AtMembers p k f closing place left₀ w₀ v (left - 1))
-          × (q ≡ false → Comes-to p k f closing place left₀ w₀ (stopped Room) × ((a : Area) × Held-in v a))
+          × (q ≡ false → Comes-to p k f closing place left₀ w₀ (stopped Room) × Opened v)
       member-put-back = (member-put, λ t. (member-not-put t, member-stays-out t))
 
 -- ── where the loop ends ──

@@ -12,7 +12,7 @@ use Rattle.rules.specs.Step.{Stepped, next, stopped, step}
 use Rattle.rules.specs.Run.{Ended, finished, refused, after-step, run}
 use Rattle.records.specs.Records.{Rec, room, view, zero-record}
 use Rattle.records.proofs.Rows.{length-view}
-use Rattle.branches.specs.Area.{Stored, Area, Held, has-branch, with-open, capacity, Held-in}
+use Rattle.branches.specs.Area.{Stored, Area, Held, Opened, has-branch, with-open, capacity, Held-in}
 use Rattle.branches.proofs.LengthLaws.{same-capacity}
 use Rattle.representation.specs.Represent.{branch-of, system-of, state-of}
 use Rattle.pivots.specs.declared.Division.{Division}
@@ -72,10 +72,10 @@ module _ {p : ℕ} {w t i v : List ℕ} where
     pub prepared-stop : Stops (capacity w) p w why
     prepared-stop b bs ss H R = P .answers b bs ss H R .0
 
-    pub prepared-held : Some-open p w → (a : Area) × Held-in v a
-    prepared-held s =
+    pub prepared-open : Some-open p w → Opened v
+    prepared-open s =
         let x = P .answers (s .0) (s .1) (s .2) (s .3) (s .4) .1 in
-        (x .0, subst (λ (m : ℕ). Held (view v) m (x .0)) (sym (same-capacity v w (P .same))) (x .1))
+        (x .0, s .1, s .2, subst (λ (m : ℕ). Held (view v) m (with-open (x .0) (s .1) (s .2))) (sym (same-capacity v w (P .same))) (x .1))
 
   module _ {d : Division} (P : Preparation p w (Members d) t i v) where
     pub prepared-pivot : Some-open p w → Pivot-in p d t i
@@ -216,17 +216,17 @@ module _ {p limit from : ℕ} {w₀ w : List ℕ} {steps : ℕ} (A : AtRun p lim
         let o = opened (s .0) (some (s .0) h) in
         (o .0, o .1, s .0 .systems, subst (Held-in w) (o .2) h, subst (Ready p) (o .2) (s .2))
 
-    -- The run is refused from every state that it may have begun with, and v holds some state.
-    refused-all : (why : Reason) (v : List ℕ) → length v ≡ length w₀ → ((a : Area) × Held-in v a)
+    -- The run is refused from every state that it may have begun with, and v holds one with an open branch.
+    refused-all : (why : Reason) (v : List ℕ) → length v ≡ length w₀ → Opened v
         → ((a₀ : Area) → Held-in w₀ a₀ → Ready p a₀ → refused steps why ≡ run-in (capacity w₀) p (limit - from) from a₀)
         → Answers p limit from w₀ (ended steps (Refused why 0)) v
-    refused-all why v same held ends a₀ H₀ R₀ =
-        let a = held .0 in
+    refused-all why v same o ends a₀ H₀ R₀ =
+        let held = subst (λ (m : ℕ). Held (view v) m (with-open (o .0) (o .1) (o .2))) (same-capacity v w₀ same) (o .3) in
         subst (λ (E : Ended). Ran E p steps (Refused why 0) (view v) (capacity w₀)) (ends a₀ H₀ R₀)
-        (record { steps = refl; outcome = refl; left = (a, subst (λ (m : ℕ). Held (view v) m a) (same-capacity v w₀ same) (held .1)) })
+        (record { steps = refl; outcome = refl; left = (o .0, o .1, o .2, held) })
 
     pub run-no-steps : limit ≤ steps → Answers p limit from w₀ (ended steps (Refused Steps 0)) w
-    run-no-steps h = refused-all Steps w (A .same) run-holds-some (λ a₀ H₀ R₀.
+    run-no-steps h = refused-all Steps w (A .same) (let s = run-open-some in (s .0, s .1, s .2, s .3)) (λ a₀ H₀ R₀.
         let s = run-open a₀ H₀ R₀ in
         let z : limit - steps ≡ 0 = omega (arith, h) in
         let used = run-used (limits-in (capacity w₀)) p steps (s .0) (s .1) (s .2) in
@@ -244,9 +244,9 @@ module _ {p limit from : ℕ} {w₀ w : List ℕ} {steps : ℕ} (A : AtRun p lim
           ap (λ (n : ℕ). run-in (capacity w₀) p n steps (with-open b bs ss)) z
           ∙ run-steps (limits-in (capacity w₀)) p steps b bs ss (limit - suc steps)
 
-      pub run-stopped : (why : Reason) (v : List ℕ) → length v ≡ length w₀ → ((a : Area) × Held-in v a) → Stops (capacity w) p w why
+      pub run-stopped : (why : Reason) (v : List ℕ) → length v ≡ length w₀ → Opened v → Stops (capacity w) p w why
           → Answers p limit from w₀ (ended steps (Refused why 0)) v
-      run-stopped why v same held S = refused-all why v same held (λ a₀ H₀ R₀.
+      run-stopped why v same o S = refused-all why v same o (λ a₀ H₀ R₀.
           let s = run-open a₀ H₀ R₀ in
           let e = subst (λ (m : ℕ). Stops m p w why) capacity-kept S (s .0) (s .1) (s .2) (s .3) (s .4) in
           sym (by-step (s .0) (s .1) (s .2) ∙ ap after e) ∙ s .5)

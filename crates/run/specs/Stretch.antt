@@ -5,7 +5,7 @@ use Prim.Native.Nat.{ℕ, _-_, _≤_}
 use lib.ListN.{length}
 use Rattle.records.specs.Records.{Rec}
 use Rattle.rules.specs.Run.{Ended, finished, refused, run-steps, run}
-use Rattle.branches.specs.Area.{Stored, Area, Held}
+use Rattle.branches.specs.Area.{Stored, Area, Held, with-open}
 use Rattle.representation.specs.Represent.{system-of, state-of}
 use Rattle.run.specs.declared.Outcome.{Outcome}
 use Rattle.run.specs.declared.Outcome.the-variants.{Systems, Refused}
@@ -18,12 +18,12 @@ abbrev pub outcome-of : Ended → Outcome
 outcome-of (finished n ss) = Systems (length ss)
 outcome-of (refused n why) = Refused why 0
 
--- A finished run leaves its systems in the work area; a refused one leaves some state.
+-- A finished run leaves its systems in the work area; a refused one leaves a state with an open branch.
 abbrev pub Left : Ended → ℕ → List Rec → ℕ → Type 0
 Left (finished n ss) p v most =
     (stored : List Stored) × Held v most (record { branches = []; systems = stored }) × Ready p (record { branches = []; systems = stored })
     × (reverse (map system-of stored) ≡ ss)
-Left (refused n why) p v most = (a : Area) × Held v most a
+Left (refused n why) p v most = (b : Stored) × (bs : List Stored) × (ss : List Stored) × Held v most (with-open b bs ss)
 
 -- A run that comes to `ended` has done so many steps, has this outcome, and leaves v in the work area.
 pub record Ran (ended : Ended) (p : ℕ) (n : ℕ) (o : Outcome) (v : List Rec) (most : ℕ) : Type 0 where

@@ -1,10 +1,11 @@
--- Rule 3 done, or stopped for want of room.
+-- Rule 3 done, or stopped for want of room: then the branch stays open.
 use mathlib.Core.Path.{_≡_, refl, sym, ap, subst, _∙_}
 use mathlib.Core.Logic.{_≢_}
 use mathlib.Core.Bool.{Bool, true, false}
 use mathlib.Core.List.{List, [], map, reverse}
 use Prim.Native.Nat.{ℕ}
 use native.Mathlib.Omega.{arith}
+use lib.Dec.{leb}
 use lib.ListN.{getD}
 use Rattle.branches.specs.laws.Words.{each-remove}
 use Rattle.residues.specs.Prime.{Prime}
@@ -18,7 +19,7 @@ use Rattle.rules.specs.Rule.{Rule, split, rule-with}
 use Rattle.rules.specs.Step.{Stepped, next, stopped, apply}
 use Rattle.records.specs.Records.{Rec}
 use Rattle.branches.specs.Words.{put-P, remove}
-use Rattle.branches.specs.Area.{Stored, Area, Held, Leaves, with-open, split-area}
+use Rattle.branches.specs.Area.{Stored, Area, Held, Leaves, size, with-open, split-area, fitting, unfinished-split}
 use Rattle.representation.specs.Represent.{Sound, branch-of, system-of, state-of, chosen, Monic}
 use Rattle.representation.specs.laws.Lists.{sound-at, put-P-nonzero}
 use Rattle.representation.specs.laws.Sounds.{split-area-sound}
@@ -26,6 +27,20 @@ use Rattle.representation.specs.laws.Monics.{initial-monic, stored-initial-own,
 use Rattle.representation.specs.laws.Steps.{if-fits, apply-split}
 use Rattle.representation.specs.Ready.{Ready, limits-in}
 use Rattle.steps.specs.Pending.{Leads}
+
+-- The state a has an open branch, over the waiting ones bs and the systems ss.
+abbrev Opens : List Stored → List Stored → Area → Type 0
+Opens bs ss a = (c : Stored) × (a ≡ with-open c bs ss)
+
+fitting-opens : (most : ℕ) {bs ss : List Stored} (a₀ a : Area) → Opens bs ss a₀ → Opens bs ss a → Opens bs ss (fitting most a₀ a)
+fitting-opens most {bs} {ss} a₀ a h₀ h = go (leb (size a) most)
+  where
+    go : (t : Bool) → Opens bs ss (elim t as (λ t. Area) [ true ↦ a | false ↦ a₀ ])
+    go true = h
+    go false = h₀
+
+unfinished-split-opens : (most i : ℕ) (ini rst : List ℕ) (b : Stored) (bs ss : List Stored) → Opens bs ss (unfinished-split most i ini rst b bs ss)
+unfinished-split-opens most i ini rst b bs ss = fitting-opens most _ _ (fitting-opens most _ _ (_, refl) (_, refl)) (_, refl)
 
 module _ (p k i : ℕ) (prime : Prime p) (b : Stored) (bs ss : List Stored) (R : Ready p (with-open b bs ss)) (L : Leads k i b) (ini rst : List ℕ) (s : Sound p ini)
     (of-ini : terms ini ≡ initial k (terms (getD (b .P) i []))) (u₀ : Sound p rst) (of-rst : terms rst ≡ monic p (rest k (terms (getD (b .P) i [])))) where
@@ -55,7 +70,7 @@ module _ (p k i : ℕ) (prime : Prime p) (b : Stored) (bs ss : List Stored) (R :
   }
 
   module _ (v₀ : List Rec) (most : ℕ) (H : Held v₀ most (with-open b bs ss)) (q : Bool) (v : List Rec)
-      {a₀ : Area} (u : Leaves most a₀ (split-area i ini rst b bs ss) q v) (rule : rule-with k (chosen b i) (branch-of b) ≡ split k (chosen b i)) where
+      (u : Leaves most (unfinished-split most i ini rst b bs ss) (split-area i ini rst b bs ss) q v) (rule : rule-with k (chosen b i) (branch-of b) ≡ split k (chosen b i)) where
     abbrev S : Stepped
     S = apply (limits-in most) p (map branch-of bs) (reverse (map system-of ss)) (rule-with k (chosen b i) (branch-of b)) (branch-of b)
 
@@ -72,5 +87,7 @@ module _ (p k i : ℕ) (prime : Prime p) (b : Stored) (bs ss : List Stored) (R :
     pub split-next : q ≡ true → (a : Area) × (S ≡ next (state-of a)) × Held v most a × Ready p a
     split-next e = (split-area i ini rst b bs ss, splits ∙ ap if-so e, u .held e, ready-split)
 
-    pub split-stop : q ≡ false → (S ≡ stopped Room) × ((a : Area) × Held v most a)
-    split-stop e = (splits ∙ ap if-so e, (a₀, u .otherwise e))
+    pub split-stop : q ≡ false → (S ≡ stopped Room) × ((c : Stored) × Held v most (with-open c bs ss))
+    split-stop e =
+        let o = unfinished-split-opens most i ini rst b bs ss in
+        (splits ∙ ap if-so e, (o .0, subst (Held v most) (o .1) (u .otherwise e)))

@@ -50,10 +50,10 @@ pub record Too-long (l : Limits) (p : ℕ) (S : Stepped) (t : List ℕ) (v : Lis
   pub goes : S ≡ apply l p (map branch-of bs) (reverse (map system-of ss)) (rule-with k (chosen b place) (branch-of b)) (branch-of b)
   pub longer : length t < length (getD (b .P) place [])
 
--- What the code answers of the step S: it is done, it comes to a division, or it stops and leaves some state; or it was not begun, since the pivot is
--- longer than t.
+-- What the code answers of the step S: it is done, it comes to a division, or it stops and leaves an open branch, over the waiting ones and the systems
+-- that there were; or it was not begun, since the pivot is longer than t.
 abbrev pub Prepares : Limits → ℕ → Stepped → Prepared → List ℕ → List ℕ → List Rec → ℕ → List Stored → List Stored → Type 0
 Prepares l p S Done t i v most bs ss = (a : Area) × (S ≡ next (state-of a)) × Held v most a × Ready p a
 Prepares l p S (Members d) t i v most bs ss = (b : Stored) × Comes l p S d t i v most b bs ss
-Prepares l p S (Stop why) t i v most bs ss = (S ≡ stopped why) × ((a : Area) × Held v most a)
+Prepares l p S (Stop why) t i v most bs ss = (S ≡ stopped why) × ((b : Stored) × Held v most (with-open b bs ss))
 Prepares l p S Crowded t i v most bs ss = (b : Stored) × Too-long l p S t v most b bs ss

@@ -15,7 +15,7 @@ use pivots::Division;
 use survey::Choice;
 use tables::Reason;
 
-// What a step has done when its rule has been found. `Crowded`: the pivot is longer than the slice for it, and nothing was changed.
+// What a step has done when its rule has been found. `Crowded`: the pivot is longer than the slice for it, and the work area is as it was.
 pub enum Prepared {
     Done,
     Members(Division),

@@ -38,7 +38,7 @@ pub fn drop(w: &mut [u32])
     records::write(w, 0, under, at as u32, top, systems);
 }
 
-// Lists the open branch, whose P is empty, as a system.
+// Lists the open branch as a system, with its P, which is empty at rule 2.
 pub fn list(w: &mut [u32])
     requires { ⌜ Opened (now w) ⌝ }
     ensures { λ _. ⌜ When-open (now (w .entry)) (λ b bs ss.

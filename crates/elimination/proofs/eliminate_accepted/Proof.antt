@@ -1,6 +1,6 @@
 -- `eliminate_accepted` meets its contract: the start, the run from its state, and the run delivered. All is said in the room that there was at entry.
 use mathlib.Core.Path.{_≡_, sym, _∙_, subst}
-use mathlib.Core.Logic.{inl, ⊎-elim}
+use mathlib.Core.Logic.{⊎-elim}
 use mathlib.Core.Bool.{true}
 use mathlib.Core.List.{List}
 use Prim.Native.Nat.{ℕ, _/_, _≤_}
@@ -21,7 +21,7 @@ use Rattle.loading.specs.Started.{Started}
 use Rattle.loading.proofs.MonicLaws.{readable-modulus}
 use Rattle.tables.specs.laws.Accepted.{TableRead, table-read}
 use Rattle.scratch.proofs.StretchLaws.{Runs, runs-from-0}
-use Rattle.elimination.proofs.WholeLaws.{no-room, no-room-leaves, begins, run-is, left-holds, in-words}
+use Rattle.elimination.proofs.WholeLaws.{no-room, no-room-leaves, started-in-two, begins, run-is, left-holds, in-words}
 use Rattle.elimination.proofs.eliminate_accepted.Statement.{statement}
 use Rattle.elimination.proofs.eliminate_accepted.Tie as tie
 
@@ -56,7 +56,7 @@ module _ (m : tie.After-start) where
   same-room = same-capacity area (entry .args .work .now) (m .start .kept .1 .0)
 
   begun : (t : Input) → read-table (entry .args .table .now) ≡ good t
-      → Started (start (limits-in (most entry)) t) (t .modulus) (most entry) (m .start .result) (view area)
+      → Started t (start (limits-in (most entry)) t) (most entry) (m .start .result) (view area)
   begun t e = m .start .ensures .0 t e
 
 -- ── it found no room; or it found room ──
@@ -144,7 +144,7 @@ returns c =
       λ t e. in-words (s .args .work .now) (room s) (s .args .limit) t
           (no-room t (most s) (s .args .limit) (view (area f)) (begun f t e) (room s) (s .args .output .now) none),
       (
-        no-room-leaves (s .pre .0) (most s) (s .args .limit) (view (area f)) (begun f (s .pre .0) (s .pre .1)) none (f .start .ensures .1 .0),
+        (no-room-leaves (s .pre .0) (most s) (s .args .limit) (view (area f)) (begun f (s .pre .0) (s .pre .1)) none, f .start .ensures .1 .0),
         f .start .ensures .1 .1,
       ),
     )
@@ -189,10 +189,15 @@ returns-2 c =
     let d = c .before .before in
     let n = delivers (d .before) in
     let s = entry (from-start n) in
-    let r = ran n (s .pre .0) (s .pre .1) in (
+    let r = ran n (s .pre .0) (s .pre .1) in
+    let f = from-start n in
+    let two = started-in-two (s .pre .0) (most s) (s .args .limit) (view (area f)) (begun f (s .pre .0) (s .pre .1)) (found-room (run-due n)) in (
       λ t e. in-words (s .args .work .now) (room s) (s .args .limit) t (d .deliver .ensures t (due s t) e (ran n t e)),
       (
-        inl (subst (λ (k : ℕ). (a : Area) × Held (view (left n)) k a) (sym (left-room n)) (left-holds (due s (s .pre .0)) _ (r .left))),
+        (
+          λ h. subst (λ (k : ℕ). (a : Area) × Held (view (left n)) k a) (sym (left-room n)) (left-holds (due s (s .pre .0)) _ (r .left)),
+          λ h. absurd (omega (arith, h, two)),
+        ),
         has-run n .2 ∙ from-start n .start .ensures .1 .1,
       ),
     )

@@ -5,7 +5,7 @@ use mathlib.Core.List.{List}
 use Prim.Native.Nat.{ℕ, _-_, _<_}
 use native.Mathlib.Omega.{arith}
 use borrow.Author.Needs.{needs}
-use Rattle.tables.specs.Words.{word, records, follow}
+use Rattle.tables.specs.Words.{records, follow}
 use Rattle.tables.specs.Walk.{next}
 use Rattle.tables.specs.declared.Next.the-variants.{To}
 use Rattle.tables.specs.laws.Chains.{next-inside}

@@ -1,5 +1,5 @@
 -- `gather_large` meets its contract: so `gather_in` ends. 66,816 words suffice for any two factors.
-use mathlib.Core.Path.{_≡_, sym, subst}
+use mathlib.Core.Path.{sym, subst}
 use Prim.Native.Nat.{ℕ, _≤_}
 use native.Mathlib.Omega.{arith}
 use borrow.Author.Needs.{needs}

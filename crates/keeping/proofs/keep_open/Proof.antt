@@ -1,7 +1,6 @@
 -- `keep_open` meets its contract: what is known at its places is in `Known`, and what is held at the end is `kept`.
 mod Known
 use mathlib.Core.Path.{refl, _∙_}
-use Prim.Native.Nat.{_-_}
 use native.Mathlib.Omega.{arith}
 use Rattle.records.specs.Records.{view}
 use Rattle.branches.proofs.OutsideLaws.{outside-set}

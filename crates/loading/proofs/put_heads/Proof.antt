@@ -1,5 +1,4 @@
--- `put_heads` meets its contract. The loop's invariant: the polynomials from index i on, put into the branch that the work area holds, make
--- the whole branch. The measure is the count of records that index i can still reach.
+-- `put_heads` meets its contract. The loop's invariant: the work area holds the branch with the polynomials before index i put. The measure is the count of records that index i can still reach.
 use mathlib.Core.Path.{_≡_, refl, sym, _∙_, subst}
 use mathlib.Core.Bool.{Bool}
 use mathlib.Core.List.{List, []}
@@ -19,7 +18,7 @@ use Rattle.rules.specs.Branch.{Branch}
 use Rattle.branches.specs.Area.{capacity, outside, with-open, Held}
 use Rattle.branches.proofs.LengthLaws.{same-capacity}
 use Rattle.representation.specs.laws.Sounds.{sound-storable}
-use Rattle.loading.specs.Started.{Loaded, put-heads, Alone}
+use Rattle.loading.specs.Started.{Loaded, Alone}
 use Rattle.loading.proofs.MonicLaws.{readable-modulus}
 use Rattle.loading.proofs.FillLaws.{Puts, PutLeft, put-first, put-end, put-fails, put-next}
 use Rattle.loading.proofs.put_heads.Statement.{statement}
@@ -28,7 +27,7 @@ use Rattle.loading.proofs.put_heads.Tie as tie
 abbrev Left : List ℕ → ℕ → ℕ → ℕ → List ℕ → Bool → List ℕ → ℕ → Type 0
 Left table p n first work₀ q work i =
     (fs : List Poly) (c : Branch) → read-heads table p n (records table) 0 first ≡ good fs → Alone p (capacity work₀) c (view work₀)
-    → PutLeft table p n q (capacity work₀) (put-heads q p fs c) i (view work)
+    → PutLeft table p n q (capacity work₀) fs c i (view work)
 
 abbrev Inv-loop : tie.InvT-loop
 Inv-loop table p n first work₀ r₀ in-q i₀ work r i =
@@ -44,7 +43,7 @@ loop-holds c =
     let some = some-record (s .pre .0 .0) in (
       omega arith,
       omega arith,
-      λ fs b e x. put-first (a .table .now) (a .p) (a .n) (a .in-q) (capacity (a .work .now)) (a .first) (view (a .work .now)) fs b some e x,
+      λ fs b e x. put-first (a .table .now) (a .p) (a .n) (a .in-q) (capacity (a .work .now)) fs b (a .first) (view (a .work .now)) some e x,
       refl,
     )
 
@@ -52,12 +51,8 @@ loop-holds c =
 abbrev start : tie.In-loop Inv-loop μ-loop → tie.Start Inv-loop μ-loop
 start c = c .before .before .before .before .before
 
-whole : tie.In-loop Inv-loop μ-loop → Branch
-whole c = let s = start c in put-heads (s .args .in-q) (s .args .p) (s .pre .0 .1 .0) (s .pre .1 .0 .0)
-
-here : (c : tie.In-loop Inv-loop μ-loop) → let a = start c .args in let l = c .before .loop in
-    PutLeft (a .table .now) (a .p) (a .n) (a .in-q) (capacity (a .work .now)) (whole c) (l .i) (view (l .work))
-unfolding whole
+here : (c : tie.In-loop Inv-loop μ-loop) → let s = start c in let a = s .args in let l = c .before .loop in
+    PutLeft (a .table .now) (a .p) (a .n) (a .in-q) (capacity (a .work .now)) (s .pre .0 .1 .0) (s .pre .1 .0 .0) (l .i) (view (l .work))
 here c = let s = start c in c .before .loop .inv .2 (s .pre .0 .1 .0) (s .pre .1 .0 .0) (s .pre .0 .1 .1) (s .pre .1 .0 .1)
 
 abbrev head : (c : tie.In-loop Inv-loop μ-loop) → Member (here c .chain)
@@ -117,7 +112,7 @@ returns c =
     let d = k .before .before .before .before .before in
     let a = start (d .before .before) .args in
     let l = d .before .before .before .loop in (
-      λ fs b e x. put-fails (a .table .now) (a .p) (a .n) (a .in-q) (capacity (a .work .now)) (put-heads (a .in-q) (a .p) fs b) (l .i) (view (l .work)) (l .inv .2 fs b e x) (d .before .before .loop-test .taken)
+      λ fs b e x. put-fails (a .table .now) (a .p) (a .n) (a .in-q) (capacity (a .work .now)) fs b (l .i) (view (l .work)) (l .inv .2 fs b e x) (d .before .before .loop-test .taken)
           (d .load-monic .result) (words d) (d .load-monic .ensures) (k .put-one .result) (view (k .put-one .last .0)) (puts k) (not-true (k .put-one .result) (c .if1 .taken)),
       k .put-one .ensures .1 ∙ l .inv .3,
     )
@@ -142,7 +137,7 @@ loop-again c =
       k .put-one .kept .0 ∙ l .inv .0,
       d .load-monic .kept .1 .1 .1 .1 .0 ∙ l .inv .1,
       λ fs b e x. rw (c .word .ensures)
-          (put-next (a .table .now) (a .p) (a .n) (a .in-q) (capacity (a .work .now)) (put-heads (a .in-q) (a .p) fs b)
+          (put-next (a .table .now) (a .p) (a .n) (a .in-q) (capacity (a .work .now)) fs b
           (l .i) (view (l .work)) (l .inv .2 fs b e x) (d .before .before .loop-test .taken)
           (d .load-monic .result) (words d) (d .load-monic .ensures) (k .put-one .result) (view (k .put-one .last .0)) (puts k) (not-false (k .put-one .result) (c .before .if1 .left))),
       k .put-one .ensures .1 ∙ l .inv .3,
@@ -158,7 +153,7 @@ returns-2 : tie.Need-returns-2 Inv-loop μ-loop
 returns-2 c =
     let a = c .before .before .before .before .before .args in
     let l = c .before .loop in (
-      λ fs b e x. put-end (a .table .now) (a .p) (a .n) (a .in-q) (capacity (a .work .now)) (put-heads (a .in-q) (a .p) fs b) (l .i) (view (l .work)) (l .inv .2 fs b e x) (c .loop-test .left),
+      λ fs b e x. put-end (a .table .now) (a .p) (a .n) (a .in-q) (capacity (a .work .now)) fs b (l .i) (view (l .work)) (l .inv .2 fs b e x) (c .loop-test .left),
       l .inv .3,
     )
 

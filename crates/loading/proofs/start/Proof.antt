@@ -1,6 +1,6 @@
 -- `start` meets its contract: an empty branch, then P's chain, then Q's. All is said in the room that there was at entry.
 use mathlib.Core.Path.{_≡_, refl, sym, _∙_, subst}
-use mathlib.Core.Bool.{Bool, true}
+use mathlib.Core.Bool.{Bool, true, false}
 use mathlib.Core.List.{List}
 use Prim.Native.Nat.{ℕ, _≤_}
 use native.Mathlib.Omega.{arith}
@@ -14,8 +14,8 @@ use Rattle.tables.specs.laws.Chains.{readable-words}
 use Rattle.tables.specs.laws.Accepted.{TableRead, table-read}
 use Rattle.branches.specs.Area.{capacity, outside}
 use Rattle.branches.proofs.LengthLaws.{same-capacity}
-use Rattle.loading.specs.Started.{put-heads, Alone, Filled}
-use Rattle.loading.proofs.StartLaws.{no-polynomial, alone-empty, with-zeros, start-none, start-fails, start-put}
+use Rattle.loading.specs.Started.{Alone, Filled, no-polynomial}
+use Rattle.loading.proofs.StartLaws.{alone-empty, with-zeros, start-none, start-fails, start-put}
 use Rattle.loading.proofs.start.Statement.{statement}
 use Rattle.loading.proofs.start.Tie as tie
 
@@ -42,9 +42,6 @@ room c = same-capacity (c .begin .last .0) (start c .args .work .now) (c .begin 
 two : (c : tie.After-begin) → 2 ≤ capacity (start c .args .work .now)
 two c = let h = c .before .before .before .before .if1 .left in omega arith
 
-some : (c : tie.After-begin) → 1 ≤ capacity (start c .args .work .now)
-some c = omega (arith, two c)
-
 begun : (c : tie.After-begin) → Alone (p (start c)) (capacity (start c .args .work .now)) no-polynomial (view (c .begin .last .0))
 begun c = alone-empty (c .begin .ensures .0)
 
@@ -59,11 +56,11 @@ abbrev work : tie.After-put-heads → List ℕ
 work c = c .put-heads .last .1 .1 .1 .1 .0
 
 put : (c : tie.After-put-heads) (t : Input) → let s = entry c in read-table (s .args .table .now) ≡ good t
-    → Filled (p s) (most s) (with-zeros (p s) t) (c .put-heads .result) (view (work c))
+    → Filled (p s) (most s) false (t .P) no-polynomial (c .put-heads .result) (view (work c))
 put c t e =
     let d = begun-by c in
     let s = start d in
-    subst (λ (m : ℕ). Alone (p s) m no-polynomial (view (d .begin .last .0)) → Filled (p s) m (with-zeros (p s) t) (c .put-heads .result) (view (work c)))
+    subst (λ (m : ℕ). Alone (p s) m no-polynomial (view (d .begin .last .0)) → Filled (p s) m false (t .P) no-polynomial (c .put-heads .result) (view (work c)))
     (room d) (c .put-heads .ensures .0 (t .P) no-polynomial (table-read (s .args .table .now) t e .zeros)) (begun d)
 
 room-2 : (c : tie.After-put-heads) → capacity (work c) ≡ most (entry c)
@@ -86,7 +83,7 @@ returns : tie.Need-returns
 returns c = (
   (λ t e.
       let a = c .before .before .before .before .args in
-      start-none t (capacity (a .work .now)) (view (a .work .now)) (t .modulus) (let h = c .if1 .taken in omega arith)),
+      start-none t (capacity (a .work .now)) (view (a .work .now)) (let h = c .if1 .taken in omega arith)),
   (λ h. refl, refl),
 )
 
@@ -121,8 +118,8 @@ returns-2 c =
     let k = c .before .before .before .before .before in
     let s = entry k in (
       (λ t e.
-          start-fails t (most s) (view (work k)) (p s) (table-read (s .args .table .now) t e .modulus) (some (begun-by k))
-          (subst (λ (b : Bool). Filled (p s) (most s) (with-zeros (p s) t) b (view (work k))) (not-true (k .put-heads .result) (c .if2 .taken)) (put k t e))),
+          start-fails t (most s) (view (work k)) (p s) (table-read (s .args .table .now) t e .modulus) (two (begun-by k))
+          (subst (λ (b : Bool). Filled (p s) (most s) false (t .P) no-polynomial b (view (work k))) (not-true (k .put-heads .result) (c .if2 .taken)) (put k t e))),
       (λ h. absurd (omega (arith, h, two (begun-by k))), outside-zeros k),
     )
 
@@ -153,8 +150,8 @@ returns-3 c =
       (λ t e.
           let b = with-zeros (p s) t in
           let v = view (n .put-heads2 .last .1 .1 .1 .1 .0) in
-          start-put t (most s) v (p s) (table-read (s .args .table .now) t e .modulus) (some (begun-by k)) (n .put-heads2 .result)
-          (subst (λ (m : ℕ). Alone (p s) m b (view (work k)) → Filled (p s) m (put-heads true (p s) (t .Q) b) (n .put-heads2 .result) v)
+          start-put t (most s) v (p s) (table-read (s .args .table .now) t e .modulus) (two (begun-by k)) (n .put-heads2 .result)
+          (subst (λ (m : ℕ). Alone (p s) m b (view (work k)) → Filled (p s) m true (t .Q) b (n .put-heads2 .result) v)
           (room-2 k) (n .put-heads2 .ensures .0 (t .Q) b (table-read (s .args .table .now) t e .nonzeros)) (zeros-in f t e))),
       (λ h. absurd (omega (arith, h, two (begun-by k))), n .put-heads2 .ensures .1 ∙ outside-zeros k),
     )

@@ -12,7 +12,7 @@ use Rattle.polynomials.specs.laws.Answers.{formed-degree, formed-terms}
 use Rattle.tables.specs.declared.Reason.the-variants.{Degree, Terms, Room}
 use Rattle.run.proofs.Slices.{kept-all, kept-then}
 use Rattle.run.proofs.Invariants.{AtRun, run-begins}
-use Rattle.run.proofs.MembersLaws.{members-open, members-left, member-open, member-held, member-behind, member-degree, member-terms}
+use Rattle.run.proofs.MembersLaws.{members-open, members-left, member-open, member-behind, member-degree, member-terms}
 use Rattle.run.proofs.RunLaws.{final-not-paused, run-holds-some, run-has-control, run-finished, run-no-steps, run-goes-on}
 use Rattle.run.proofs.run.Statement.{statement}
 use Rattle.run.proofs.run.Tie as tie
@@ -180,7 +180,7 @@ returns-6 c =
     let e = formed-degree _ (round-call m .round-anywhere .result) _ (c .enum-told3 .given .1) (round-forms m) in
     let A = member-out (to-taken d) in
     let s = member-degree A (passes m degree-passed (λ g. refl) e) in
-    (left-stops (division-of d) Degree (at-rounded m .w) (kept-at-round m .w) (member-held A) s, (final-not-paused, kept-at-round m .out))
+    (left-stops (division-of d) Degree (at-rounded m .w) (kept-at-round m .w) (member-open A) s, (final-not-paused, kept-at-round m .out))
 
 returns-7 : Of tie.Need-returns-7
 returns-7 c =
@@ -189,7 +189,7 @@ returns-7 c =
     let e = formed-terms _ (round-call m .round-anywhere .result) _ (c .enum-told4 .given .1) (round-forms m) in
     let A = member-out (to-taken d) in
     let s = member-terms A (passes m terms-passed (λ g. refl) e) in
-    (left-stops (division-of d) Terms (at-rounded m .w) (kept-at-round m .w) (member-held A) s, (final-not-paused, kept-at-round m .out))
+    (left-stops (division-of d) Terms (at-rounded m .w) (kept-at-round m .w) (member-open A) s, (final-not-paused, kept-at-round m .out))
 
 returns-8 : Of tie.Need-returns-8
 returns-8 c =

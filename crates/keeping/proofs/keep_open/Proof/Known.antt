@@ -13,7 +13,7 @@ use Rattle.branches.proofs.LengthLaws.{inside-room}
 use Rattle.branches.proofs.OutsideLaws.{outside-set}
 use Rattle.branches.proofs.AreaLaws as area
 use Rattle.branches.proofs.ControlLaws.{w2-is, Read, start-is, ends, free-is}
-use Rattle.keeping.proofs.KeptLaws.{end-front, end-back, end-P, end-Q, Placed, Ordered, ordered, to-back, to-Q, to-T, parts-inside, kept}
+use Rattle.keeping.proofs.KeptLaws.{end-front, end-back, end-P, end-Q, Placed, Ordered, ordered, to-back, to-Q, to-T, parts-inside}
 use Rattle.keeping.proofs.PieceLaws.{Reached, reach-stored, reach-copied, first-fits}
 use Rattle.keeping.proofs.keep_open.Tie as tie
 

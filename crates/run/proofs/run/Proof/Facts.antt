@@ -22,7 +22,7 @@ use Rattle.division.specs.Lent.{lent-for-round}
 use Rattle.tables.specs.declared.Reason.{Reason}
 use Rattle.tables.specs.declared.Reason.the-variants.{Room}
 use Rattle.rules.specs.Step.{Stepped, stopped, remainder-by}
-use Rattle.branches.specs.Area.{Area, capacity, outside, Held-in}
+use Rattle.branches.specs.Area.{Opened, capacity, outside}
 use Rattle.pivots.specs.declared.Division.{Division}
 use Rattle.steps.specs.declared.Prepared.{Prepared}
 use Rattle.steps.specs.declared.Prepared.the-variants.{Done, Members, Stop}
@@ -33,7 +33,7 @@ use Rattle.run.proofs.Slices.{Kept, kept-then, Suits, suits-kept, Crowd
 use Rattle.run.proofs.Invariants.{AtRun, AtMembers, AtDivision, division-begins, round-less, division-goes-on, division-ends, division-passes}
 use Rattle.run.proofs.MembersLaws.{AtMember, PutBack, Comes-to, member-taken, member-inside, member-holds, member-put-back}
 use Rattle.run.proofs.RunLaws.{Goes-to, Stops, Some-open, All-open, None-open, ended, paused, Answers, run-open-some, run-paused, run-stopped}
-use Rattle.run.proofs.RunLaws.{Preparation, Pivot-in, prepared-as, prepared-done, prepared-stop, prepared-held, prepared-pivot}
+use Rattle.run.proofs.RunLaws.{Preparation, Pivot-in, prepared-as, prepared-done, prepared-stop, prepared-open, prepared-pivot}
 use Rattle.run.proofs.RunLaws.{members-first, members-done, members-stop}
 pub use Places.*
 
@@ -117,7 +117,7 @@ module _ (m : StepPrepared) where
   steps-left = omega (arith, to-step (to-due m) .if2 .left)
 
   -- Where the step stops, the run does.
-  run-stops : (why : Reason) (v : List ℕ) → length v ≡ length (at-entry (to-entry (to-run m)) .w) → ((a : Area) × Held-in v a)
+  run-stops : (why : Reason) (v : List ℕ) → length v ≡ length (at-entry (to-entry (to-run m)) .w) → Opened v
       → Stops (capacity (at-turn (to-run m) .w)) (p (to-run m)) (at-turn (to-run m) .w) why → Refuses (to-run m) why v
   run-stops = run-stopped (run-invariant (to-run m)) (all-open (open-of (to-due m))) steps-left
 
@@ -138,7 +138,7 @@ module _ (m : StepStopped) where
   step-stops =
       let s = stopped-in m in
       let P = prepared-as (preparation s) (Stop reason) (m .before .why .given .1) in
-      run-stops s reason (at-prepared s .w) (kept-at-prepared s .w) (prepared-held reason P (some-open (open-of (to-due s)))) (prepared-stop reason P)
+      run-stops s reason (at-prepared s .w) (kept-at-prepared s .w) (prepared-open reason P (some-open (open-of (to-due s)))) (prepared-stop reason P)
 
 -- ── members are to be divided ──
 module _ (m : MembersFound) where
@@ -173,9 +173,9 @@ module _ (m : MembersFound) where
   pub members-begin : Left (at-found m .w) (found .left)
   members-begin = members-first members-prepared (some-open (open-of (to-due (to-prepared m))))
 
-  pub left-stops : (why : Reason) (v : List ℕ) → length v ≡ length (at-entry (entry-of m) .w) → ((a : Area) × Held-in v a)
+  pub left-stops : (why : Reason) (v : List ℕ) → length v ≡ length (at-entry (entry-of m) .w) → Opened v
       → Left-comes-to (stopped why) → Refuses (run-of m) why v
-  left-stops why v same held h = run-stops (to-prepared m) why v same held (members-stop members-prepared why h)
+  left-stops why v same o h = run-stops (to-prepared m) why v same o (members-stop members-prepared why h)
 
 -- ── a turn of the members begins ──
 module _ (m : MembersTurn) where
@@ -360,7 +360,7 @@ module _ (m : MemberPut) where
       record { same = put-back-keeps .w; sound = e .0 .0; monic-of = e .0 .1; puts = e .1 .0 }
 
   pub member-goes : (fits ≡ true → Left (division-of (put-of m)) (at-put m .w) left-then)
-      × (fits ≡ false → Left-comes-to (division-of (put-of m)) (stopped Room) × ((a : Area) × Held-in (at-put m .w) a))
+      × (fits ≡ false → Left-comes-to (division-of (put-of m)) (stopped Room) × Opened (at-put m .w))
   member-goes =
       let d = put-of m in
       member-put-back (member-out (to-taken d)) (residues (division-of d) .prime) (division-invariant d .holds) (remainder-stands (to-divided m)) put-back

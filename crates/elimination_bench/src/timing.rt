@@ -1,5 +1,6 @@
 // The processor time of repeated calls.
-ghost use Prim.Native.Nat.{_≤_, _<_};
+ghost use mathlib.Core.Path.{_≡_};
+ghost use Prim.Native.Nat.{_<_, min, max};
 
 // Nanoseconds of a call.
 pub struct Timing {
@@ -44,7 +45,7 @@ fn batch(table: &[u32], work: &mut [u32], output: &mut [u32], limit: u32, calls:
 
 // At most 16 batches, and none without a call.
 fn batches_of(repetitions: u32) -> u32
-    ensures { λ r. ⌜ (1 ≤ r) × (r ≤ 16) ⌝ }
+    ensures { λ r. ⌜ r ≡ min (max repetitions 1) 16 ⌝ }
 {
     if repetitions < 1 {
         return 1;
@@ -56,7 +57,7 @@ fn batches_of(repetitions: u32) -> u32
 }
 
 fn at_least_one(n: u32) -> u32
-    ensures { λ r. ⌜ 1 ≤ r ⌝ }
+    ensures { λ r. ⌜ r ≡ max n 1 ⌝ }
 {
     if n < 1 {
         return 1;
@@ -65,7 +66,7 @@ fn at_least_one(n: u32) -> u32
 }
 
 fn least(a: u64, b: u64) -> u64
-    ensures { λ r. ⌜ (r ≤ a) × (r ≤ b) ⌝ }
+    ensures { λ r. ⌜ r ≡ min a b ⌝ }
 {
     if a < b {
         return a;

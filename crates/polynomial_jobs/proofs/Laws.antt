@@ -1,12 +1,12 @@
--- What the proofs of the jobs cite, on numbers and lists: small products, points, copies, and answers that stand within their words.
-use mathlib.Core.Path.{_≡_, sym, _∙_, ap, subst}
+-- What the proofs of the jobs cite, on numbers and lists: small products, points, and answers that stand within their words.
+use mathlib.Core.Path.{_≡_, sym, _∙_, subst}
 use mathlib.Core.List.{List}
-use Prim.Native.Nat.{ℕ, _-_, _*_, _/_, _%_, _≤_, _<_}
-use native.Mathlib.Nat.{mod-lt, mul-le-mul, zero-add, div-le-self, div-lt-iff-lt-mul}
+use Prim.Native.Nat.{ℕ, _*_, _/_, _%_, _≤_, _<_}
+use native.Mathlib.Nat.{mod-lt, mul-le-mul, div-le-self, div-lt-iff-lt-mul}
 use native.Mathlib.Decide.{ℕ-discrete, decLt}
 use native.Mathlib.Omega.{arith}
-use lib.ListN.{length, take, drop, getD, set, replicate, length-set, length-replicate, getD-replicate}
-use lib.Seq.{paste, take-paste, take-all, length-take-le, getD-set-same, getD-set-other}
+use lib.ListN.{length, getD, set, replicate, length-set, length-replicate, getD-replicate}
+use lib.Seq.{length-take-le, getD-set-same, getD-set-other}
 use Rattle.io.specs.Counts.{Counts}
 use Rattle.polynomials.specs.Value.{Point}
 use Rattle.polynomials.specs.Bounds.{Bounded, within, degree-passed, terms-passed}
@@ -44,14 +44,6 @@ point-set p i v x h P j l = elim (ℕ-discrete j i) [
 ]
 
 -- ── words ──
-pub copied : (f x y : List ℕ) → length f ≤ length x → y ≡ paste x 0 (drop 0 f) (length f - 0) → take (length f) y ≡ f
-copied f x y h e =
-    ap (take (length f)) (e ∙ ap (paste x 0 f) whole) ∙ ap (λ (n : ℕ). take n (paste x 0 f (length f))) (sym (zero-add (length f)))
-    ∙ take-paste x 0 f (length f) (omega arith) (omega arith) ∙ take-all (length f) f (omega arith)
-  where
-    whole : length f - 0 ≡ length f
-    whole = omega arith
-
 pub inside : (B : Bounded) (r : Formed) (s : List ℕ) → Forms B r s → Inside r s
 inside (within f) r s F = subst (λ r. Inside r s) (sym (F .0)) (F .1 .within)
 inside degree-passed r s F = subst (λ r. Inside r s) (sym F) tt

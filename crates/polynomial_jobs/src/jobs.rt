@@ -1,13 +1,14 @@
 // The jobs on two polynomials.
 ghost use mathlib.Core.Path.{_≡_};
-ghost use mathlib.Core.Bool.{true};
+ghost use mathlib.Core.Bool.{_&&_};
 ghost use Prim.Native.Nat.{_+_, _≤_, _<_};
-ghost use lib.ListN.{length, take};
-ghost use Rattle.residues.specs.Prime.{Prime};
+ghost use lib.ListN.{length, take, drop};
+ghost use Rattle.residues.specs.Prime.{Prime, is-modulus};
 ghost use Rattle.polynomials.specs.Bounds.{standard, bounded-round, bounded-remainder};
 ghost use Rattle.polynomials.specs.Division.{degree, leader, initial, coefficient};
 ghost use Rattle.polynomials.specs.Packed.{terms};
-ghost use Rattle.polynomials.specs.Working.{Holds, Forms};
+ghost use Rattle.polynomials.specs.Poly.{monic};
+ghost use Rattle.polynomials.specs.Working.{Holds, Forms, is-held};
 use crate::operands;
 use crate::print;
 use polynomials::Formed;
@@ -23,7 +24,7 @@ pub fn run(p: u32, f: &[u64], g: &[u64]) {
 }
 
 fn are_operands(p: u32, f: &[u64], g: &[u64]) -> bool
-    ensures { λ r. ⌜ (r ≡ true → Prime p × (p < 2147483648) × Holds p (now (f .entry)) × Holds p (now (g .entry))) ⌝ }
+    ensures { λ r. ⌜ r ≡ (is-modulus p && (is-held p (now (f .entry)) && is-held p (now (g .entry)))) ⌝ }
 {
     if primes::is_prime(p) {
         if forms::is_polynomial(p as u64, f) {
@@ -85,16 +86,17 @@ fn make_monic(p: u64, f: &[u64], x: &mut [u64])
     requires { ⌜ Prime p × (p < 2147483648) ⌝ }
     requires { ⌜ Holds p (now f) ⌝ }
     requires { ⌜ now x ≡ now f ⌝ }
+    ensures { λ _. ⌜ terms (now (x .exit)) ≡ monic p (terms (now (x .entry))) ⌝ }
 {
     scaling::monic(p, x);
     print::polynomial(b"monic", x);
     print::truth(b"equal", forms::equal(x, f));
 }
 
-// Copies f to the first words of x; how many.
+// Copies f to the first words of x; how many. The words behind stay.
 fn copy(f: &[u64], x: &mut [u64]) -> usize
     requires { ⌜ length (now f) ≤ length (now x) ⌝ }
-    ensures { λ r. ⌜ (r ≡ length (now (f .entry))) × (take r (now (x .exit)) ≡ now (f .entry)) ⌝ }
+    ensures { λ r. ⌜ (r ≡ length (now (f .entry))) × (take r (now (x .exit)) ≡ now (f .entry)) × (drop r (now (x .exit)) ≡ drop r (now (x .entry))) ⌝ }
 {
     polynomials::copy(f, 0, x, 0);
     f.len()

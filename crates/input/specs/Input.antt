@@ -36,6 +36,11 @@ abbrev pub Reached : Word → List ℕ → Type 0
 Reached (Read x i) b = Before x i b
 Reached End b = Unit {0}
 
+-- A word read from a buffer filled anew is its first.
+abbrev pub Anew : Word → Type 0
+Anew (Read x i) = i .at ≡ 4
+Anew End = Unit {0}
+
 -- The last of the words that were read stands in the buffer right before the bytes that are not yet used.
 abbrev pub Ended : Filled → List ℕ → List ℕ → Type 0
 Ended (Full i) xs b = 0 < length xs → Before (getD xs (length xs - 1) 0) i b

@@ -1,10 +1,10 @@
 // Words from standard input by way of a buffer. What standard input holds is free: of a word that is read the contracts say where it stands in the
-// buffer, and of words that stood in the buffer already that they are taken in order, none skipped.
+// buffer, of words that stood in the buffer already that they are taken in order, none skipped, and of a buffer filled anew that its first is taken.
 ghost use mathlib.Core.Path.{_≡_};
 ghost use Prim.Native.Nat.{_+_};
 ghost use lib.ListN.{length};
 ghost use Rattle.decoding.specs.Words.{word-at};
-ghost use Rattle.input.specs.Input.{Reached, Enough, Left, Ended, Taken, Within, Counted};
+ghost use Rattle.input.specs.Input.{Reached, Anew, Enough, Left, Ended, Taken, Within, Counted};
 use libc::STDIN_FILENO;
 
 // The bytes of a buffer that are read and not yet used: from `at` up to `end`.
@@ -41,6 +41,7 @@ pub fn next(buffer: &mut [u8], input: Input) -> Word
     ensures { λ r. ⌜ Reached r (now (buffer .exit)) ⌝ }
     ensures { λ r. ⌜ (Left input (now (buffer .entry)) → (r ≡ Word.Read (word-at (now (buffer .entry)) (input .at)) (record { at = input .at + 4; end = input .end }))
         × (now (buffer .exit) ≡ now (buffer .entry))) ⌝ }
+    ensures { λ r. ⌜ ((Left input (now (buffer .entry)) → ⊥) → Anew r) ⌝ }
 {
     let at = input.at;
     let end = input.end;

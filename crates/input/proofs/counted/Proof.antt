@@ -29,7 +29,7 @@ number k = k .count .given .0 .0
 
 abbrev read : (k : tie.After-count) → Left (input k) (buffer k)
     → (k .before .before .before .before .next .result ≡ Read (word-at (buffer k) (input k .at)) (further 1 (input k))) × (k .before .before .before .before .next .last .0 ≡ buffer k)
-read k = k .before .before .before .before .next .ensures .1
+read k = k .before .before .before .before .next .ensures .1 .0
 
 abbrev counted-in : tie.After-fill → tie.After-count
 counted-in f = f .before .before .before .before .before
@@ -58,7 +58,7 @@ same-length c = search needs
 returns : tie.Need-returns
 returns c =
     let a = c .before .before .before .before .before .before .before .before .args in
-    (tt, λ l. absurd (count-lasts (a .input) (a .buffer .now) (a .words .now) l (c .before .before .before .before .next .ensures .1) (c .enum-told .given .1)))
+    (tt, λ l. absurd (count-lasts (a .input) (a .buffer .now) (a .words .now) l (c .before .before .before .before .next .ensures .1 .0) (c .enum-told .given .1)))
 
 cast-n : tie.Need-cast-n
 cast-n c = search needs

@@ -45,7 +45,7 @@ returns c =
     let n = c .before .before .before .before .next in (
       tt,
       λ e. absurd (filling-lasts (a .input) (a .buffer .now) (length (a .words .now)) e (l .i) (l .rest) (l .buffer) (l .words) (l .inv .3 e)
-          (omega arith) (n .ensures .1) (c .enum-told .given .1)),
+          (omega arith) (n .ensures .1 .0) (c .enum-told .given .1)),
     )
 
 mul-words : tie.Need-mul-words Inv-loop μ-loop
@@ -70,7 +70,7 @@ loop-again c =
       simp length-set (search needs),
       search needs,
       (λ e. filling-on (a .input) (a .buffer .now) (length (a .words .now)) e (l .i) (l .rest) (l .buffer) (l .words) (l .inv .3 e)
-          (omega arith) (omega arith) (n .ensures .1) (r .1)),
+          (omega arith) (omega arith) (n .ensures .1 .0) (r .1)),
       λ h. last-put (l .words) (l .i) (omega arith) (read-is (n .result) (n .ensures .0) (r .1)),
     )
 

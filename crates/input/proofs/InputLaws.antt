@@ -102,11 +102,11 @@ ended xs {k} {i} {b} e p q =
     (λ h. subst (λ (m : ℕ). Before (getD xs (m - 1) 0) i b) e (p (omega arith)))
 
 -- The words that were counted lie within the slice.
-pub counted-within : {r : Words} {n : ℕ} {i : Input} (xs : List ℕ) → Within r xs → r ≡ First n i → n ≤ length xs
-counted-within xs h e = rw e at h
+pub counted-within : {r : Words} {n : ℕ} {i : Input} (xs xs′ : List ℕ) → Within r xs xs′ → r ≡ First n i → n ≤ length xs′
+counted-within xs xs′ h e = (rw e at h) .0
 
-pub within-take : {r : Words} {n : ℕ} {i : Input} (xs : List ℕ) → Within r xs → r ≡ First n i → n ≡ length (take n xs)
-within-take {n = n} xs h e = sym (length-take-le n xs (counted-within xs h e))
+pub within-take : {r : Words} {n : ℕ} {i : Input} (xs xs′ : List ℕ) → Within r xs xs′ → r ≡ First n i → n ≡ length (take n xs′)
+within-take {n = n} xs xs′ h e = sym (length-take-le n xs′ (counted-within xs xs′ h e))
 
 -- ── a count, and as many words ──
 -- A word was left in the buffer, so `next` reads it.

@@ -52,10 +52,10 @@ pub record Taken (i : Input) (b : List ℕ) (r : Filled) (b′ xs : List ℕ) : 
   pub same : b′ ≡ b
   pub words : xs ≡ words-from (drop (i .at) b) 0 (length xs)
 
--- A count of words lies within the slice.
-abbrev pub Within : Words → List ℕ → Type 0
-Within (First n i) xs = n ≤ length xs
-Within CutShort xs = Unit {0}
+-- A count of words lies within the slice, whose others stay.
+abbrev pub Within : Words → List ℕ → List ℕ → Type 0
+Within (First n i) xs xs′ = (n ≤ length xs′) × (drop n xs′ ≡ drop n xs)
+Within CutShort xs xs′ = Unit {0}
 
 -- So many words stood in the buffer. They are the first of the slice, whose others stay; and so does the buffer.
 pub record TakenFirst (n : ℕ) (i : Input) (b xs : List ℕ) (r : Words) (b′ xs′ : List ℕ) : Type 0 where

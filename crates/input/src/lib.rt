@@ -75,7 +75,7 @@ pub fn fill(buffer: &mut [u8], input: Input, words: &mut [u32]) -> Filled
 
 // Reads a count, and as many words to the start of the slice.
 pub fn counted(buffer: &mut [u8], input: Input, words: &mut [u32]) -> Words
-    ensures { λ r. ⌜ Within r (now (words .exit)) ⌝ }
+    ensures { λ r. ⌜ Within r (now (words .entry)) (now (words .exit)) ⌝ }
     ensures { λ r. ⌜ (Left input (now (buffer .entry)) → Counted input (now (buffer .entry)) (now (words .entry)) r (now (buffer .exit)) (now (words .exit))) ⌝ }
 {
     let Word::Read(count, after) = next(buffer, input) else {

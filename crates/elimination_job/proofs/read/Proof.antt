@@ -92,7 +92,7 @@ returns-4 : tie.Need-returns-4
 returns-4 c =
     let n = c .before .before .before .before .before .before .before .before .before .before .before in
     let d = n .before .before .before .before .before .before in
-    counted-within (d .counted .last .1 .1 .0) (d .counted .ensures .0) (n .n .given .1)
+    counted-within _ (d .counted .last .1 .1 .0) (d .counted .ensures .0) (n .n .given .1)
 
 pub read-spec : {M : Type 1} → statement M
 read-spec =

@@ -1,11 +1,11 @@
 -- The words that were counted are lent to `fill`.
-use mathlib.Core.Path.{_≡_, sym}
+use mathlib.Core.Path.{_≡_, sym, _∙_}
 use mathlib.Core.List.{List}
 use Prim.Native.Nat.{ℕ}
-use lib.ListN.{length, take}
+use lib.ListN.{length, take, drop}
 use native.Mathlib.Omega.{arith}
 use borrow.Author.Needs.{needs}
-use lib.Seq.{length-take-le}
+use lib.Seq.{length-take-le, drop-at}
 use Rattle.input.specs.declared.Input.{Input}
 use Rattle.input.specs.declared.Word.the-variants.{Read}
 use Rattle.decoding.specs.Words.{word-at}
@@ -117,7 +117,7 @@ same-length-6 c = search needs
 
 returns-4 : tie.Need-returns-4
 returns-4 c = (
-  omega arith,
+  (omega arith, drop-at (f .fill .last .1 .1 .0) (drop (number k) (words k)) (number k) (kept f ∙ lent f)),
   λ l. counted-full (input k) (buffer k) (words k) l (read k) (number k) (k .count .given .0 .1 .0) (k .count .given .1)
       (f .before .before .before .if1 .left) (long f) (lent f) (kept f) (f .fill .ensures .1) (c .before .rest .given .1),
 )

@@ -73,25 +73,25 @@ slice-reshare-prefix-answer : tie.Need-slice-reshare-prefix-answer
 slice-reshare-prefix-answer c =
     let n = table-known (c .before) in
     let d = table-read n in
-    counted-within (d .counted .last .1 .1 .0) (d .counted .ensures .0) (n .n .given .1)
+    counted-within _ (d .counted .last .1 .1 .0) (d .counted .ensures .0) (n .n .given .1)
 
 slice-aggregate-answer : tie.Need-slice-aggregate-answer
 slice-aggregate-answer c =
     let n = table-known (c .before .before) in
     let d = table-read n in
-    within-take (d .counted .last .1 .1 .0) (d .counted .ensures .0) (n .n .given .1)
+    within-take _ (d .counted .last .1 .1 .0) (d .counted .ensures .0) (n .n .given .1)
 
 slice-reshare-prefix-answer-2 : tie.Need-slice-reshare-prefix-answer-2
 slice-reshare-prefix-answer-2 c =
     let m = c .before .before in
     let d = numbers-read m in
-    counted-within (d .counted2 .last .1 .1 .0) (d .counted2 .ensures .0) (m .m .given .1)
+    counted-within _ (d .counted2 .last .1 .1 .0) (d .counted2 .ensures .0) (m .m .given .1)
 
 slice-aggregate-answer-2 : tie.Need-slice-aggregate-answer-2
 slice-aggregate-answer-2 c =
     let m = c .before .before .before in
     let d = numbers-read m in
-    within-take (d .counted2 .last .1 .1 .0) (d .counted2 .ensures .0) (m .m .given .1)
+    within-take _ (d .counted2 .last .1 .1 .0) (d .counted2 .ensures .0) (m .m .given .1)
 
 answer-requires : tie.Need-answer-requires
 answer-requires c κs = search needs

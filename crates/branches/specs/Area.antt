@@ -3,7 +3,7 @@
 --     [control] [waiting branches, oldest .. newest] [open branch] [free] [systems, newest .. oldest] [records beyond 65,536]
 --
 -- The control record holds where the open branch starts and ends, where the systems start, and how many there are.
-use mathlib.Core.Path.{_≡_}
+use mathlib.Core.Path.{_≡_, refl}
 use mathlib.Core.Bool.{Bool, true, false}
 use mathlib.Core.List.{List, [], _∷_, _++_}
 use Prim.Native.Nat.{ℕ, _+_, _-_, _/_, _≤_, min}
@@ -130,6 +130,11 @@ Opened w = (b : Stored) × (bs : List Stored) × (ss : List Stored) × Held-in w
 -- What lies behind the records of a work area: whole records beyond 65,536, and at most three words.
 abbrev pub outside : List ℕ → List Rec × List ℕ
 outside w = (drop (capacity w) (view w), words-behind w)
+
+-- Behind two records, the ninth word.
+nine-words : outside (1 ∷ 2 ∷ 3 ∷ 4 ∷ 5 ∷ 6 ∷ 7 ∷ 8 ∷ 9 ∷ []) ≡ ([], 9 ∷ [])
+unfolding view
+nine-words = refl
 
 -- Φ, of the open branch, the waiting ones and the systems that the words hold.
 abbrev pub When-open : List ℕ → (Stored → List Stored → List Stored → Type 0) → Type 0

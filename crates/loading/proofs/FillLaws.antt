@@ -64,7 +64,7 @@ put-heads-append true p fs gs c = λ i. record { P = c .P; Q = put-all-append (r
 put-heads-append false p fs gs c = λ i. record { P = put-all-append (rules.put-P p) fs gs (c .P) i; Q = c .Q; T = c .T }
 
 -- The first of them make it no larger than all.
-pub size-first : (q : Bool) (p : ℕ) (fs gs : List Poly) (c : Branch) → branch-size (put-heads q p fs c) ≤ branch-size (put-heads q p (fs ++ gs) c)
+size-first : (q : Bool) (p : ℕ) (fs gs : List Poly) (c : Branch) → branch-size (put-heads q p fs c) ≤ branch-size (put-heads q p (fs ++ gs) c)
 size-first q p fs gs c =
     subst (λ (d : Branch). branch-size (put-heads q p fs c) ≤ branch-size d) (sym (put-heads-append q p fs gs c)) (size-put-heads q p gs (put-heads q p fs c))
 

@@ -1,8 +1,8 @@
 -- The first branch, put in the work area polynomial by polynomial.
-use mathlib.Core.Path.{_≡_}
+use mathlib.Core.Path.{_≡_, refl}
 use mathlib.Core.Logic.{_≢_}
 use mathlib.Core.Bool.{Bool, true, false}
-use mathlib.Core.List.{List, []}
+use mathlib.Core.List.{List, [], _∷_}
 use Prim.Native.Nat.{ℕ, suc, _+_, _-_, _≤_, _<_}
 use lib.Dec.{leb}
 use lib.ListN.{take, length}
@@ -11,7 +11,7 @@ use Rattle.polynomials.specs.Poly.{Poly, monic}
 use Rattle.polynomials.specs.Packed.{terms}
 use Rattle.tables.specs.Read.{Input}
 use Rattle.tables.specs.declared.Reason.the-variants.{Room}
-use Rattle.rules.specs.Branch.{Branch, put-P, put-Q, put-all}
+use Rattle.rules.specs.Branch.{Branch, is-zero, is-one, member, put-P, put-Q, put-all}
 use Rattle.rules.specs.Room.{branch-size}
 use Rattle.rules.specs.Step.{Stepped, next, stopped}
 use Rattle.records.specs.Records.{Rec}
@@ -59,9 +59,14 @@ no-polynomial = record { P = []; Q = []; T = [] }
 abbrev pub first-put : Input → ℕ → Branch
 first-put t k = put-heads true (t .modulus) (take (k - length (t .P)) (t .Q)) (put-heads false (t .modulus) (take k (t .P)) no-polynomial)
 
--- The answer is whether the run starts. If so there are two records, and the work area holds its first state; otherwise, given two records, the
--- branch of the table's first k polynomials, those before one that has no room.
+-- Of one polynomial of P and two of Q, all zero, the first two: zero is not put into P.
+three-zeros : first-put (record { modulus = 7; variables = 1; P = [] ∷ []; Q = [] ∷ ([] ∷ []) }) 2 ≡ record { P = []; Q = [] ∷ []; T = [] }
+unfolding put-all put-P put-Q monic is-zero is-one member
+three-zeros = refl
+
+-- The answer is whether the run starts. If so there are at least two records, and the work area holds its first state; otherwise, given
+-- two records, the branch of the table's first k polynomials, those before one that has no room.
 abbrev pub Started : Input → Stepped → ℕ → Bool → List Rec → Type 0
 Started t (next s) most r v = (r ≡ true) × (2 ≤ most) × ((a : Area) × Held v most a × Ready (t .modulus) a × (state-of a ≡ s))
 Started t (stopped why) most r v =
-    (r ≡ false) × (why ≡ Room) × (2 ≤ most → (k : ℕ) × (most < 1 + branch-size (first-put t k)) × Alone (t .modulus) most (first-put t k) v)
+    (r ≡ false) × (why ≡ Room) × (2 ≤ most → (k : ℕ) × (most < 1 + branch-size (first-put t (suc k))) × Alone (t .modulus) most (first-put t k) v)

@@ -83,13 +83,13 @@ slice-reshare-prefix-answer : tie.Need-slice-reshare-prefix-answer
 slice-reshare-prefix-answer c =
     let n = c .before .before .before .before .before in
     let d = table-read n .counted in
-    counted-within (d .last .1 .1 .0) (d .ensures .0) (n .n .given .1)
+    counted-within _ (d .last .1 .1 .0) (d .ensures .0) (n .n .given .1)
 
 slice-aggregate-answer : tie.Need-slice-aggregate-answer
 slice-aggregate-answer c =
     let n = c .before .before .before .before .before .before in
     let d = table-read n .counted in
-    within-take (d .last .1 .1 .0) (d .ensures .0) (n .n .given .1)
+    within-take _ (d .last .1 .1 .0) (d .ensures .0) (n .n .given .1)
 
 slice-relend-prefix-answer : tie.Need-slice-relend-prefix-answer
 slice-relend-prefix-answer c = search needs

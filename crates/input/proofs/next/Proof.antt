@@ -27,9 +27,10 @@ same-length c = search needs
 
 returns : tie.Need-returns
 returns c =
-    let a = c .before .before .before .before .before .before .args in
-    (read-next (a .buffer .now) (a .input .at) (a .input .end) (omega (arith, leb-true)) (omega (arith, leb-true)) (c .word-at .ensures),
-    (λ l. (same-word _ (c .word-at .ensures), refl), λ n. absurd (n record { within = omega (arith, leb-true); some = omega (arith, leb-true) })))
+    let a = c .before .before .before .before .before .before .args in (
+      read-next (a .buffer .now) (a .input .at) (a .input .end) (omega (arith, leb-true)) (omega (arith, leb-true)) (c .word-at .ensures),
+      (λ l. (same-word _ (c .word-at .ensures), refl), λ n. absurd (n record { within = omega (arith, leb-true); some = omega (arith, leb-true) })),
+    )
 
 read-full-requires : tie.Need-read-full-requires
 read-full-requires c κs = search needs
@@ -48,9 +49,10 @@ same-length-3 c = search needs
 
 returns-3 : tie.Need-returns-3
 returns-3 c =
-    let r = c .before .before .before .before .before .read-full in
-    (record { passed = omega arith; ordered = omega arith; within = r .ensures .0; is = c .word-at2 .ensures },
-    (λ l. absurd (none-left (c .before .before .before .before .before .before .before) l), λ n. refl))
+    let r = c .before .before .before .before .before .read-full in (
+      record { passed = omega arith; ordered = omega arith; within = r .ensures .0; is = c .word-at2 .ensures },
+      (λ l. absurd (none-left (c .before .before .before .before .before .before .before) l), λ n. refl),
+    )
 
 pub next-spec : {M : Type 1} → statement M
 next-spec =

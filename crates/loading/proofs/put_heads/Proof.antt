@@ -1,4 +1,5 @@
--- `put_heads` meets its contract. The loop's invariant: the work area holds the branch with the polynomials before index i put. The measure is the count of records that index i can still reach.
+-- `put_heads` meets its contract. The loop's invariant: the work area holds the branch with the polynomials before index i put. The measure is
+-- the count of records that index i can still reach.
 use mathlib.Core.Path.{_≡_, refl, sym, _∙_, subst}
 use mathlib.Core.Bool.{Bool}
 use mathlib.Core.List.{List, []}

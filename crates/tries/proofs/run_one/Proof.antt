@@ -25,12 +25,12 @@ returns c = search needs
 slice-reshare-prefix-try-both : tie.Need-slice-reshare-prefix-try-both
 slice-reshare-prefix-try-both c =
     let n = c .before .before .before .before .before .before .before .counted in
-    counted-within (n .last .1 .1 .0) (n .ensures .0) (c .before .m .given .1)
+    counted-within _ (n .last .1 .1 .0) (n .ensures .0) (c .before .m .given .1)
 
 slice-aggregate-try-both : tie.Need-slice-aggregate-try-both
 slice-aggregate-try-both c =
     let n = c .before .before .before .before .before .before .before .before .counted in
-    within-take (n .last .1 .1 .0) (n .ensures .0) (c .before .before .m .given .1)
+    within-take _ (n .last .1 .1 .0) (n .ensures .0) (c .before .before .m .given .1)
 
 try-both-requires : tie.Need-try-both-requires
 try-both-requires c κs = search needs

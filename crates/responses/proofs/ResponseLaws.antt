@@ -1,12 +1,12 @@
--- The text of an answer, and of the list in the output, is that of the elimination.
+-- The text of an answer, and of the list in the output, is that of the elimination; the other buffers are as `Responded` says.
 use mathlib.Core.Path.{_≡_, refl, sym, _∙_, ap, ap₂}
-use mathlib.Core.Bool.{Bool, true, false, not, _||_}
+use mathlib.Core.Bool.{Bool, true, false, not, _||_, true≢false}
 use mathlib.Core.List.{List, [], _∷_, _++_}
-use Prim.Native.Nat.{ℕ, zero, suc, _+_, _*_, _%_, _≤_, _<_}
+use Prim.Native.Nat.{ℕ, zero, suc, _+_, _*_, _/_, _%_, _≤_, _<_}
 use native.Mathlib.Omega.{arith}
 use borrow.Author.Tests.{lt-ltb, le-ltb, eq-eqb, ne-eqb}
 use lib.Dec.{eqb, ltb}
-use lib.ListN.{length, take, drop, length-drop}
+use lib.ListN.{length, take, drop, replicate, length-drop, take-append-drop}
 use lib.Seq.{take-append-le, drop-append-le}
 use Rattle.tables.specs.Read.{System, Listing}
 use Rattle.rules.specs.Written.{list-records}
@@ -20,7 +20,8 @@ use Rattle.extent.specs.laws.Extent.{extent-of-list}
 use Rattle.decoding.specs.Words.{words-of}
 use Rattle.lines.specs.Text.{line-text}
 use Rattle.responses.specs.Said.{records-text, said-of, said}
-use Rattle.responses.specs.Response.{answer-text, response}
+use Rattle.responses.specs.Response.{answer-text, too-long-or-broken, response}
+use Rattle.responses.specs.Responded.{Responded}
 
 -- The lines of the first records say nothing of what follows.
 records-alone : (w rest : List ℕ) (i n : ℕ) → 4 * (i + n) ≤ length w → records-text (w ++ rest) i n ≡ records-text w i n
@@ -50,29 +51,55 @@ module _ (w : List ℕ) (work output limit : ℕ) (out : List ℕ) where
 
 -- ── the three ways ──
 module _ (bytes : List ℕ) where
-  by-tests : {a b : Bool} → ltb 65536 (length bytes) ≡ a → eqb (length bytes % 4) 0 ≡ b
-      → response bytes ≡ elim (a || not b) [ true ↦ line-text (1 ∷ 0 ∷ 0 ∷ []) | false ↦ answer-text (eliminated (words-of bytes) 16384 16384 100000) ]
-  unfolding response
-  by-tests p q =
-      ap₂ (λ (a b : Bool). elim (a || not b) as (λ c. List ℕ) [ true ↦ line-text (1 ∷ 0 ∷ 0 ∷ []) | false ↦ answer-text (eliminated (words-of bytes) 16384 16384 100000) ]) p q
-
-  pub too-long : {t : List ℕ} → 65536 < length bytes → t ≡ line-text (1 ∷ 0 ∷ 0 ∷ []) → t ≡ response bytes
-  too-long h e = e ∙ sym (by-tests (lt-ltb 65536 (length bytes) h) refl)
+  pub too-long : 65536 < length bytes → too-long-or-broken bytes ≡ true
+  too-long h = ap (λ (a : Bool). a || not (eqb (length bytes % 4) 0)) (lt-ltb 65536 (length bytes) h)
 
   -- A broken last word is refused at any length.
-  pub broken : {t : List ℕ} → (length bytes % 4 ≡ 0 → ⊥) → t ≡ line-text (1 ∷ 0 ∷ 0 ∷ []) → t ≡ response bytes
-  broken n e = e ∙ sym (go (ltb 65536 (length bytes)) refl)
+  pub broken : (length bytes % 4 ≡ 0 → ⊥) → too-long-or-broken bytes ≡ true
+  broken n = go (ltb 65536 (length bytes))
     where
-      go : (a : Bool) → ltb 65536 (length bytes) ≡ a → response bytes ≡ line-text (1 ∷ 0 ∷ 0 ∷ [])
-      go true p = by-tests p refl
-      go false p = by-tests p (ne-eqb (length bytes % 4) 0 n)
+      go : (a : Bool) → a || not (eqb (length bytes % 4) 0) ≡ true
+      go true = refl
+      go false = ap not (ne-eqb (length bytes % 4) 0 n)
 
-  pub answered : {t : List ℕ} {a : Answer} {out : List ℕ} (w out₀ : List ℕ) (work output : ℕ) → length bytes ≤ 65536 → length bytes % 4 ≡ 0 → w ≡ words-of bytes → work ≡ 16384 → output ≡ 16384
+  pub whole-words : length bytes ≤ 65536 → length bytes % 4 ≡ 0 → too-long-or-broken bytes ≡ false
+  whole-words h z = ap₂ (λ (a b : Bool). a || not b) (le-ltb 65536 (length bytes) h) (eq-eqb (length bytes % 4) 0 z)
+
+  -- ── the text ──
+  by-test : {a : Bool} → too-long-or-broken bytes ≡ a
+      → response bytes ≡ elim a [ true ↦ line-text (1 ∷ 0 ∷ 0 ∷ []) | false ↦ answer-text (eliminated (words-of bytes) 16384 16384 100000) ]
+  unfolding response
+  by-test p = ap (λ (a : Bool). elim a as (λ c. List ℕ) [ true ↦ line-text (1 ∷ 0 ∷ 0 ∷ []) | false ↦ answer-text (eliminated (words-of bytes) 16384 16384 100000) ]) p
+
+  pub refused : {t : List ℕ} → too-long-or-broken bytes ≡ true → t ≡ line-text (1 ∷ 0 ∷ 0 ∷ []) → t ≡ response bytes
+  refused p e = e ∙ sym (by-test p)
+
+  pub answered : {t : List ℕ} {a : Answer} {out : List ℕ} (w out₀ : List ℕ) (work output : ℕ) → too-long-or-broken bytes ≡ false → w ≡ words-of bytes → work ≡ 16384 → output ≡ 16384
       → a ≡ answer-of (eliminated w work output 100000) → out ≡ output-after (eliminated w work output 100000) out₀ → t ≡ said a out → t ≡ response bytes
-  answered {t} {a} {out} w out₀ work output h z ew ek eo ea eout e =
+  answered {t} {a} {out} w out₀ work output p ew ek eo ea eout e =
       let x = eliminated w work output 100000 in
       e ∙ ap₂ (λ (a : Answer) (o : List ℕ). said a o) ea eout
       ∙ said-of-elimination w work output 100000 out₀ x refl
       ∙ ap (λ (v : List ℕ). answer-text (eliminated v work output 100000)) ew
       ∙ ap₂ (λ (m n : ℕ). answer-text (eliminated (words-of bytes) m n 100000)) ek eo
-      ∙ sym (by-tests (le-ltb 65536 (length bytes) h) (eq-eqb (length bytes % 4) 0 z))
+      ∙ sym (by-test p)
+
+  -- ── the other buffers ──
+  module _ (words work output : List ℕ) where
+    pub untouched : too-long-or-broken bytes ≡ true → Responded bytes words work output words work output
+    untouched p = record { refused = λ q. (refl, refl, refl); decoded = λ q. absurd (true≢false (sym p ∙ q)) }
+
+    pub left : (words′ : List ℕ) {work′ output′ : List ℕ} → too-long-or-broken bytes ≡ false → length work ≡ 16384 → length output ≡ 16384
+        → take (length bytes / 4) words′ ≡ words-of bytes → drop (length bytes / 4) words′ ≡ drop (length bytes / 4) words → work′ ≡ replicate (length work) 0
+        → output′ ≡ output-after (eliminated (take (length bytes / 4) words′) (length work) (length output) 100000) output
+        → Responded bytes words work output words′ work′ output′
+    left words′ p ek eo ew er ez eout = record {
+      refused = λ q. absurd (true≢false (sym q ∙ p));
+      decoded = λ q. (
+        sym (take-append-drop (length bytes / 4) words′) ∙ ap₂ (λ (x y : List ℕ). x ++ y) ew er,
+        ez,
+        eout
+            ∙ ap (λ (v : List ℕ). output-after (eliminated v (length work) (length output) 100000) output) ew
+            ∙ ap₂ (λ (m n : ℕ). output-after (eliminated (words-of bytes) m n 100000) output) ek eo,
+      );
+    }

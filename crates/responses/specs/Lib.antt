@@ -1,3 +1,4 @@
 pub mod Said
 pub mod Response
+pub mod Responded
 mod Printed

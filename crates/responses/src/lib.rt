@@ -4,6 +4,7 @@ ghost use mathlib.Core.List.{_++_};
 ghost use Prim.Native.Nat.{_+_, _*_, _≤_};
 ghost use lib.ListN.{length, take};
 ghost use Rattle.responses.specs.Response.{response};
+ghost use Rattle.responses.specs.Responded.{Responded};
 ghost use Rattle.responses.specs.Said.{records-text, said};
 use elimination::Answer;
 use elimination::Outcome;
@@ -44,8 +45,8 @@ fn put_answer(text: &mut [u8], answer: Answer, output: &[u32]) -> usize
     }
 }
 
-// The text for the bytes read. More bytes than 4,096 records have, or a broken last word, are refusal 1. What the other buffers hold afterwards is
-// not said: `triangularize` reads none of them again.
+// The text for the bytes read. More bytes than 4,096 records have, or a broken last word, are refusal 1. What stands in `text` behind the text is free,
+// as in `lines::text`: `triangularize` writes the text alone.
 pub fn respond(
     bytes: &[u8],
     words: &mut [u32],
@@ -55,6 +56,7 @@ pub fn respond(
 ) -> usize
     requires { ⌜ (16384 ≡ length (now words)) × (16384 ≡ length (now work)) × (16384 ≡ length (now output)) × (348352 ≤ length (now text)) ⌝ }
     ensures { λ r. ⌜ (r ≤ length (now (text .exit))) × (take r (now (text .exit)) ≡ response (now (bytes .entry))) ⌝ }
+    ensures { λ _. ⌜ Responded (now (bytes .entry)) (now (words .entry)) (now (work .entry)) (now (output .entry)) (now (words .exit)) (now (work .exit)) (now (output .exit)) ⌝ }
 {
     let refused = [1, 0, 0];
     if 65536 < bytes.len() {

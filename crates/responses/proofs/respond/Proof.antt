@@ -1,11 +1,11 @@
--- Each way out is a case of `response`.
+-- Each way out is a case of `response`, and of `Responded`.
 use mathlib.Core.Path.{sym}
 use Prim.Native.Nat.{_/_}
 use native.Mathlib.Omega.{arith}
 use borrow.Author.Needs.{needs}
 use lib.ListN.{length, take}
 use lib.Seq.{length-take-le}
-use Rattle.responses.proofs.ResponseLaws.{too-long, broken, answered}
+use Rattle.responses.proofs.ResponseLaws.{too-long, broken, whole-words, refused, answered, untouched, left}
 use Rattle.responses.proofs.respond.Statement.{statement}
 use Rattle.responses.proofs.respond.Tie as tie
 
@@ -14,8 +14,8 @@ use Rattle.responses.proofs.respond.Tie as tie
 abbrev entry : tie.Else2 → tie.Start
 entry c = c .before .before .before .before .before .before .before
 
-abbrev whole-words : tie.After-decode → tie.Else2
-whole-words c = c .before .before
+abbrev undecoded : tie.After-decode → tie.Else2
+undecoded c = c .before .before
 
 abbrev decoded : tie.After-eliminate → tie.After-decode
 decoded c = c .before .before .before .before .before .before
@@ -34,8 +34,9 @@ returns : tie.Need-returns
 returns c =
     let e = c .before .before .print-line .ensures in
     let i = c .before .before .before .before .before in
-    let b = i .before .before .before .before .before .before .args .bytes .now in
-    (e .0, too-long b (omega (arith, i .if1 .taken)) (e .1 (omega arith) .is))
+    let a = i .before .before .before .before .before .before .args in
+    let long = too-long (a .bytes .now) (omega (arith, i .if1 .taken)) in
+    ((e .0, refused (a .bytes .now) long (e .1 (omega arith) .is)), untouched (a .bytes .now) (a .words .now) (a .work .now) (a .output .now) long)
 
 slice-aggregate-print-line-2 : tie.Need-slice-aggregate-print-line-2
 slice-aggregate-print-line-2 c = search needs
@@ -50,8 +51,9 @@ returns-2 : tie.Need-returns-2
 returns-2 c =
     let e = c .before .before .print-line2 .ensures in
     let i = c .before .before .before .before .before in
-    let b = i .before .before .before .before .before .before .before .args .bytes .now in
-    (e .0, broken b (λ z. i .if2 .taken (omega (arith, z))) (e .1 (omega arith) .is))
+    let a = i .before .before .before .before .before .before .before .args in
+    let part = broken (a .bytes .now) (λ z. i .if2 .taken (omega (arith, z))) in
+    ((e .0, refused (a .bytes .now) part (e .1 (omega arith) .is)), untouched (a .bytes .now) (a .words .now) (a .work .now) (a .output .now) part)
 
 decode-requires : tie.Need-decode-requires
 decode-requires c κs = search needs
@@ -86,16 +88,21 @@ same-length-6 c = search needs
 returns-3 : tie.Need-returns-3
 returns-3 c =
     let d = decoded (c .before .before .before .before .before .before .before .before .before) in
-    let i = whole-words d in
+    let i = undecoded d in
     let s = entry i in
     let a = s .args in
     let b = a .bytes .now in
     let w = take (length b / 4) (d .decode .last .1 .0) in
     let e = c .before .before .before .before .before .before .before .before .before .eliminate .ensures in
-    let p = c .before .before .put-answer .ensures in (
-      p .0,
-      answered b w (a .output .now) (length (a .work .now)) (length (a .output .now)) (omega (arith, i .before .if1 .left)) (omega (arith, i .if2 .left))
-          (d .decode .ensures .0) (sym (s .pre .1)) (sym (s .pre .2)) (e .answer) (e .output-is) (p .1),
+    let p = c .before .before .put-answer .ensures in
+    let q = whole-words b (omega (arith, i .before .if1 .left)) (omega (arith, i .if2 .left)) in (
+      (
+        p .0,
+        answered b w (a .output .now) (length (a .work .now)) (length (a .output .now)) q (d .decode .ensures .0) (sym (s .pre .1)) (sym (s .pre .2))
+            (e .answer) (e .output-is) (p .1),
+      ),
+      left b (a .words .now) (a .work .now) (a .output .now) (d .decode .last .1 .0) q (sym (s .pre .1)) (sym (s .pre .2)) (d .decode .ensures .0) (d .decode .ensures .1)
+          (e .cleared) (e .output-is),
     )
 
 pub respond-spec : {M : Type 1} → statement M

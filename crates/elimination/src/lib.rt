@@ -41,7 +41,7 @@ fn eliminate_accepted(table: &[u32], work: &mut [u32], output: &mut [u32], limit
 }
 
 // Eliminates the table: on success the list of systems stands in the first words of the output. The work area may hold anything, and is zero
-// afterwards. Stack: about 90 KiB, of which a small job clears 6; 1.1 MiB more where a product gathers over 1,024 words.
+// afterwards. Stack: about 90 KiB, of which a small job clears 6; 128 KiB more where a product gathers over 1,024 words, 1.0 MiB where over 8,192.
 pub fn eliminate(table: &[u32], work: &mut [u32], output: &mut [u32], limit: u32) -> Answer
     ensures { λ r. ⌜ Eliminates (now (table .entry)) (now (work .entry)) (now (output .entry)) limit r (now (work .exit)) (now (output .exit)) ⌝ }
 {

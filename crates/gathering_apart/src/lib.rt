@@ -11,26 +11,21 @@ ghost use Rattle.gathering.specs.Gathers.{Gathers, room-for};
 use gathering::Gathered;
 use polynomials::Formed;
 
-// `gathering::gather` in buffers of its own.
-pub fn gather_apart(p: u64, f: &[u64], g: &[u64], x: &mut [u64]) -> Formed
+// `gathering::gather` in buffers of its own, of 8,192 words each. Stack: 128 KiB, cleared at each call.
+pub fn gather_apart(p: u64, f: &[u64], g: &[u64], x: &mut [u64]) -> Gathered
     requires { ⌜ (1 ≤ p) × (p < 2147483648) ⌝ }
     requires { ⌜ Holds p (now f) × (0 < length (now f)) ⌝ }
     requires { ⌜ Holds p (now g) × (degrees-over (at-most 255) (terms (now f)) (terms (now g)) ≡ false) ⌝ }
     requires { ⌜ 512 ≤ length (now x) ⌝ }
-    ensures { λ r. ⌜ Forms (tested standard (product p (terms (now (f .entry))) (terms (now (g .entry))))) r (now (x .exit)) ⌝ }
+    ensures { λ r. ⌜ Gathers (product p (terms (now (f .entry))) (terms (now (g .entry)))) (room-for (length (now (f .entry))) (length (now (g .entry)))) r (now (x .exit)) 8192 8192 ⌝ }
 {
     let mut a = [0u64; 8192];
     let mut b = [0u64; 8192];
-    let ended = gather_in(p, f, g, &mut a, &mut b, x);
-    match ended {
-        Gathered::Words(n) => Formed::Words(n),
-        Gathered::OverTerms => Formed::OverTerms,
-        Gathered::Short => gather_large(p, f, g, x),
-    }
+    gather_in(p, f, g, &mut a, &mut b, x)
 }
 
-// `gathering::gather` in buffers that hold whatever is gathered: it is never `Short` here.
-fn gather_large(p: u64, f: &[u64], g: &[u64], x: &mut [u64]) -> Formed
+// `gathering::gather` in buffers that hold whatever is gathered: it is never `Short` here. Stack: 1.0 MiB, cleared at each call.
+pub fn gather_large(p: u64, f: &[u64], g: &[u64], x: &mut [u64]) -> Formed
     requires { ⌜ (1 ≤ p) × (p < 2147483648) ⌝ }
     requires { ⌜ Holds p (now f) × (0 < length (now f)) ⌝ }
     requires { ⌜ Holds p (now g) × (degrees-over (at-most 255) (terms (now f)) (terms (now g)) ≡ false) ⌝ }

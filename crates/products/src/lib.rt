@@ -12,7 +12,7 @@ use gathering::Gathered;
 use polynomials::Formed;
 
 // f times g, in the first words of x; z is lent besides. Stack: none to speak of where x and z hold what is gathered, as they do wherever
-// all term products fit; else 1.1 MiB, of which 128 KiB are cleared up to 8,192 words.
+// all term products fit; else 128 KiB, and 1.0 MiB where 8,192 words don't hold it either.
 pub fn product(p: u64, f: &[u64], g: &[u64], x: &mut [u64], z: &mut [u64]) -> Formed
     requires { ⌜ (1 ≤ p) × (p < 2147483648) ⌝ }
     requires { ⌜ Holds p (now f) ⌝ }
@@ -33,7 +33,7 @@ pub fn product(p: u64, f: &[u64], g: &[u64], x: &mut [u64], z: &mut [u64]) -> Fo
 }
 
 // The product by the rows of the shorter factor, where no degree passes 255. Since it calls itself, LLVM inlines no large frame here:
-// each call would pay for it.
+// each call would pay for it. So it calls both gatherings apart; one called by the other would be inlined there.
 fn rows(p: u64, f: &[u64], g: &[u64], x: &mut [u64], z: &mut [u64]) -> Formed
     requires { ⌜ (1 ≤ p) × (p < 2147483648) ⌝ }
     requires { ⌜ Holds p (now f) × (0 < length (now f)) ⌝ }
@@ -52,6 +52,13 @@ fn rows(p: u64, f: &[u64], g: &[u64], x: &mut [u64], z: &mut [u64]) -> Formed
     match ended {
         Gathered::Words(n) => Formed::Words(n),
         Gathered::OverTerms => Formed::OverTerms,
-        Gathered::Short => gathering_apart::gather_apart(p, f, g, x),
+        Gathered::Short => {
+            let again = gathering_apart::gather_apart(p, f, g, x);
+            match again {
+                Gathered::Words(n) => Formed::Words(n),
+                Gathered::OverTerms => Formed::OverTerms,
+                Gathered::Short => gathering_apart::gather_large(p, f, g, x),
+            }
+        }
     }
 }

@@ -1,5 +1,5 @@
 -- The proof of the cycle of calls {rows}: `products::rows` meets its contract. The measure is the length of f, which falls where the factors change places.
--- A single row is the product, else the rows are gathered.
+-- A single row is the product, else the rows are gathered: in the lent buffers, in longer ones, in the longest; the last two ask for the same.
 use mathlib.Core.Path.{_∙_}
 use native.Mathlib.Omega.{arith}
 use borrow.Author.Needs.{needs}
@@ -15,6 +15,7 @@ use Rattle.products.proofs.rows.Kinds as rows-kinds
 use Rattle.products.proofs.+rows.Lts-rows as rows-lts
 use Rattle.gathering.proofs.gather.Reads as gather-reads
 use Rattle.gathering_apart.proofs.gather_apart.Reads as gather-apart-reads
+use Rattle.gathering_apart.proofs.gather_large.Reads as gather-large-reads
 use Rattle.sums.proofs.add_multiple.Reads as add-multiple-reads
 use Rattle.products.proofs.+rows.{statement}
 use Rattle.products.proofs.+rows.Tie.{close}
@@ -39,6 +40,8 @@ calls t = (
   gather-reads.Learnt,
   gather-apart-reads.Asked,
   gather-apart-reads.Learnt,
+  gather-large-reads.Asked,
+  gather-large-reads.Learnt,
 )
 
 rows-rows-requires : (t : ℕ) → rows-lts.Need-rows-requires (calls t) (rows-at t) rows.Post
@@ -114,6 +117,21 @@ rows-gather-apart-requires t c κs =
     let g = c .before .before .before .before .before .before .before .gather in
     (asked .0, (asked .1 .0, (asked .1 .1 .0, omega (arith, g .kept, short-lent _ _ _ _ (short-ended _ _ _ _ _ _ (g .ensures) (c .before .enum-told2 .given .1)) (asked .1 .1 .1 .1)))))
 
+rows-enum-known-again : (t : ℕ) → rows-lts.Need-enum-known-again (calls t) (rows-at t) rows.Post
+rows-enum-known-again t c = c .match2 .keys1
+
+rows-enum-told-3 : (t : ℕ) → rows-lts.Need-enum-told-3 (calls t) (rows-at t) rows.Post
+rows-enum-told-3 t c = c .match2 .keys2
+
+rows-enum-told-4 : (t : ℕ) → rows-lts.Need-enum-told-4 (calls t) (rows-at t) rows.Post
+rows-enum-told-4 t c = c .match2 .keys3
+
+rows-gather-large-requires : (t : ℕ) → rows-lts.Need-gather-large-requires (calls t) (rows-at t) rows.Post
+rows-gather-large-requires t c κs =
+    let a = c .before .before .before .before .before in
+    let asked = rows-gather-apart-requires t (a .before) κs in
+    (asked .0, (asked .1 .0, (asked .1 .1 .0, omega (arith, asked .1 .1 .1, a .gather-apart .kept))))
+
 rows-same-length-4 : (t : ℕ) → rows-lts.Need-same-length-4 (calls t) (rows-at t) rows.Post
 rows-same-length-4 t c = search needs
 
@@ -139,7 +157,25 @@ rows-same-length-9 : (t : ℕ) → rows-lts.Need-same-length-9 (calls t) (rows-a
 rows-same-length-9 t c = search needs
 
 rows-returns-5 : (t : ℕ) → rows-lts.Need-returns-5 (calls t) (rows-at t) rows.Post
-rows-returns-5 t c = search needs
+rows-returns-5 t c = words-ended _ _ _ _ _ _ (c .before .before .before .before .before .gather-apart .ensures) _ (c .before .again .given .1)
+
+rows-same-length-10 : (t : ℕ) → rows-lts.Need-same-length-10 (calls t) (rows-at t) rows.Post
+rows-same-length-10 t c = search needs
+
+rows-same-length-11 : (t : ℕ) → rows-lts.Need-same-length-11 (calls t) (rows-at t) rows.Post
+rows-same-length-11 t c = search needs
+
+rows-returns-6 : (t : ℕ) → rows-lts.Need-returns-6 (calls t) (rows-at t) rows.Post
+rows-returns-6 t c = over-terms-ended _ _ _ _ _ _ (c .before .before .before .before .gather-apart .ensures) _ (c .enum-told3 .given .1)
+
+rows-same-length-12 : (t : ℕ) → rows-lts.Need-same-length-12 (calls t) (rows-at t) rows.Post
+rows-same-length-12 t c = search needs
+
+rows-same-length-13 : (t : ℕ) → rows-lts.Need-same-length-13 (calls t) (rows-at t) rows.Post
+rows-same-length-13 t c = search needs
+
+rows-returns-7 : (t : ℕ) → rows-lts.Need-returns-7 (calls t) (rows-at t) rows.Post
+rows-returns-7 t c = search needs
 
 pub +rows-spec : {M : Type 1} → statement M
 +rows-spec = close μ-rows λ t. rows-lts.spec (calls t)
@@ -160,6 +196,10 @@ pub +rows-spec : {M : Type 1} → statement M
     (rows-enum-told t)
     (rows-enum-told-2 t)
     (rows-gather-apart-requires t)
+    (rows-enum-known-again t)
+    (rows-enum-told-3 t)
+    (rows-enum-told-4 t)
+    (rows-gather-large-requires t)
     (rows-same-length-4 t)
     (rows-same-length-5 t)
     (rows-returns-3 t)
@@ -169,3 +209,9 @@ pub +rows-spec : {M : Type 1} → statement M
     (rows-same-length-8 t)
     (rows-same-length-9 t)
     (rows-returns-5 t)
+    (rows-same-length-10 t)
+    (rows-same-length-11 t)
+    (rows-returns-6 t)
+    (rows-same-length-12 t)
+    (rows-same-length-13 t)
+    (rows-returns-7 t)

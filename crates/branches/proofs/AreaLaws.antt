@@ -56,10 +56,10 @@ module _ {v pre : List Rec} {own : Rec} {fs : List (List ℕ)} {free fin : List 
       ∙ ap (λ (u : List Rec). front xs ++ u)
       (ap (λ (u : List Rec). u ++ (free ++ fin)) (polys-records-append gs ys) ∙ append-assoc (polys-records gs) (polys-records ys) (free ++ fin))
 
-  skips : (xs gs ys : List (List ℕ)) → fs ≡ xs ++ (gs ++ ys) → skip-to v (place at xs) (length gs) ≡ place at xs + length (polys-records gs)
+  pub skips : (xs gs ys : List (List ℕ)) → fs ≡ xs ++ (gs ++ ys) → skip-to v (place at xs) (length gs) ≡ place at xs + length (polys-records gs)
   skips xs gs ys s = skip-to-polys-records v (front xs) (place at xs) gs (polys-records ys ++ (free ++ fin)) (length-front xs) (split₂ xs gs ys s)
 
-  finds : (xs gs ys : List (List ℕ)) → fs ≡ xs ++ (gs ++ ys) → Each Storable gs → polys-at v (place at xs) (length gs) ≡ gs
+  pub finds : (xs gs ys : List (List ℕ)) → fs ≡ xs ++ (gs ++ ys) → Each Storable gs → polys-at v (place at xs) (length gs) ≡ gs
   finds xs gs ys s h =
       polys-at-polys-records v (front xs) (place at xs) gs (polys-records ys ++ (free ++ fin)) (length-front xs) (split₂ xs gs ys s) h
 
@@ -217,16 +217,12 @@ module _ {v : List Rec} {most : ℕ} {b : Stored} {bs ss : List Stored} (H : Hel
         storable = ((h, H .storable .0 .1), H .storable .1);
       }
 
--- ── reading the open branch ──
-place-nil : (at : ℕ) → place at [] ≡ at + 1
-unfolding polys-records
-place-nil at = omega arith
-
+-- ── its polynomials, parted ──
 -- All polynomials, parted in P or in Q.
 pub parted-P : (b : Stored) (k : ℕ) → all b ≡ take k (b .P) ++ (drop k (b .P) ++ (b .Q ++ b .T))
 parted-P b k = ap (λ (l : List (List ℕ)). l ++ (b .Q ++ b .T)) (sym (take-append-drop k (b .P))) ∙ append-assoc (take k (b .P)) (drop k (b .P)) (b .Q ++ b .T)
 
-parted-Q-behind : (b : Stored) (k : ℕ) → all b ≡ b .P ++ (take k (b .Q) ++ (drop k (b .Q) ++ b .T))
+pub parted-Q-behind : (b : Stored) (k : ℕ) → all b ≡ b .P ++ (take k (b .Q) ++ (drop k (b .Q) ++ b .T))
 parted-Q-behind b k =
     ap (λ (l : List (List ℕ)). b .P ++ l)
     (ap (λ (l : List (List ℕ)). l ++ b .T) (sym (take-append-drop k (b .Q))) ∙ append-assoc (take k (b .Q)) (drop k (b .Q)) (b .T))
@@ -271,23 +267,6 @@ module _ {v : List Rec} {most : ℕ} {b : Stored} {bs ss : List Stored} (H : Hel
   pub place-inside : (xs ys : List (List ℕ)) → all b ≡ xs ++ ys → {n : ℕ} → n ≡ place (at-of bs) xs → n ≤ most
   place-inside xs ys s e = let h = within xs ys s in omega arith
 
-  pub in-Q : (q k : ℕ) → q ≡ place (at-of bs) (b .P) → k ≤ length (b .Q) → polys-at v q k ≡ take k (b .Q)
-  in-Q q k e h =
-      ap₂ (polys-at v) e (sym (length-take-le k (b .Q) h))
-      ∙ finds (lies H) (b .P) (take k (b .Q)) (drop k (b .Q) ++ b .T) (parted-Q-behind b k) (each-take Storable k (b .Q) (H .storable .0 .0 .1))
-
-  pub skip-Q : (q k : ℕ) → q ≡ place (at-of bs) (b .P) → k ≤ length (b .Q) → skip-to v q k ≡ place (at-of bs) (b .P ++ take k (b .Q))
-  skip-Q q k e h =
-      ap₂ (skip-to v) e (sym (length-take-le k (b .Q) h)) ∙ skips (lies H) (b .P) (take k (b .Q)) (drop k (b .Q) ++ b .T) (parted-Q-behind b k)
-      ∙ sym (place-add (at-of bs) (b .P) (take k (b .Q)))
-
-  pub all-Q : {from q : ℕ} → from ≡ place (at-of bs) (b .P) → q ≡ length (b .Q) → polys-at v from q ≡ b .Q
-  all-Q {from} {q} e n = in-Q from q e (omega arith) ∙ take-all q (b .Q) (omega arith)
-
-  pub end-Q : {from q : ℕ} → from ≡ place (at-of bs) (b .P) → q ≡ length (b .Q) → skip-to v from q ≡ place (at-of bs) (b .P ++ b .Q)
-  end-Q {from} {q} e n =
-      skip-Q from q e (omega arith) ∙ ap (λ (l : List (List ℕ)). place (at-of bs) (b .P ++ l)) (take-all q (b .Q) (omega arith))
-
   -- Where the branch starts, as the control record says.
   module _ (a : ℕ) (e : a ≡ getD v 0 zero-record .w0) where
     pub at-is : a ≡ at-of bs
@@ -298,40 +277,3 @@ module _ {v : List Rec} {most : ℕ} {b : Stored} {bs ss : List Stored} (H : Hel
 
     pub at-inside : a < most
     at-inside = omega (arith, at-is, room-is H)
-
-    from-P : a + 1 ≡ place (at-of bs) []
-    from-P = omega (arith, at-is, place-nil (at-of bs))
-
-    in-P : (k : ℕ) → k ≤ length (b .P) → polys-at v (a + 1) k ≡ take k (b .P)
-    in-P k h =
-        ap₂ (polys-at v) from-P (sym (length-take-le k (b .P) h))
-        ∙ finds (lies H) [] (take k (b .P)) (drop k (b .P) ++ (b .Q ++ b .T)) (parted-P b k) (each-take Storable k (b .P) (H .storable .0 .0 .0))
-
-    pub skip-P : (k : ℕ) → k ≤ length (b .P) → skip-to v (a + 1) k ≡ place (at-of bs) (take k (b .P))
-    skip-P k h =
-        ap₂ (skip-to v) from-P (sym (length-take-le k (b .P) h)) ∙ skips (lies H) [] (take k (b .P)) (drop k (b .P) ++ (b .Q ++ b .T)) (parted-P b k)
-        ∙ omega (arith, place-nil (at-of bs))
-
-    pub end-P : (p : ℕ) → p ≡ getD v a zero-record .w0 → skip-to v (a + 1) p ≡ place (at-of bs) (b .P)
-    end-P p h =
-        let n : p ≡ length (b .P) = h ∙ ap (λ (r : Rec). r .w0) own-read in
-        skip-P p (omega arith) ∙ ap (place (at-of bs)) (take-all p (b .P) (omega arith))
-
-    pub p-is : (p : ℕ) → p ≡ getD v a zero-record .w0 → p ≡ length (b .P)
-    p-is p h = h ∙ ap (λ (r : Rec). r .w0) own-read
-
-    pub all-P : (p : ℕ) → p ≡ getD v a zero-record .w0 → polys-at v (a + 1) p ≡ b .P
-    all-P p h = let n : p ≡ length (b .P) = p-is p h in in-P p (omega arith) ∙ take-all p (b .P) (omega arith)
-
-    pub q-is : (q : ℕ) → q ≡ getD v a zero-record .w1 → q ≡ length (b .Q)
-    q-is q h = h ∙ ap (λ (r : Rec). r .w1) own-read
-
-    -- The member of P at place i, behind those before it.
-    module _ (i : ℕ) (h : i < length (b .P)) where
-      pub skip-inside-P : skip-to v (a + 1) i ≤ most
-      skip-inside-P = omega (arith, skip-P i (omega arith), within (take i (b .P)) (drop i (b .P) ++ (b .Q ++ b .T)) (parted-P b i))
-
-      pub found-P : (r : ℕ) → r ≡ skip-to v (a + 1) i → Found v most r (getD (b .P) i [])
-      found-P r e =
-          found (take i (b .P)) (getD (b .P) i []) (drop (suc i) (b .P) ++ (b .Q ++ b .T)) (parted-at-P b i h)
-          (each-member Storable i (b .P) [] h (H .storable .0 .0 .0)) r (e ∙ skip-P i (omega arith))

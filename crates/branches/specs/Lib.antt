@@ -1,3 +1,4 @@
 pub mod Area
+pub mod Open
 pub mod Words
 pub mod laws

@@ -13,12 +13,9 @@ pub fn remove_p(w: &mut [u32], i: usize)
     ensures { λ _. ⌜ Open-becomes (without-P i) (now (w .entry)) (now (w .exit)) ⌝ }
     ensures { λ _. ⌜ outside (now (w .exit)) ≡ outside (now (w .entry)) ⌝ }
 {
-    let at = records::get0(w, 0) as usize;
-    let p = records::get0(w, at);
-    let q = records::get1(w, at);
-    let t = records::get2(w, at);
-    let from = stored::skip(w, at + 1, i);
-    places::take_at(w, from, p - 1, q, t);
+    let b = branches::open_branch(w);
+    let from = stored::skip(w, b.first, i);
+    places::take_at(w, from, b.p - 1, b.q, b.t);
 }
 
 // Takes the member of Q at place i out.
@@ -28,12 +25,9 @@ pub fn remove_q(w: &mut [u32], i: usize)
     ensures { λ _. ⌜ Open-becomes (without-Q i) (now (w .entry)) (now (w .exit)) ⌝ }
     ensures { λ _. ⌜ outside (now (w .exit)) ≡ outside (now (w .entry)) ⌝ }
 {
-    let at = records::get0(w, 0) as usize;
-    let p = records::get0(w, at);
-    let q = records::get1(w, at);
-    let t = records::get2(w, at);
-    let from = stored::skip(w, stored::skip(w, at + 1, p as usize), i);
-    places::take_at(w, from, p, q - 1, t);
+    let b = branches::open_branch(w);
+    let from = stored::skip(w, stored::skip(w, b.first, b.p as usize), i);
+    places::take_at(w, from, b.p, b.q - 1, b.t);
 }
 
 // Moves the member of P at place i, which is f, to the front of T.
@@ -45,10 +39,7 @@ pub fn close(w: &mut [u32], i: usize, f: &[u64])
     ensures { λ _. ⌜ outside (now (w .exit)) ≡ outside (now (w .entry)) ⌝ }
 {
     remove_p(w, i);
-    let at = records::get0(w, 0) as usize;
-    let p = records::get0(w, at);
-    let q = records::get1(w, at);
-    let t = records::get2(w, at);
-    let to = stored::skip(w, stored::skip(w, at + 1, p as usize), q as usize);
-    places::put_at(w, to, f, p, q, t + 1);
+    let b = branches::open_branch(w);
+    let to = stored::skip(w, stored::skip(w, b.first, b.p as usize), b.q as usize);
+    places::put_at(w, to, f, b.p, b.q, b.t + 1);
 }

@@ -16,8 +16,8 @@ pub fn count_q(w: &[u32]) -> usize
     requires { ⌜ Opened (now w) ⌝ }
     ensures { λ r. ⌜ When-open (now (w .entry)) (λ b bs ss. r ≡ length (b .Q)) ⌝ }
 {
-    let at = records::get0(w, 0) as usize;
-    records::get1(w, at) as usize
+    let b = branches::open_branch(w);
+    b.q as usize
 }
 
 // Takes the next member to be divided out of the area and loads it into r: the member of P at `place`, or the first of the last `left` of Q. How many words.

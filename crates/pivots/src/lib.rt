@@ -77,7 +77,7 @@ pub fn is_settled(w: &[u32], f: &[u64]) -> bool
     ensures { λ r. ⌜ When-open (now (w .entry)) (λ b bs ss.
         r ≡ (is-one (now (f .entry)) || member (now (f .entry)) (b .Q))) ⌝ }
 {
-    if f.len() == 2 && f[0] == 1 && f[1] == 0 {
+    if branches::is_one(f) {
         return true;
     }
     branches::q_contains(w, f)

@@ -14,9 +14,12 @@ use Rattle.residues.specs.laws.Each.{each-append}
 use Rattle.records.specs.Records.{Rec, record-of, zero-record}
 use Rattle.stored.specs.Stored.{poly-records, size-at, inserted, removed, Storable}
 use Rattle.stored.specs.laws.Stored.{length-le-polys-records}
+use Rattle.branches.specs.declared.Open.{Open}
+use Rattle.branches.specs.Open.{open-of}
 use Rattle.branches.specs.Area.{Stored, Held, Area, Leaves, size, with-open, stack, systems-records, Storable-branch}
 use Rattle.branches.proofs.AreaLaws.{Lies, lies, place, place-add, place-one, own-is, first-is, size-of, own-set, first-set, put-in, take-out}
-use Rattle.branches.proofs.AreaLaws.{freed, length-freed, all, at-of, end-of, end-is, own-of, own-read, control, room-is, held-again}
+use Rattle.branches.proofs.AreaLaws.{freed, length-freed, all, at-of, end-of, end-is, own-of, control, room-is, held-again}
+use Rattle.branches.proofs.OpenLaws.{p-is, q-is, t-is}
 use Rattle.branches.proofs.OutsideLaws.{drop-lies}
 use Rattle.branches.proofs.ControlLaws.{w0-is, w1-is, w2-is, Read, ends as control-ends, end-le-top, fits-free, over-free}
 use Rattle.places.specs.Places.{More, Counts, behind, resized}
@@ -87,9 +90,8 @@ module _ {v : List Rec} {most : ℕ} {b : Stored} {bs ss : List Stored} (H : Hel
       (omega (arith, n .in-P), omega (arith, n .in-Q), omega (arith, n .in-T))
 
   -- The counts, as the branch's own record says.
-  pub counts-are : {at p q t : ℕ} → at ≡ getD v 0 zero-record .w0 → p ≡ getD v at zero-record .w0 → q ≡ getD v at zero-record .w1
-      → t ≡ getD v at zero-record .w2 → Counts p q t b
-  counts-are {at} e p q t = let o = own-read H at e in record { in-P = w0-is o p; in-Q = w1-is o q; in-T = w2-is o t }
+  pub counts-are : {o : Open} → o ≡ open-of b bs → Counts (o .p) (o .q) (o .t) b
+  counts-are e = record { in-P = p-is H e; in-Q = q-is H e; in-T = t-is H e }
 
   -- The polynomials are fs by now, and neither record is written anew.
   abbrev Changed : List Rec → List (List ℕ) → List Rec → Type 0

@@ -1,17 +1,18 @@
 -- When a put into P or Q keeps the branch, and when it adds the polynomial.
 use mathlib.Core.Path.{_≡_, refl, sym, ap, ap₂, _∙_, subst}
-use mathlib.Core.Bool.{Bool, true, false, _&&_, _||_, false≢true}
+use mathlib.Core.Bool.{Bool, true, false, _||_}
 use mathlib.Core.List.{List, [], _∷_, _++_, append-assoc}
-use Prim.Native.Nat.{ℕ, _+_, _-_}
+use Prim.Native.Nat.{ℕ, _+_, _-_, _≤_}
 use native.Mathlib.Omega.{arith}
-use lib.Dec.{eqb}
-use lib.ListN.{length, take, drop, getD, length-append, take-append-drop}
+use lib.ListN.{length, take, drop, length-append, take-append-drop}
 use Rattle.records.specs.Records.{Rec}
-use Rattle.stored.specs.Stored.{member, same, skip-to, polys-at}
-use Rattle.stored.specs.laws.Stored.{equal-of-same}
+use Rattle.stored.specs.Stored.{member, skip-to, polys-at}
 use Rattle.branches.specs.Words.{put-P, put-Q, put-Q-before, is-zero, is-one, unless}
 use Rattle.branches.specs.Area.{Stored, Held, Leaves, with-open, put-into-P, put-into-Q}
-use Rattle.branches.proofs.AreaLaws.{place, at-of, parted-Q, in-Q, skip-Q}
+use Rattle.branches.specs.declared.Open.{Open}
+use Rattle.branches.specs.Open.{open-of}
+use Rattle.branches.proofs.AreaLaws.{place, at-of, parted-Q}
+use Rattle.branches.proofs.OpenLaws.{q-is, in-Q, skip-Q, skip-Q-inside}
 use Rattle.places.specs.Places.{More, Counts}
 use Rattle.places.proofs.PlaceLaws.{leaves-held}
 
@@ -47,30 +48,6 @@ module _ (f : List ℕ) (b : Stored) where
     counts-P n = record { in-P = omega (arith, n .in-P, ap length e, length-append (b .P) (f ∷ [])); in-Q = n .in-Q; in-T = n .in-T }
 
 -- ── Q ──
-pub is-one-of-tests : (f : List ℕ) → length f ≡ 2 → eqb (getD f 0 0) 1 ≡ true → eqb (getD f 1 0) 0 ≡ true → is-one f ≡ true
-unfolding is-one same
-is-one-of-tests [] l x y = absurd (omega arith)
-is-one-of-tests (c ∷ []) l x y = absurd (omega arith)
-is-one-of-tests (c ∷ (m ∷ [])) l x y = ap₂ _&&_ x (ap (λ (t : Bool). t && true) y)
-is-one-of-tests (c ∷ (m ∷ (d ∷ f))) l x y = absurd (omega arith)
-
-is-false : (t : Bool) → (t ≡ true → ⊥) → t ≡ false
-is-false true h = absurd (h refl)
-is-false false h = refl
-
-ones : (f : List ℕ) → is-one f ≡ true → f ≡ 1 ∷ 0 ∷ []
-unfolding is-one
-ones f e = equal-of-same f (1 ∷ 0 ∷ []) e
-
-pub not-one-by-length : (f : List ℕ) → (length f ≡ 2 → ⊥) → is-one f ≡ false
-not-one-by-length f h = is-false (is-one f) (λ e. h (ap length (ones f e)))
-
-pub not-one-by-coefficient : (f : List ℕ) → eqb (getD f 0 0) 1 ≡ false → is-one f ≡ false
-not-one-by-coefficient f h = is-false (is-one f) (λ e. false≢true (sym h ∙ ap (λ (l : List ℕ). eqb (getD l 0 0) 1) (ones f e)))
-
-pub not-one-by-monomial : (f : List ℕ) → eqb (getD f 1 0) 0 ≡ false → is-one f ≡ false
-not-one-by-monomial f h = is-false (is-one f) (λ e. false≢true (sym h ∙ ap (λ (l : List ℕ). eqb (getD l 1 0) 0) (ones f e)))
-
 pub put-Q-one : (f : List ℕ) (fs : List (List ℕ)) → is-one f ≡ true → put-Q f fs ≡ fs
 unfolding put-Q
 put-Q-one f fs h = ap (λ (t : Bool). unless (t || member f fs) f fs) h
@@ -92,13 +69,16 @@ abbrev pub seen : ℕ → Stored → ℕ
 seen left b = length (b .Q) - left
 
 -- They lie behind P.
-module _ {v : List Rec} {most : ℕ} {b : Stored} {bs ss : List Stored} (H : Held v most (with-open b bs ss)) (left : ℕ) {from q : ℕ}
-    (e : from ≡ place (at-of bs) (b .P)) (n : q ≡ length (b .Q)) where
-  pub seen-Q : polys-at v from (q - left) ≡ take (seen left b) (b .Q)
-  seen-Q = ap (λ (k : ℕ). polys-at v from (k - left)) n ∙ in-Q H from (seen left b) e (omega arith)
+module _ {v : List Rec} {most : ℕ} {b : Stored} {bs ss : List Stored} (H : Held v most (with-open b bs ss)) {o : Open} (e : o ≡ open-of b bs)
+    {from : ℕ} (s : from ≡ skip-to v (o .first) (o .p)) (left : ℕ) where
+  pub seen-Q : polys-at v from (o .q - left) ≡ take (seen left b) (b .Q)
+  seen-Q = ap (λ (k : ℕ). polys-at v from (k - left)) (q-is H e) ∙ in-Q H e s (seen left b) (omega arith)
 
-  pub behind-seen : skip-to v from (q - left) ≡ place (at-of bs) (b .P ++ take (seen left b) (b .Q))
-  behind-seen = ap (λ (k : ℕ). skip-to v from (k - left)) n ∙ skip-Q H from (seen left b) e (omega arith)
+  pub behind-seen : skip-to v from (o .q - left) ≡ place (at-of bs) (b .P ++ take (seen left b) (b .Q))
+  behind-seen = ap (λ (k : ℕ). skip-to v from (k - left)) (q-is H e) ∙ skip-Q H e s (seen left b) (omega arith)
+
+  pub seen-inside : skip-to v from (o .q - left) ≤ most
+  seen-inside = skip-Q-inside H e s (o .q - left) (omega (arith, q-is H e))
 
 module _ (left : ℕ) (f : List ℕ) (b : Stored) where
   pub kept-Q : put-Q f (take (seen left b) (b .Q)) ≡ take (seen left b) (b .Q) → b ≡ put-into-Q left f b

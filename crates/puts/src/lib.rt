@@ -14,18 +14,15 @@ pub fn put_p(w: &mut [u32], f: &[u64]) -> bool
         Leaves (capacity (now (w .entry))) (with-open b bs ss) (with-open (put-into-P (now (f .entry)) b) bs ss) r (view (now (w .exit)))) ⌝ }
     ensures { λ _. ⌜ outside (now (w .exit)) ≡ outside (now (w .entry)) ⌝ }
 {
-    let at = records::get0(w, 0) as usize;
-    let p = records::get0(w, at);
-    let q = records::get1(w, at);
-    let t = records::get2(w, at);
     if f.len() == 0 {
         return true;
     }
-    if finding::contains(w, at + 1, p as usize, f) {
+    let b = branches::open_branch(w);
+    if finding::contains(w, b.first, b.p as usize, f) {
         return true;
     }
-    let to = stored::skip(w, at + 1, p as usize);
-    places::put_at(w, to, f, p + 1, q, t)
+    let to = stored::skip(w, b.first, b.p as usize);
+    places::put_at(w, to, f, b.p + 1, b.q, b.t)
 }
 
 // Puts f into Q, before its last `left` members; whether there is room.
@@ -37,18 +34,15 @@ pub fn put_q(w: &mut [u32], left: usize, f: &[u64]) -> bool
         Leaves (capacity (now (w .entry))) (with-open b bs ss) (with-open (put-into-Q left (now (f .entry)) b) bs ss) r (view (now (w .exit)))) ⌝ }
     ensures { λ _. ⌜ outside (now (w .exit)) ≡ outside (now (w .entry)) ⌝ }
 {
-    let at = records::get0(w, 0) as usize;
-    let p = records::get0(w, at);
-    let q = records::get1(w, at);
-    let t = records::get2(w, at);
-    if f.len() == 2 && f[0] == 1 && f[1] == 0 {
+    if branches::is_one(f) {
         return true;
     }
-    let from = stored::skip(w, at + 1, p as usize);
-    let new = q as usize - left;
+    let b = branches::open_branch(w);
+    let from = stored::skip(w, b.first, b.p as usize);
+    let new = b.q as usize - left;
     if finding::contains(w, from, new, f) {
         return true;
     }
     let to = stored::skip(w, from, new);
-    places::put_at(w, to, f, p, q + 1, t)
+    places::put_at(w, to, f, b.p, b.q + 1, b.t)
 }

@@ -15,7 +15,6 @@ use Rattle.branches.specs.Words.{put-P, remove, unless, is-zero, is-one}
 use Rattle.branches.specs.laws.Words.{put-Q-before-none}
 use Rattle.branches.specs.Area.{Stored, Area, Held, Leaves, stack, branch-records, with-open, size}
 use Rattle.branches.specs.Area.{kept-open, aside, put-into-P, put-into-Q, without-P, split-area, fitting, unfinished-split}
-use Rattle.branches.proofs.AreaLaws.{p-is}
 use Rattle.branches.specs.laws.Words.{remove-in-parts, length-remove}
 use Rattle.puts.proofs.PutLaws.{put-Q-new}
 
@@ -88,12 +87,6 @@ size-put f b bs ss =
 size-more : (b b' : Stored) (bs ss : List Stored) → size (with-open b bs ss) ≤ size (with-open b' (b ∷ bs) ss)
 unfolding size
 size-more b b' bs ss = omega (arith, length-append (stack (b ∷ bs) .0) (branch-records (stack (b ∷ bs) .1) b'))
-
--- Two states that the same records hold have as many members in P.
-pub same-members : {v : List Rec} {most most' : ℕ} {b b' : Stored} {bs bs' ss ss' : List Stored}
-    → Held v most (with-open b bs ss) → Held v most' (with-open b' bs' ss')
-    → length (b .P) ≡ length (b' .P)
-same-members H H' = sym (p-is H _ refl _ refl) ∙ p-is H' _ refl _ refl
 
 -- ── answers ──
 fits-if-true : {most : ℕ} {a₀ a : Area} {r : Bool} {v : List Rec} → Leaves most a₀ a r v → r ≡ true → size a ≤ most

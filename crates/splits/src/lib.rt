@@ -23,8 +23,7 @@ pub fn split(w: &mut [u32], i: usize, f: &[u64], initial: &[u64], rest: &[u64]) 
         (split-area i (now (initial .entry)) (now (rest .entry)) b bs ss) r (view (now (w .exit)))) ⌝ }
     ensures { λ _. ⌜ outside (now (w .exit)) ≡ outside (now (w .entry)) ⌝ }
 {
-    let at = records::get0(w, 0) as usize;
-    let p = records::get0(w, at) as usize;
+    let b = branches::open_branch(w);
     changes::remove_p(w, i);
     if !puts::put_p(w, initial) {
         return false;
@@ -32,5 +31,5 @@ pub fn split(w: &mut [u32], i: usize, f: &[u64], initial: &[u64], rest: &[u64]) 
     if !puts::put_p(w, rest) {
         return false;
     }
-    keeping::keep_open(w, i, p - 1, f, initial)
+    keeping::keep_open(w, i, b.p as usize - 1, f, initial)
 }

@@ -1,3 +1,2 @@
--- `Open` has where the open branch lies; `Choices` what the tests choose.
+-- What the tests choose.
 pub mod Choices
-pub mod Open

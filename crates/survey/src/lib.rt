@@ -22,21 +22,20 @@ pub fn choose(w: &[u32]) -> Choice
     requires { ⌜ When-open (now w) (λ b bs ss. (p : ℕ) × All-hold p (b .P) × All-hold p (b .Q)) ⌝ }
     ensures { λ r. ⌜ When-open (now (w .entry)) (λ b bs ss. r ≡ choice (branch-of b)) ⌝ }
 {
-    let at = records::get0(w, 0) as usize;
-    let p = records::get0(w, at) as usize;
-    let q = records::get1(w, at) as usize;
-    if heads::has_one(w, at + 1, p) {
+    let b = branches::open_branch(w);
+    let p = b.p as usize;
+    if heads::has_one(w, b.first, p) {
         return Choice::Drop;
     }
-    if heads::has_zero(w, stored::skip(w, at + 1, p), q) {
+    if heads::has_zero(w, stored::skip(w, b.first, p), b.q as usize) {
         return Choice::Drop;
     }
     if p == 0 {
         return Choice::List;
     }
-    let h = heads::highest_leader(w, at + 1, p);
+    let h = heads::highest_leader(w, b.first, p);
     let k = if h == 0 { 0 } else { h - 1 };
-    Choice::Pivot(k, search::pivot_place(w, at + 1, p, k))
+    Choice::Pivot(k, search::pivot_place(w, b.first, p, k))
 }
 
 // The other polynomial of P that v(k+1) leads, the pivot standing at `place`.
@@ -45,7 +44,6 @@ pub fn find_other(w: &[u32], k: u32, place: usize) -> Other
     requires { ⌜ When-open (now w) (λ b bs ss. (p : ℕ) × All-hold p (b .P)) ⌝ }
     ensures { λ r. ⌜ When-open (now (w .entry)) (λ b bs ss. r ≡ other-place (other k place (branch-of b .P))) ⌝ }
 {
-    let at = records::get0(w, 0) as usize;
-    let p = records::get0(w, at) as usize;
-    search::other_from(w, at + 1, p, k, place)
+    let b = branches::open_branch(w);
+    search::other_from(w, b.first, b.p as usize, k, place)
 }

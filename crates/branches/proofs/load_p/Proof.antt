@@ -5,33 +5,27 @@ use native.Mathlib.Omega.{arith}
 use lib.ListN.{getD}
 use Rattle.records.specs.Records.{view}
 use Rattle.branches.specs.Area.{Stored, with-open, capacity, Held-in}
-use Rattle.branches.proofs.AreaLaws.{skip-inside-P, found-P, Found}
+use Rattle.branches.proofs.AreaLaws.{Found}
+use Rattle.branches.proofs.OpenLaws.{skip-P-inside, found-P}
 use borrow.Author.Needs.{needs}
 use Rattle.branches.proofs.load_p.Statement.{statement}
 use Rattle.branches.proofs.load_p.Tie as tie
 
 -- The member of P at place i is where the call of `skip` ends.
-there : (c : tie.After-skip) {b : Stored} {bs ss : List Stored} → Held-in (c .before .before .before .before .args .w .now) (with-open b bs ss)
-    → Found (view (c .before .before .before .before .args .w .now)) (capacity (c .before .before .before .before .args .w .now))
-    (c .skip .result) (getD (b .P) (c .before .before .before .before .args .i) [])
+there : (c : tie.After-skip) {b : Stored} {bs ss : List Stored} → let s = c .before .before .before .before in Held-in (s .args .w .now) (with-open b bs ss)
+    → Found (view (s .args .w .now)) (capacity (s .args .w .now)) (c .skip .result) (getD (b .P) (s .args .i) [])
 there c {b} {bs} {ss} H =
-    let s = c .before .before .before .before in
-    found-P H (c .before .get0 .result) (c .before .get0 .ensures) (s .args .i) (s .pre .1 .0 b bs ss H) (c .skip .result) (c .skip .ensures)
+    let s = c .before .before .before .before in found-P H (c .before .open-branch .ensures b bs ss H) (s .args .i) (s .pre .1 .0 b bs ss H) (c .skip .ensures)
 
-get0-requires : tie.Need-get0-requires
-get0-requires c κs = search needs
-
-cast-at : tie.Need-cast-at
-cast-at c = search needs
-
-add-skip : tie.Need-add-skip
-add-skip c = search needs
+open-branch-requires : tie.Need-open-branch-requires
+open-branch-requires c κs = search needs
 
 skip-requires : tie.Need-skip-requires
 skip-requires c κs =
     let s = c .before .before .before in
     let o = s .pre .0 in
-    omega (arith, skip-inside-P (o .3) (c .get0 .result) (c .get0 .ensures) (s .args .i) (s .pre .1 .0 (o .0) (o .1) (o .2) (o .3)))
+    let inside = s .pre .1 .0 (o .0) (o .1) (o .2) (o .3) in
+    omega (arith, skip-P-inside (o .3) (c .open-branch .ensures (o .0) (o .1) (o .2) (o .3)) (s .args .i) (omega (arith, inside)))
 
 load-requires : tie.Need-load-requires
 load-requires c κs =
@@ -52,4 +46,4 @@ returns c b bs ss H =
 pub load-p-spec : {M : Type 1} → statement M
 load-p-spec =
     tie.close
-    (tie.spec get0-requires cast-at add-skip skip-requires load-requires same-length returns)
+    (tie.spec open-branch-requires skip-requires load-requires same-length returns)

@@ -7,23 +7,21 @@ use borrow.Author.Tests.{not-true, not-false}
 use lib.ListN.{length}
 use Rattle.records.specs.Records.{view}
 use Rattle.branches.specs.Area.{Stored, Leaves, capacity, outside, with-open, put-into-P, without-P, aside, Held-in}
-use Rattle.branches.proofs.AreaLaws.{at-inside, p-is}
-use Rattle.branches.proofs.LengthLaws.{inside-room, held-by, left-by}
-use Rattle.splits.proofs.AsideLaws.{length-aside, kept-aside, no-initial, no-rest, stops-aside, same-members}
+use Rattle.branches.proofs.LengthLaws.{held-by, left-by}
+use Rattle.branches.proofs.OpenLaws.{p-is}
+use Rattle.branches.proofs.Unique.{of-every}
+use Rattle.splits.proofs.AsideLaws.{length-aside, kept-aside, no-initial, no-rest, stops-aside}
 use borrow.Author.Needs.{needs}
 use Rattle.splits.proofs.split.Statement.{statement}
 use Rattle.splits.proofs.split.Tie as tie
 
 -- ── the places, and the ways back from one to another ──
--- The count of P is read.
+-- The open branch is read.
 abbrev Reading : Type 0
-Reading = tie.After-get02
-
-abbrev at-read : Reading → tie.After-get0
-at-read r = r .before .before
+Reading = tie.After-open-branch
 
 abbrev start : Reading → tie.Start
-start r = at-read r .before .before .before .before .before .before
+start r = r .before .before .before .before .before .before
 
 -- The member is out of P; the initial is put in, if there was room; the rest is, if there was room; the branch that stays open is built.
 abbrev from-remove : tie.After-remove-p → Reading
@@ -42,7 +40,7 @@ abbrev from-rest : tie.After-put-p2 → Reading
 from-rest c = from-initial (initial-of c)
 
 abbrev rest-of : tie.After-keep-open → tie.After-put-p2
-rest-of c = c .before .before .before .before .before
+rest-of c = c .before .before .before .before .before .before
 
 -- ── what is read ──
 abbrev w : Reading → List ℕ
@@ -88,8 +86,8 @@ outside-rest : (c : tie.After-put-p2) → outside (c .put-p2 .last .0) ≡ outsi
 outside-rest c = c .put-p2 .ensures .1 ∙ outside-initial (initial-of c)
 
 module _ {b : Stored} {bs ss : List Stored} where
-  count-is : (r : Reading) → Holds (w r) b bs ss → r .get02 .result ≡ length (b .P)
-  count-is r H = p-is H _ (at-read r .get0 .ensures) _ (r .get02 .ensures)
+  count-is : (r : Reading) → Holds (w r) b bs ss → r .open-branch .result .p ≡ length (b .P)
+  count-is r H = p-is H (r .open-branch .ensures b bs ss H)
 
   removed : (c : tie.After-remove-p) → Holds (w (from-remove c)) b bs ss → Holds (c .remove-p .last .0) (without (from-remove c) b) bs ss
   removed c H = held-by _ _ (w (from-remove c)) (c .remove-p .last .0) (sym (c .remove-p .kept .0)) (c .remove-p .ensures .0 b bs ss H)
@@ -128,20 +126,8 @@ opened : (r : Reading) → Holds (w r) (b₀ r) (start r .pre .0 .1) (start r .p
 opened r = start r .pre .0 .3
 
 -- ── the needs ──
-get0-requires : tie.Need-get0-requires
-get0-requires c κs = search needs
-
-cast-at : tie.Need-cast-at
-cast-at c = search needs
-
-get0-requires-2 : tie.Need-get0-requires-2
-get0-requires-2 c κs =
-    let a = c .before in
-    let s = a .before .before .before .before .before .before in
-    inside-room (s .args .w .now) (at-inside (s .pre .0 .3) _ (a .get0 .ensures))
-
-cast-p : tie.Need-cast-p
-cast-p c = search needs
+open-branch-requires : tie.Need-open-branch-requires
+open-branch-requires c κs = search needs
 
 remove-p-requires : tie.Need-remove-p-requires
 remove-p-requires c κs = let s = start (c .before) in (s .pre .0, λ b bs ss H. s .pre .1 .0 b bs ss H .0)
@@ -178,20 +164,23 @@ returns-2 c =
       outside-rest m,
     )
 
+cast-keep-open : tie.Need-cast-keep-open
+cast-keep-open c = search needs
+
 sub-keep-open : tie.Need-sub-keep-open
 sub-keep-open c =
-    let r = from-rest (c .before .before .before .before) in
+    let r = from-rest (c .before .before .before .before .before) in
     omega (arith, count-is r (opened r), start r .pre .1 .0 _ _ _ (opened r) .0)
 
 keep-open-requires : tie.Need-keep-open-requires
 keep-open-requires c κs =
-    let r = from-rest (c .before .before .before .before) in
-    let H = rest-put (c .before) (opened r) in
+    let r = from-rest (c .before .before .before .before .before) in
+    let H = rest-put (c .before .before) (opened r) in
     let h = start r .pre .1 .0 _ _ _ (opened r) .0 in
     let p = count-is r (opened r) in (
       (_, _, _, H),
       (
-        λ b' bs ss H'. (omega (arith, h, p), omega (arith, p, same-members H H', length-aside (i r) (initial r) (rest r) (b₀ r) h)),
+        λ b' bs ss H'. (omega (arith, h, p), omega (arith, p, of-every (λ P Q. length (with-rest r (b₀ r) .P) ≡ length P) H refl b' bs ss H', length-aside (i r) (initial r) (rest r) (b₀ r) h)),
         (start r .pre .1 .1 .0, start r .pre .1 .1 .1 .0),
       ),
     )
@@ -205,11 +194,11 @@ returns-3 c =
     let m = rest-of k in
     let r = from-rest m in (
       λ b bs ss H. let h = start r .pre .1 .0 b bs ss H in
-          let n : r .get02 .result - 1 + 1 ≡ length (b .P) = omega (arith, count-is r H, h .0) in
+          let n : r .open-branch .result .p - 1 + 1 ≡ length (b .P) = omega (arith, count-is r H, h .0) in
           left-by _ _ (m .put-p2 .last .0) (w r) (same-rest m)
-          (stops-aside (capacity (w r)) (i r) (initial r) (rest r) b bs ss (rest-leaves m H) (not-false _ (k .before .before .if2 .left)))
+          (stops-aside (capacity (w r)) (i r) (initial r) (rest r) b bs ss (rest-leaves m H) (not-false _ (k .before .before .before .if2 .left)))
           (ap (λ (x : Stored). with-open x (with-rest r b ∷ bs) ss) (kept-aside (i r) _ (f r) (initial r) (rest r) b (h .0) n (h .1) (h .2) (h .3)))
-          (k .keep-open .ensures .0 _ bs ss (rest-put (k .before .before) H)),
+          (k .keep-open .ensures .0 _ bs ss (rest-put (k .before .before .before) H)),
       k .keep-open .ensures .1 ∙ outside-rest m,
     )
 
@@ -217,10 +206,7 @@ pub split-spec : {M : Type 1} → statement M
 split-spec =
     tie.close
     (tie.spec
-    get0-requires
-    cast-at
-    get0-requires-2
-    cast-p
+    open-branch-requires
     remove-p-requires
     put-p-requires
     same-length
@@ -228,6 +214,7 @@ split-spec =
     put-p-requires-2
     same-length-2
     returns-2
+    cast-keep-open
     sub-keep-open
     keep-open-requires
     same-length-3

@@ -8,11 +8,15 @@ use Rattle.records.specs.Records.{room, view}
 use Rattle.records.proofs.Rows.{length-view}
 use Rattle.stored.specs.Stored.{skip-to}
 use Rattle.stored.specs.laws.Stored.{length-poly-records}
+use Rattle.branches.specs.declared.Open.{Open}
 use Rattle.branches.specs.Area.{Stored, capacity, with-open, Held-in}
+use Rattle.branches.specs.Open.{open-of}
 use Rattle.branches.proofs.LengthLaws.{inside-room}
 use Rattle.branches.proofs.OutsideLaws.{outside-set}
 use Rattle.branches.proofs.AreaLaws as area
-use Rattle.branches.proofs.ControlLaws.{w2-is, Read, start-is, ends, free-is}
+use Rattle.branches.proofs.ControlLaws.{Read, start-is, ends, free-is}
+use Rattle.branches.proofs.OpenLaws.{opened-is}
+use Rattle.branches.proofs.OpenLaws as branch
 use Rattle.keeping.proofs.KeptLaws.{end-front, end-back, end-P, end-Q, Placed, Ordered, ordered, to-back, to-Q, to-T, parts-inside}
 use Rattle.keeping.proofs.PieceLaws.{Reached, reach-stored, reach-copied, first-fits}
 use Rattle.keeping.proofs.keep_open.Tie as tie
@@ -112,8 +116,14 @@ end r = end-read r .get1 .result
 abbrev pub top : Words → ℕ
 top r = top-read r .get2 .result
 
+abbrev pub p : Words → ℕ
+p r = p-read r .get02 .result
+
 abbrev pub q : Words → ℕ
 q r = q-read r .get12 .result
+
+abbrev pub t : Words → ℕ
+t r = r .get22 .result
 
 abbrev pub front : Parts → ℕ
 front c = front-read c .skip .result
@@ -135,24 +145,28 @@ module _ {b : Stored} {bs ss : List Stored} where
   pub members : (r : Words) → Entry r b bs ss → (i r ≤ n r) × (n r ≤ length (b .P))
   members r H = start r .pre .1 .0 b bs ss H
 
-  pub p-is : (r : Words) → Entry r b bs ss → p-read r .get02 .result ≡ length (b .P)
-  p-is r H = area.p-is H _ (at-read r .get0 .ensures) _ (p-read r .get02 .ensures)
+  -- What both records say of the open branch.
+  open-is : (r : Words) → Entry r b bs ss → _≡_ {A = Open} (record { first = at r + 1; p = p r; q = q r; t = t r }) (open-of b bs)
+  open-is r H = opened-is H (at-read r .get0 .ensures) (p-read r .get02 .ensures) (q-read r .get12 .ensures) (r .get22 .ensures)
+
+  pub p-is : (r : Words) → Entry r b bs ss → p r ≡ length (b .P)
+  p-is r H = branch.p-is H (open-is r H)
 
   pub q-is : (r : Words) → Entry r b bs ss → q r ≡ length (b .Q)
-  q-is r H = area.q-is H _ (at-read r .get0 .ensures) _ (q-read r .get12 .ensures)
+  q-is r H = branch.q-is H (open-is r H)
 
-  pub t-is : (r : Words) → Entry r b bs ss → r .get22 .result ≡ length (b .T)
-  t-is r H = w2-is (area.own-read H _ (at-read r .get0 .ensures)) (r .get22 .ensures)
+  pub t-is : (r : Words) → Entry r b bs ss → t r ≡ length (b .T)
+  t-is r H = branch.t-is H (open-is r H)
 
   pub to-front-is : (r : Words) → Entry r b bs ss → skip-to (view (w r)) (at r + 1) (i r) ≡ end-front (i r) b bs
-  to-front-is r H = area.skip-P H _ (at-read r .get0 .ensures) (i r) (omega (arith, members r H))
+  to-front-is r H = branch.skip-P H (open-is r H) (i r) (omega (arith, members r H))
 
   pub to-back-is : (c : tie.After-skip)
       → let r = from-front c in Entry r b bs ss → skip-to (view (w r)) (c .skip .result) (n r - i r) ≡ end-back (i r) (n r) b bs
   to-back-is c H = let r = from-front c in to-back H (i r) (n r) (members r H) (c .skip .ensures ∙ to-front-is r H)
 
   pub to-P-is : (c : tie.After-skip2)
-      → let r = from-back c in Entry r b bs ss → skip-to (view (w r)) (c .skip2 .result) (p-read r .get02 .result - n r) ≡ end-P (i r) (n r) b bs
+      → let r = from-back c in Entry r b bs ss → skip-to (view (w r)) (c .skip2 .result) (p r - n r) ≡ end-P (i r) (n r) b bs
   to-P-is c H = let r = from-back c in to-Q H (i r) (n r) (members r H) (p-is r H) (c .skip2 .ensures ∙ to-back-is (c .before .before) H)
 
   pub to-Q-is : (c : tie.After-skip3)
@@ -161,7 +175,7 @@ module _ {b : Stored} {bs ss : List Stored} where
 
   pub placed : (c : Parts) (H : Entry (words c) b bs ss)
       → let r = words c in
-      Placed b bs (i r) (n r) (length (H .free)) (at r) (end r) (top r) (q r) (r .get22 .result) (front c) (back c) (from-q c) (c .skip4 .result)
+      Placed b bs (i r) (n r) (length (H .free)) (at r) (end r) (top r) (q r) (t r) (front c) (back c) (from-q c) (c .skip4 .result)
   placed c H = let r = words c in record {
     at-is = start-is H (bounds r);
     end-is = ends H (bounds r) ∙ sym (area.end-is b bs);

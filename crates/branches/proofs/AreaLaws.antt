@@ -5,9 +5,8 @@ use mathlib.Core.List.{List, [], _∷_, _++_, append-assoc}
 use Prim.Native.Nat.{ℕ, suc, _+_, _*_, _-_, _/_, _%_, _≤_, _<_}
 use native.Mathlib.Omega.{arith}
 use lib.ListN.{length, take, drop, getD, set, length-append, length-drop, take-append-drop}
-use lib.Seq.{getD-at, set-at, drop-append-le, length-take-le, take-all, split-at}
+use lib.Seq.{getD-at, set-at, drop-append-le, split-at}
 use Rattle.residues.specs.Each.{Each}
-use Rattle.residues.specs.laws.Each.{each-take, each-member}
 use Rattle.records.specs.Records.{Rec, record-of, zero-record}
 use Rattle.stored.specs.Stored.{poly-records, polys-records, size-at, words-at, skip-to, polys-at, inserted, removed, Storable}
 use Rattle.stored.specs.laws.Stored.{length-poly-records, polys-records-append, size-at-poly-records, words-at-poly-records, skip-to-polys-records}

@@ -1,11 +1,13 @@
--- The words of a record, and of the control record: where the open branch starts and ends, and the free records behind it.
+-- The words of a record, and of the control record: where the open branch starts and ends, the free records behind it, and the listed systems.
 use mathlib.Core.Path.{_≡_, ap, _∙_}
 use mathlib.Core.List.{List}
 use Prim.Native.Nat.{ℕ, _+_, _-_, _≤_, _<_}
 use native.Mathlib.Omega.{arith}
 use lib.ListN.{length, getD}
 use Rattle.records.specs.Records.{Rec, record-of, zero-record}
-use Rattle.branches.specs.Area.{Stored, Held, with-open}
+use Rattle.branches.specs.declared.Listed.{Listed}
+use Rattle.branches.specs.Area.{Stored, Area, Held, with-open, systems-records}
+use Rattle.branches.specs.Listed.{listed-of}
 use Rattle.branches.proofs.AreaLaws.{lies, first-is, at-of, end-of, room-is, at-is}
 
 pub record-equal : {a b c d a₁ b₁ c₁ d₁ : ℕ} → a ≡ a₁ → b ≡ b₁ → c ≡ c₁ → d ≡ d₁ → record-of a b c d ≡ record-of a₁ b₁ c₁ d₁
@@ -53,3 +55,18 @@ module _ {v : List Rec} {most : ℕ} {b : Stored} {bs ss : List Stored} (H : Hel
 
     pub over-free : {n : ℕ} → top - end < n → length (H .free) < n
     over-free h = omega (arith, free-is top e)
+
+-- ── the listed systems ──
+module _ {v : List Rec} {most : ℕ} {a : Area} (H : Held v most a) where
+  pub listed-is : {top count : ℕ} → top ≡ getD v 0 zero-record .w2 → count ≡ getD v 0 zero-record .w3 → _≡_ {A = Listed} (record { top = top; count = count }) (listed-of most a)
+  listed-is {top} t c =
+      let ctl = ap (λ (l : List Rec). getD l 0 zero-record) (H .is) in
+      let starts : top ≡ most - length (systems-records (a .systems)) = omega (arith, w2-is ctl t, H .fits) in
+      λ k. record { top = starts k; count = w3-is ctl c k }
+
+  -- They start behind the control record, and inside.
+  pub top-some : 0 < listed-of most a .top
+  top-some = omega (arith, H .fits)
+
+  pub top-inside : listed-of most a .top ≤ most
+  top-inside = omega (arith, H .fits)

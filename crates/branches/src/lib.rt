@@ -1,21 +1,15 @@
 // The state of a run in the work area: the open branch, the waiting ones, and the listed systems; `specs/Area.antt` has the layout. How
-// many records it has, and what is read of the open branch: its own record (`specs/Open.antt`), whether Q holds a polynomial, and the words of one.
+// many records it has; the listed systems (`specs/Listed.antt`); and what is read of the open branch: its own record (`specs/Open.antt`), whether Q holds a polynomial, and
+// the words of one.
 ghost use mathlib.Core.Path.{_≡_};
 ghost use mathlib.Core.List.{[]};
 ghost use Prim.Native.Nat.{_≤_, _<_};
 ghost use lib.ListN.{length, getD, take, drop};
 ghost use Rattle.stored.specs.Stored.{member, Storable};
-ghost use Rattle.branches.specs.Area.{Opened, When-open, capacity};
+ghost use Rattle.branches.specs.Area.{Area, Held-in, Opened, When-open, capacity};
+ghost use Rattle.branches.specs.Listed.{listed-of};
 ghost use Rattle.branches.specs.Open.{open-of};
 ghost use Rattle.branches.specs.Words.{is-one};
-
-// The open branch: the record at which its polynomials start, and how many members P, Q and T have.
-pub struct Open {
-    pub first: usize,
-    pub p: u32,
-    pub q: u32,
-    pub t: u32,
-}
 
 // How many records of a work area are used.
 pub fn count_records(w: &[u32]) -> usize
@@ -26,6 +20,30 @@ pub fn count_records(w: &[u32]) -> usize
         return all;
     }
     65536
+}
+
+// The listed systems: the record at which they start, and how many there are.
+pub struct Listed {
+    pub top: usize,
+    pub count: u32,
+}
+
+// The listed systems, by the control record.
+pub fn listed_systems(w: &[u32]) -> Listed
+    requires { ⌜ ((a : Area) × Held-in (now w) a) ⌝ }
+    ensures { λ r. ⌜ ((a : Area) → Held-in (now (w .entry)) a → r ≡ listed-of (capacity (now (w .entry))) a) ⌝ }
+{
+    let top = records::get2(w, 0) as usize;
+    let count = records::get3(w, 0);
+    Listed { top, count }
+}
+
+// The open branch: the record at which its polynomials start, and how many members P, Q and T have.
+pub struct Open {
+    pub first: usize,
+    pub p: u32,
+    pub q: u32,
+    pub t: u32,
 }
 
 // The open branch, by its own record.

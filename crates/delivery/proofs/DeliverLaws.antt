@@ -1,7 +1,7 @@
 -- The systems that the work area holds: how many records their list needs, and that the records tell whether each was listed.
 use mathlib.Core.Path.{_≡_, refl, sym, ap, _∙_}
 use mathlib.Core.List.{List, [], _∷_, _++_, map, reverse, append-assoc}
-use Prim.Native.Nat.{ℕ, _+_, _-_, _≤_, _<_}
+use Prim.Native.Nat.{ℕ, _+_, _-_}
 use native.Mathlib.Omega.{arith}
 use lib.ListN.{length, getD, drop, length-append}
 use lib.Seq.{drop-at}
@@ -73,21 +73,14 @@ module _ {v : List Rec} {most : ℕ} {ss : List Stored} (h : Held v most (record
   control : getD v 0 zero-record ≡ record-of 0 1 (1 + 0 + length (h .free)) (length ss)
   control = ap (λ (l : List Rec). getD l 0 zero-record) (h .is)
 
-  pub some-records : 0 < length v
-  some-records = omega (arith, ap length (h .is))
-
-  pub top-within : getD v 0 zero-record .w2 ≤ most
-  top-within = omega (arith, ap (λ (r : Rec). r .w2) control, h .fits)
-
   systems-from : (n : ℕ) → n ≡ 1 + length (h .free) → drop n v ≡ systems-records ss ++ h .beyond
   systems-from n e =
       ap (drop n) (h .is)
       ∙ drop-at (record-of 0 1 (1 + 0 + length (h .free)) (length ss) ∷ h .free) (systems-records ss ++ h .beyond) n (omega arith)
 
-  pub records-needed : All-listed ss → 1 + (most - getD v 0 zero-record .w2) ≡ list-records (reverse (map system-of ss))
+  pub records-needed : All-listed ss → 1 + (most - (most - length (systems-records ss))) ≡ list-records (reverse (map system-of ss))
   unfolding list-records
-  records-needed l =
-      omega (arith, ap (λ (r : Rec). r .w2) control, h .fits, length-systems-records ss l, systems-size-reverse (map system-of ss))
+  records-needed l = omega (arith, h .fits, length-systems-records ss l, systems-size-reverse (map system-of ss))
 
 pub listed-known : {v : List Rec} {most : ℕ} {ss ss' : List Stored} → Held v most (record { branches = []; systems = ss })
     → Held v most (record { branches = []; systems = ss' }) → All-listed ss → All-listed ss'

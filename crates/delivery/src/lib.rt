@@ -22,8 +22,8 @@ fn list_size(work: &[u32]) -> usize
     ensures { λ r. ⌜ ((ss : List Stored) → Held-in (now (work .entry)) (record { branches = []; systems = ss })
         → All-listed ss → r ≡ list-records (reverse (map system-of ss))) ⌝ }
 {
-    let top = records::get2(work, 0) as usize;
-    1 + (branches::count_records(work) - top)
+    let listed = branches::listed_systems(work);
+    1 + (branches::count_records(work) - listed.top)
 }
 
 // The answer of a run on an accepted table, with its list of systems in the first words of the output.

@@ -21,7 +21,7 @@ use Rattle.branches.proofs.AreaLaws.{Lies, lies, place, place-add, place-one, o
 use Rattle.branches.proofs.AreaLaws.{freed, length-freed, all, at-of, end-of, end-is, own-of, control, room-is, held-again}
 use Rattle.branches.proofs.OpenLaws.{p-is, q-is, t-is}
 use Rattle.branches.proofs.OutsideLaws.{drop-lies}
-use Rattle.branches.proofs.ControlLaws.{w0-is, w1-is, w2-is, Read, ends as control-ends, end-le-top, fits-free, over-free}
+use Rattle.branches.proofs.ControlLaws.{Read, ends as control-ends, end-le-top, fits-free, over-free}
 use Rattle.places.specs.Places.{More, Counts, behind, resized}
 
 -- ── both records written anew ──

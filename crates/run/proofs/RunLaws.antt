@@ -4,14 +4,15 @@ use mathlib.Core.Bool.{true, false}
 use mathlib.Core.List.{List, [], _∷_, map, reverse}
 use Prim.Native.Nat.{ℕ, suc, _-_, _≤_, _<_}
 use native.Mathlib.Omega.{arith}
-use lib.ListN.{length, getD, take, length-reverse, length-map}
+use lib.ListN.{length, take, length-reverse, length-map}
 use Rattle.polynomials.specs.Packed.{terms}
 use Rattle.tables.specs.declared.Reason.{Reason}
 use Rattle.tables.specs.declared.Reason.the-variants.{Steps}
 use Rattle.rules.specs.Step.{Stepped, next, stopped, step}
 use Rattle.rules.specs.Run.{Ended, finished, refused, after-step, run}
-use Rattle.records.specs.Records.{Rec, room, view, zero-record}
-use Rattle.records.proofs.Rows.{length-view}
+use Rattle.records.specs.Records.{view}
+use Rattle.branches.specs.declared.Listed.{Listed}
+use Rattle.branches.specs.Listed.{listed-of}
 use Rattle.branches.specs.Area.{Stored, Area, Held, Opened, has-branch, with-open, capacity, Held-in}
 use Rattle.branches.proofs.LengthLaws.{same-capacity}
 use Rattle.representation.specs.Represent.{branch-of, system-of, state-of}
@@ -167,24 +168,22 @@ module _ {p limit from : ℕ} {w₀ w : List ℕ} {steps : ℕ} (A : AtRun p lim
   pub run-holds-some : (a : Area) × Held-in w a
   run-holds-some = let s = A .some in (s .0, subst (λ (m : ℕ). Held (view w) m (s .0)) (sym capacity-kept) (s .1))
 
-  pub run-has-control : 0 < room w
-  run-has-control = let s = A .some in omega (arith, length-view w, ap length (s .1 .is))
-
   pub run-paused : (v : List ℕ) → v ≡ w → Answers p limit from w₀ (paused steps) v
   run-paused v e = subst (Answers p limit from w₀ (paused steps)) (sym e) (λ a₀ H₀ R₀. (A .within, A .all a₀ H₀ R₀))
 
   -- ── no branch is left ──
   module _ (none : None-open w) where
-    pub run-finished : (n : ℕ) → n ≡ getD (view w) 0 zero-record .w3 → Answers p limit from w₀ (ended steps (Systems n)) w
-    run-finished n e a₀ H₀ R₀ =
+    pub run-finished : (l : Listed) → ((a : Area) → Held-in w a → l ≡ listed-of (capacity w) a) → Answers p limit from w₀ (ended steps (Systems (l .count))) w
+    run-finished l told a₀ H₀ R₀ =
         let s = A .all a₀ H₀ R₀ in
-        let c = closed (s .0) (none (s .0) (subst (λ (m : ℕ). Held (view w) m (s .0)) (sym capacity-kept) (s .1))) in
+        let H : Held-in w (s .0) = subst (λ (m : ℕ). Held (view w) m (s .0)) (sym capacity-kept) (s .1) in
+        let c = closed (s .0) (none (s .0) H) in
         let ss = s .0 .systems in
         let ends : run-in (capacity w₀) p (limit - from) from a₀ ≡ finished steps (reverse (map system-of ss)) =
         sym (s .3) ∙ ap (run-in (capacity w₀) p (limit - steps) steps) c ∙ run-ends (limits-in (capacity w₀)) p steps (limit - steps) ss in
-        let count : n ≡ length (reverse (map system-of ss)) =
-        e ∙ ap (λ (v : List Rec). getD v 0 zero-record .w3) (s .1 .is) ∙ sym (length-reverse (map system-of ss) ∙ length-map ss system-of) in
-        subst (λ (E : Ended). Ran E p steps (Systems n) (view w) (capacity w₀)) (sym ends) (
+        let count : l .count ≡ length (reverse (map system-of ss)) =
+        ap (λ (l : Listed). l .count) (told (s .0) H) ∙ sym (length-reverse (map system-of ss) ∙ length-map ss system-of) in
+        subst (λ (E : Ended). Ran E p steps (Systems (l .count)) (view w) (capacity w₀)) (sym ends) (
         record {
           steps = refl;
           outcome = ap Systems count;

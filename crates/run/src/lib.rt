@@ -66,7 +66,8 @@ pub fn run(
     let mut crowded = false;
     let ending = 'run: loop {
         if !turns::is_open(w) {
-            break 'run Ending::Final(Outcome::Systems(records::get3(w, 0)));
+            let listed = branches::listed_systems(w);
+            break 'run Ending::Final(Outcome::Systems(listed.count));
         }
         if limit <= steps {
             break 'run Ending::Final(Outcome::Refused(Reason::Steps, 0));

@@ -13,7 +13,7 @@ use Rattle.stored.specs.Stored.{polys-records, member}
 use Rattle.stored.specs.laws.Stored.{polys-records-append}
 use Rattle.branches.specs.Words.{put-P, remove, unless, is-zero, is-one}
 use Rattle.branches.specs.laws.Words.{put-Q-before-none}
-use Rattle.branches.specs.Area.{Stored, Area, Held, Leaves, stack, branch-records, with-open, size}
+use Rattle.branches.specs.Area.{Stored, Area, Leaves, stack, branch-records, with-open, size}
 use Rattle.branches.specs.Area.{kept-open, aside, put-into-P, put-into-Q, without-P, split-area, fitting, unfinished-split}
 use Rattle.branches.specs.laws.Words.{remove-in-parts, length-remove}
 use Rattle.puts.proofs.PutLaws.{put-Q-new}

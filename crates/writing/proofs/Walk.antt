@@ -3,14 +3,14 @@ use mathlib.Core.Path.{_≡_, refl, sym, ap, _∙_}
 use mathlib.Core.List.{List, [], _∷_, _++_, map, reverse, reverseAux, append-assoc}
 use Prim.Native.Nat.{ℕ, _+_, _*_, _-_, _≤_, _<_}
 use native.Mathlib.Omega.{arith}
-use lib.ListN.{length, getD, drop, length-append, length-reverse, length-map}
+use lib.ListN.{length, drop, length-append, length-reverse, length-map}
 use lib.Seq.{paste}
 use Rattle.residues.specs.Each.{Each}
 use Rattle.tables.specs.Read.{System}
 use Rattle.rules.specs.Room.{systems-size}
 use Rattle.rules.specs.Written.{index-of, system-words, systems-words, list-words, list-records}
 use Rattle.rules.specs.laws.Lengths.{length-list, length-system}
-use Rattle.records.specs.Records.{Rec, record-of, zero-record}
+use Rattle.records.specs.Records.{Rec, record-of}
 use Rattle.branches.specs.Area.{Stored, Held, branch-records, systems-records, Storable-branch}
 use Rattle.representation.specs.Represent.{system-of, All-listed}
 use Rattle.representation.specs.laws.Sizes.{length-systems-records, systems-size-reverse}
@@ -45,41 +45,21 @@ pub record Walked (v : List Rec) (most : ℕ) (ss : List Stored) (d out : List �
   pub done : List System
   pub walk : Walk v most ss d out i end next rest done
 
--- What the control record says where no branch is left.
-pub record Control (v : List Rec) (most : ℕ) (ss : List Stored) : Type 0 where
-  pub inside : 0 < length v
-  pub top : getD v 0 zero-record .w2 ≤ most
-  pub some : 0 < getD v 0 zero-record .w2
-  pub count : getD v 0 zero-record .w3 ≡ length ss
-  pub few : most ≤ 65536
-
-pub control : (v : List Rec) (most : ℕ) (ss : List Stored) → Held v most (record { branches = []; systems = ss }) → Control v most ss
-control v most ss h =
-    let at : getD v 0 zero-record ≡ record-of 0 1 (1 + 0 + length (h .free)) (length ss) = ap (λ (l : List Rec). getD l 0 zero-record) (h .is) in
-    let top = ap (λ (r : Rec). r .w2) at in
-    record {
-      inside = omega (arith, ap length (h .is));
-      top = omega (arith, h .fits);
-      some = omega arith;
-      count = ap (λ (r : Rec). r .w3) at;
-      few = h .few;
-    }
-
 pub list-some : (ls : List System) → 1 ≤ list-records ls
 unfolding list-records
 list-some ls = omega arith
 
 pub begins : (v : List Rec) (cap most : ℕ) (ss : List Stored) (d : List ℕ) (top end : ℕ) → Held v cap (record { branches = []; systems = ss }) → cap ≡ most
-    → All-listed ss → 4 * list-records (reverse (map system-of ss)) ≤ length d → top ≡ getD v 0 zero-record .w2 → end ≡ 1 + (most - top)
+    → All-listed ss → 4 * list-records (reverse (map system-of ss)) ≤ length d → top ≡ cap - length (systems-records ss) → end ≡ 1 + (most - top)
     → Walk v most ss d d top end 0 ss []
 unfolding systems-words list-records systems-size
 begins v cap most ss d top end h ec listed fits et ee =
     let front : List Rec = record-of 0 1 (1 + 0 + length (h .free)) (length ss) ∷ h .free in
     let is : v ≡ front ++ (systems-records ss ++ h .beyond) = h .is in
-    let at : top ≡ 1 + 0 + length (h .free) = et ∙ ap (λ (l : List Rec). getD l 0 zero-record .w2) is in
+    let held = h .fits in
+    let at : top ≡ 1 + 0 + length (h .free) = omega (arith, et) in
     let sized = length-systems-records ss listed in
     let same = systems-size-reverse (map system-of ss) in
-    let held = h .fits in
     let room : end ≡ 1 + systems-size (map system-of ss) = omega arith in
     record {
       before = front;

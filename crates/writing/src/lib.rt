@@ -47,8 +47,9 @@ pub fn write_list(w: &[u32], p: u32, n: u32, out: &mut [u32])
     ensures { λ _. ⌜ ((ss : List Stored) → Held-in (now (w .entry)) (record { branches = []; systems = ss })
         → now (out .exit) ≡ list-words (listing-of p n ss) ++ drop (4 * list-records (reverse (map system-of ss))) (now (out .entry))) ⌝ }
 {
-    let top = records::get2(w, 0) as usize;
-    let count = records::get3(w, 0);
+    let listed = branches::listed_systems(w);
+    let top = listed.top;
+    let count = listed.count;
     let most = branches::count_records(w);
     let first = if count == 0 { 0 } else { 1 };
     records::write(out, 0, p, n, first, count);

@@ -1,11 +1,10 @@
 -- `load_q` meets its contract: Q starts where the first `skip` ends, the member is where the second does, and `load` takes its words from there.
-use mathlib.Core.Path.{_≡_, _∙_}
+use mathlib.Core.Path.{_∙_}
 use mathlib.Core.List.{List, []}
 use native.Mathlib.Omega.{arith}
 use lib.ListN.{getD}
 use Rattle.records.specs.Records.{view}
 use Rattle.branches.specs.Area.{Stored, with-open, capacity, Held-in}
-use Rattle.branches.specs.Open.{open-of}
 use Rattle.branches.proofs.AreaLaws.{Found}
 use Rattle.branches.proofs.LengthLaws.{inside-room}
 use Rattle.branches.proofs.OpenLaws.{end-P-inside, skip-Q-inside, found-Q}

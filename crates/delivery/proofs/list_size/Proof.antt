@@ -1,29 +1,40 @@
--- `list_size` meets its contract: the systems lie from the control record's third word to the end of the work area.
+-- `list_size` meets its contract: the systems lie from where they start to the end of the work area.
+use mathlib.Core.Path.{_≡_, ap}
+use mathlib.Core.List.{List, []}
+use Prim.Native.Nat.{_-_}
 use native.Mathlib.Omega.{arith}
 use borrow.Author.Needs.{needs}
-use Rattle.records.proofs.Rows.{length-view}
-use Rattle.delivery.proofs.DeliverLaws.{some-records, top-within, records-needed}
+use lib.ListN.{length}
+use Rattle.branches.specs.declared.Listed.{Listed}
+use Rattle.branches.specs.Area.{Stored, capacity, systems-records, Held-in}
+use Rattle.branches.proofs.ControlLaws.{top-inside}
+use Rattle.delivery.proofs.DeliverLaws.{records-needed}
 use Rattle.delivery.proofs.list_size.Statement.{statement}
 use Rattle.delivery.proofs.list_size.Tie as tie
 
-get2-requires : tie.Need-get2-requires
-get2-requires c κs = let s = c .before in omega (arith, some-records (s .pre .1), length-view (s .args .work .now))
+-- Where the systems start.
+top-is : (r : tie.After-listed-systems) {ss : List Stored} → let w = r .before .before .args .work .now in Held-in w (record { branches = []; systems = ss })
+    → r .listed-systems .result .top ≡ capacity w - length (systems-records ss)
+top-is r h = ap (λ (l : Listed). l .top) (r .listed-systems .ensures _ h)
 
-cast-top : tie.Need-cast-top
-cast-top c = search needs
+listed-systems-requires : tie.Need-listed-systems-requires
+listed-systems-requires c κs = (_, c .before .pre .1)
 
 count-records-requires : tie.Need-count-records-requires
 count-records-requires c κs = search needs
 
 sub-result : tie.Need-sub-result
-sub-result c = omega (arith, top-within (c .before .before .before .pre .1), c .before .get2 .ensures, c .count-records .ensures)
+sub-result c =
+    let n = c .before in
+    let h = n .before .before .before .pre .1 in
+    omega (arith, top-inside h, top-is (n .before) h, n .count-records .ensures)
 
 add-result : tie.Need-add-result
 add-result c = search needs
 
 returns : tie.Need-returns
-returns c ss h l = omega (arith, records-needed h l, c .before .get2 .ensures, c .count-records .ensures)
+returns c ss h l = let n = c .before in omega (arith, records-needed h l, top-is (n .before) h, n .count-records .ensures)
 
 pub list-size-spec : {M : Type 1} → statement M
 list-size-spec =
-    tie.close (tie.spec get2-requires cast-top count-records-requires sub-result add-result returns)
+    tie.close (tie.spec listed-systems-requires count-records-requires sub-result add-result returns)

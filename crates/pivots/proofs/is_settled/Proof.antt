@@ -1,5 +1,5 @@
 -- `is_settled` meets its contract: `is_one` tests for 1, and `q_contains` answers for Q.
-use mathlib.Core.Path.{_≡_, sym, ap, _∙_}
+use mathlib.Core.Path.{sym, ap, _∙_}
 use mathlib.Core.Bool.{Bool, _||_}
 use borrow.Author.Needs.{needs}
 use Rattle.stored.specs.Stored.{member}

@@ -13,7 +13,7 @@ use Rattle.tables.specs.declared.Reason.the-variants.{Degree, Terms, Room}
 use Rattle.run.proofs.Slices.{kept-all, kept-then}
 use Rattle.run.proofs.Invariants.{AtRun, run-begins}
 use Rattle.run.proofs.MembersLaws.{members-open, members-left, member-open, member-behind, member-degree, member-terms}
-use Rattle.run.proofs.RunLaws.{final-not-paused, run-holds-some, run-has-control, run-finished, run-no-steps, run-goes-on}
+use Rattle.run.proofs.RunLaws.{final-not-paused, run-holds-some, run-finished, run-no-steps, run-goes-on}
 use Rattle.run.proofs.run.Statement.{statement}
 use Rattle.run.proofs.run.Tie as tie
 use Facts.*
@@ -28,8 +28,8 @@ run-holds c =
 is-open-requires : Of tie.Need-is-open-requires
 is-open-requires c κs = run-holds-some (run-invariant (c .before))
 
-get3-requires : Of tie.Need-get3-requires
-get3-requires c κs = run-has-control (run-invariant (none-in (c .before)))
+listed-systems-requires : Of tie.Need-listed-systems-requires
+listed-systems-requires c κs = run-holds-some (run-invariant (none-in (c .before)))
 
 prepare-requires : Of tie.Need-prepare-requires
 prepare-requires c κs =
@@ -157,7 +157,7 @@ division-again c = let m = to-rounded c in (rounds-go-on c, kept-then (rounds-ke
 returns : Of tie.Need-returns
 returns c =
     let m = c .before .before in
-    (run-finished (run-invariant (none-in m)) (none-open m) (c .get3 .result) (c .get3 .ensures), (final-not-paused, kept-at-turn (none-in m) .out))
+    (run-finished (run-invariant (none-in m)) (none-open m) (c .listed-systems .result) (c .listed-systems .ensures), (final-not-paused, kept-at-turn (none-in m) .out))
 
 returns-2 : Of tie.Need-returns-2
 returns-2 c =
@@ -210,7 +210,7 @@ run-spec =
     μ-run
     run-holds
     is-open-requires
-    get3-requires
+    listed-systems-requires
     prepare-requires
     enum-told
     enum-told-2

@@ -1,5 +1,5 @@
 -- `write_list` meets its contract. The invariant: from record `end` on stand the systems walked over, in list order, and `next` is their index.
-use mathlib.Core.Path.{_≡_, refl, sym, _∙_}
+use mathlib.Core.Path.{_≡_, refl, sym, ap}
 use mathlib.Core.Logic.{⊎-elim}
 use mathlib.Core.List.{List, [], _∷_, map, reverse}
 use Prim.Native.Nat.{_+_, _-_}
@@ -7,10 +7,11 @@ use native.Mathlib.Omega.{arith}
 use lib.ListN.{length}
 use borrow.Author.Needs.{needs}
 use Rattle.records.specs.Records.{view}
-use Rattle.records.proofs.Rows.{length-view}
-use Rattle.branches.specs.Area.{Stored, capacity, Held-in}
+use Rattle.branches.specs.declared.Listed.{Listed}
+use Rattle.branches.specs.Area.{Stored, capacity, systems-records, Held-in}
+use Rattle.branches.proofs.ControlLaws.{top-some, top-inside}
 use Rattle.representation.specs.Represent.{system-of}
-use Rattle.writing.proofs.Walk.{Walked, control, list-some, begins, Turn, turn, finished, list-written}
+use Rattle.writing.proofs.Walk.{Walked, list-some, begins, Turn, turn, finished, list-written}
 use Rattle.writing.proofs.write_list.Statement.{statement}
 use Rattle.writing.proofs.write_list.Tie as tie
 
@@ -28,85 +29,68 @@ At c ss =
     let turn = c .before .loop in
     let put = c .before .before .before .before .write in
     let most = c .before .before .before .before .before .before .before .count-records .result in
-    let a = c .before .before .before .before .before .before .before .before .before .before .before .before .args in
+    let a = c .before .before .before .before .before .before .before .before .before .before .before .args in
     Turn (view (a .w .now)) most ss (put .last .0) (turn .out) (turn .i) (turn .end) (turn .next)
 
 turn-of : (c : tie.In-loop Inv-loop μ-loop) (ss : List Stored)
-    → let w = c .before .before .before .before .before .before .before .before .before .before .before .before .args .w .now in Held-in w (record { branches = []; systems = ss }) → At c ss
+    → let w = c .before .before .before .before .before .before .before .before .before .before .before .args .w .now in Held-in w (record { branches = []; systems = ss }) → At c ss
 turn-of c ss h =
     let loop = c .before .loop in
     let put = c .before .before .before .before .write in
     let most = c .before .before .before .before .before .before .before .count-records .result in
-    let a = c .before .before .before .before .before .before .before .before .before .before .before .before .args in
+    let a = c .before .before .before .before .before .before .before .before .before .before .before .args in
     let w = loop .inv .1 ss h in
     turn (view (a .w .now)) most ss (put .last .0) (loop .out) (loop .i) (loop .end) (loop .next) (w .rest) (w .done) (w .walk) (c .loop-test .taken)
 
 -- For the systems that the contract names.
-turn-asked : (c : tie.In-loop Inv-loop μ-loop) → At c (c .before .before .before .before .before .before .before .before .before .before .before .before .pre .0 .0)
-turn-asked c = turn-of c (c .before .before .before .before .before .before .before .before .before .before .before .before .pre .0 .0)
-    (c .before .before .before .before .before .before .before .before .before .before .before .before .pre .0 .1)
+turn-asked : (c : tie.In-loop Inv-loop μ-loop) → At c (c .before .before .before .before .before .before .before .before .before .before .before .pre .0 .0)
+turn-asked c = turn-of c (c .before .before .before .before .before .before .before .before .before .before .before .pre .0 .0)
+    (c .before .before .before .before .before .before .before .before .before .before .before .pre .0 .1)
 
-get2-requires : tie.Need-get2-requires Inv-loop μ-loop
-get2-requires c κs =
-    let start = c .before .before in
-    let a = start .args in
-    let l = length-view (a .w .now) in
-    let k = control (view (a .w .now)) (capacity (a .w .now)) (start .pre .0 .0) (start .pre .0 .1) in
-    omega (arith, k .inside)
+-- Where the systems start.
+top-is : (r : tie.After-listed-systems Inv-loop μ-loop) {ss : List Stored} → let w = r .before .before .before .args .w .now in Held-in w (record { branches = []; systems = ss })
+    → r .listed-systems .result .top ≡ capacity w - length (systems-records ss)
+top-is r h = ap (λ (l : Listed). l .top) (r .listed-systems .ensures _ h)
 
-cast-top : tie.Need-cast-top Inv-loop μ-loop
-cast-top c = omega arith
-
-get3-requires : tie.Need-get3-requires Inv-loop μ-loop
-get3-requires c κs =
-    let start = c .before .before .before in
-    let a = start .args in
-    let l = length-view (a .w .now) in
-    let k = control (view (a .w .now)) (capacity (a .w .now)) (start .pre .0 .0) (start .pre .0 .1) in
-    omega (arith, k .inside)
+listed-systems-requires : tie.Need-listed-systems-requires Inv-loop μ-loop
+listed-systems-requires c κs = let start = c .before .before in (_, start .pre .0 .1)
 
 count-records-requires : tie.Need-count-records-requires Inv-loop μ-loop
 count-records-requires c κs = search needs
 
 write-requires : tie.Need-write-requires Inv-loop μ-loop
 write-requires c κs =
-    let start = c .before .before .before .before .before .before .before in
+    let start = c .before .before .before .before .before .before in
     omega (arith, start .pre .1 (start .pre .0 .0) (start .pre .0 .1) .0, list-some (reverse (map system-of (start .pre .0 .0))))
 
 sub-end : tie.Need-sub-end Inv-loop μ-loop
 sub-end c =
-    let start = c .before .before .before .before .before .before .before .before .before .before in
-    let a = start .args in
-    let l = length-view (a .w .now) in
-    let k = control (view (a .w .now)) (capacity (a .w .now)) (start .pre .0 .0) (start .pre .0 .1) in
+    let h = c .before .before .before .before .before .before .before .before .before .pre .0 .1 in
     let most = c .before .before .before .before .before .count-records .ensures in
-    let top = c .before .before .before .before .before .before .before .get2 .ensures in omega (arith, k .top, k .some, k .few)
+    omega (arith, top-is (c .before .before .before .before .before .before) h, top-inside h, top-some h, h .few)
 
 add-end : tie.Need-add-end Inv-loop μ-loop
 add-end c =
-    let start = c .before .before .before .before .before .before .before .before .before .before in
-    let a = start .args in
-    let l = length-view (a .w .now) in
-    let k = control (view (a .w .now)) (capacity (a .w .now)) (start .pre .0 .0) (start .pre .0 .1) in
+    let h = c .before .before .before .before .before .before .before .before .before .pre .0 .1 in
     let most = c .before .before .before .before .before .count-records .ensures in
-    let top = c .before .before .before .before .before .before .before .get2 .ensures in omega (arith, k .top, k .some, k .few)
+    omega (arith, top-is (c .before .before .before .before .before .before) h, top-inside h, top-some h, h .few)
 
 loop-holds : tie.Need-loop-holds Inv-loop μ-loop
 loop-holds c =
     let d = c .before .before .write .last .0 in
     let all = c .before .before .before .before .before in
-    let get2 = c .before .before .before .before .before .before .before .get2 in
-    let start = c .before .before .before .before .before .before .before .before .before .before in
+    let told = c .before .before .before .before .before .before in
+    let start = told .before .before .before in
     let w = start .args .w .now in
     let most = all .count-records .result in
-    let top = get2 .result in (
+    let top = told .listed-systems .result .top in (
       refl,
       λ ss h. let asked = start .pre .1 ss h in
           record {
             rest = ss;
             done = [];
             walk =
-                begins (view w) (capacity w) most ss d top (1 + (most - top)) h (sym (all .count-records .ensures)) (asked .1) (omega (arith, asked .0)) (get2 .ensures) refl;
+                begins (view w) (capacity w) most ss d top (1 + (most - top)) h (sym (all .count-records .ensures)) (asked .1) (omega (arith, asked .0)) (top-is told h) refl;
           },
     )
 
@@ -160,7 +144,8 @@ same-length c = omega arith
 
 returns : tie.Need-returns Inv-loop μ-loop
 returns c ss h =
-    let start = c .before .before .before .before .before .before .before .before .before .before .before .before in
+    let told = c .before .before .before .before .before .before .before .before in
+    let start = told .before .before .before in
     let a = start .args in
     let v = view (a .w .now) in
     let loop = c .before .loop in
@@ -168,10 +153,10 @@ returns c ss h =
     let most = c .before .before .before .before .before .before .before .count-records .result in
     let put = c .before .before .before .before .write in
     let first = c .before .before .before .before .before .before .if1 in
-    list-written ss (a .p) (a .n) (first .first) (c .before .before .before .before .before .before .before .before .get3 .result) (a .out .now) (put .last .0) (loop .out)
+    list-written ss (a .p) (a .n) (first .first) (told .listed-systems .result .count) (a .out .now) (put .last .0) (loop .out)
     (put .ensures .1)
     (omega (arith, start .pre .1 ss h .0, list-some (reverse (map system-of ss))))
-    (c .before .before .before .before .before .before .before .before .get3 .ensures ∙ control v (capacity (a .w .now)) ss h .count)
+    (ap (λ (l : Listed). l .count) (told .listed-systems .ensures _ h))
     (λ h. ⊎-elim (λ w. omega arith) (λ w. omega arith) (first .came))
     (λ h. ⊎-elim (λ w. omega arith) (λ w. omega arith) (first .came))
     (finished v most ss (put .last .0) (loop .out) (loop .i) (loop .end) (loop .next) (w .rest) (w .done) (w .walk) (omega arith))
@@ -182,9 +167,7 @@ write-list-spec =
     (tie.spec
     Inv-loop
     μ-loop
-    get2-requires
-    cast-top
-    get3-requires
+    listed-systems-requires
     count-records-requires
     write-requires
     sub-end

@@ -64,9 +64,16 @@ module _ {v : List Rec} {most : ℕ} {a : Area} (H : Held v most a) where
       let starts : top ≡ most - length (systems-records (a .systems)) = omega (arith, w2-is ctl t, H .fits) in
       λ k. record { top = starts k; count = w3-is ctl c k }
 
-  -- They start behind the control record, and inside.
-  pub top-some : 0 < listed-of most a .top
-  top-some = omega (arith, H .fits)
+  module _ {l : Listed} (e : l ≡ listed-of most a) where
+    pub top-is : l .top ≡ most - length (systems-records (a .systems))
+    top-is = ap (λ (l : Listed). l .top) e
 
-  pub top-inside : listed-of most a .top ≤ most
-  top-inside = omega (arith, H .fits)
+    pub count-is : l .count ≡ length (a .systems)
+    count-is = ap (λ (l : Listed). l .count) e
+
+    -- They start behind the control record, and inside.
+    pub top-some : 0 < l .top
+    top-some = omega (arith, top-is, H .fits)
+
+    pub top-inside : l .top ≤ most
+    top-inside = omega (arith, top-is, H .fits)

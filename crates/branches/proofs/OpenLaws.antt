@@ -12,8 +12,8 @@ use Rattle.branches.specs.declared.Open.{Open}
 use Rattle.branches.specs.Area.{Stored, Held, with-open}
 use Rattle.branches.specs.Open.{open-of}
 use Rattle.branches.proofs.AreaLaws.{lies, place, place-add, at-of, at-is, own-read, skips, finds, found, Found, place-inside}
-use Rattle.branches.proofs.ControlLaws.{w0-is, w1-is, w2-is}
 use Rattle.branches.proofs.AreaLaws.{parted-P, parted-Q, parted-Q-behind, parted-at-P, parted-at-Q}
+use Rattle.branches.proofs.ControlLaws.{w0-is, w1-is, w2-is}
 
 -- What the control record and the branch's own say.
 pub opened-is : {v : List Rec} {most : ℕ} {b : Stored} {bs ss : List Stored} (H : Held v most (with-open b bs ss)) {at p q t : ℕ} → at ≡ getD v 0 zero-record .w0

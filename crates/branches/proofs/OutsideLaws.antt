@@ -22,7 +22,7 @@ drop-further {n} {m} u v h e =
 drop-paste-le : (v : List Rec) (to : ℕ) (s : List Rec) (n : ℕ) {m : ℕ} → to ≤ length v → n ≤ length s → to + n ≤ m → drop m (paste v to s n) ≡ drop m v
 drop-paste-le v to s n i k h = drop-further (paste v to s n) v h (drop-paste v to s n i k)
 
--- The last of the rest, behind a branch, its free records and the systems.
+-- What lies behind a branch, the free records and the systems is `beyond`.
 pub drop-lies : {v pre : List Rec} {own : Rec} {fs : List (List ℕ)} {free : List Rec} (systems : List Rec) {beyond : List Rec} {at most : ℕ} → Lies v pre own fs free (systems ++ beyond) at
     → place at fs + length free + length systems ≡ most → drop most v ≡ beyond
 drop-lies {v} {pre} {own} {fs} {free} systems {beyond} {at} {most} L room =

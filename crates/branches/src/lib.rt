@@ -1,6 +1,6 @@
 // The state of a run in the work area: the open branch, the waiting ones, and the listed systems; `specs/Area.antt` has the layout. How
-// many records it has; the listed systems (`specs/Listed.antt`); and what is read of the open branch: its own record (`specs/Open.antt`), whether Q holds a polynomial, and
-// the words of one.
+// many records it has; the listed systems (`specs/Listed.antt`); whether a polynomial is 1; and what is read of the open branch: its own record (`specs/Open.antt`), whether
+// Q holds a polynomial, and the words of one.
 ghost use mathlib.Core.Path.{_≡_};
 ghost use mathlib.Core.List.{[]};
 ghost use Prim.Native.Nat.{_≤_, _<_};

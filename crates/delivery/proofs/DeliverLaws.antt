@@ -9,7 +9,10 @@ use Rattle.records.specs.Records.{Rec, record-of, zero-record}
 use Rattle.stored.specs.Stored.{polys-records, skip-to}
 use Rattle.stored.specs.laws.Stored.{polys-records-append, skip-to-polys-records}
 use Rattle.rules.specs.Written.{list-records}
+use Rattle.branches.specs.declared.Listed.{Listed}
 use Rattle.branches.specs.Area.{Stored, Held, branch-records, systems-records}
+use Rattle.branches.specs.Listed.{listed-of}
+use Rattle.branches.proofs.ControlLaws.{top-is}
 use Rattle.representation.specs.Represent.{All-listed, system-of}
 use Rattle.representation.specs.laws.Sizes.{length-systems-records, systems-size-reverse}
 
@@ -78,9 +81,10 @@ module _ {v : List Rec} {most : ℕ} {ss : List Stored} (h : Held v most (record
       ap (drop n) (h .is)
       ∙ drop-at (record-of 0 1 (1 + 0 + length (h .free)) (length ss) ∷ h .free) (systems-records ss ++ h .beyond) n (omega arith)
 
-  pub records-needed : All-listed ss → 1 + (most - (most - length (systems-records ss))) ≡ list-records (reverse (map system-of ss))
+  pub records-needed : {l : Listed} → l ≡ listed-of most (record { branches = []; systems = ss }) → All-listed ss
+      → 1 + (most - l .top) ≡ list-records (reverse (map system-of ss))
   unfolding list-records
-  records-needed l = omega (arith, h .fits, length-systems-records ss l, systems-size-reverse (map system-of ss))
+  records-needed e a = omega (arith, top-is h e, h .fits, length-systems-records ss a, systems-size-reverse (map system-of ss))
 
 pub listed-known : {v : List Rec} {most : ℕ} {ss ss' : List Stored} → Held v most (record { branches = []; systems = ss })
     → Held v most (record { branches = []; systems = ss' }) → All-listed ss → All-listed ss'

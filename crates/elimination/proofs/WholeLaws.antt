@@ -1,7 +1,7 @@
 -- Elimination whole: a table refused in reading, a start that finds no room, and the run of a start that finds it.
-use mathlib.Core.Path.{_≡_, refl, sym, ap, subst}
-use mathlib.Core.Bool.{Bool, true, false}
-use mathlib.Core.List.{List, []}
+use mathlib.Core.Path.{_≡_, refl, sym, ap, subst, _∙_}
+use mathlib.Core.Bool.{Bool, true, false, false≢true}
+use mathlib.Core.List.{List}
 use Prim.Native.Nat.{ℕ, _≤_}
 use native.Mathlib.Omega.{arith}
 use lib.ListN.{length}
@@ -11,9 +11,9 @@ use Rattle.tables.specs.declared.Reason.{Reason}
 use Rattle.tables.specs.declared.Reason.the-variants.{Room}
 use Rattle.rules.specs.Room.{Limits, State}
 use Rattle.rules.specs.Step.{Stepped, next, stopped}
-use Rattle.rules.specs.Run.{Ended, finished, refused, after-step, run, start, run-of}
+use Rattle.rules.specs.Run.{Ended, after-step, run, start, run-of}
 use Rattle.rules.specs.Eliminate.{delivered, limits-of}
-use Rattle.branches.specs.Area.{Area, Held, capacity, with-open}
+use Rattle.branches.specs.Area.{Area, Held, capacity}
 use Rattle.representation.specs.Represent.{state-of}
 use Rattle.run.specs.declared.Answer.{Answer}
 use Rattle.run.specs.declared.Outcome.the-variants.{Refused}
@@ -21,6 +21,7 @@ use Rattle.representation.specs.Ready.{Ready, limits-in}
 use Rattle.run.specs.Stretch.{Ran, Left}
 use Rattle.loading.specs.Started.{Started}
 use Rattle.delivery.specs.Delivered.{Delivered}
+use Rattle.elimination.specs.Worked.{Worked}
 use Rattle.loading.proofs.StartLaws.{limits-are}
 
 -- ── the start ──
@@ -31,11 +32,6 @@ module _ (t : Input) where
       let y = x .0 in absurd (let z : _≡_ {A = ℕ} 0 1 = cc in omega arith)
   not-started (stopped why) k most v room out x e =
       record { answer = ap (λ (w : Reason). record { steps = 0; outcome = Refused w 0 }) (sym (x .1)); output = refl }
-
-  -- What the work area holds then, if it has room for a state.
-  not-started-holds : (s : Stepped) {most : ℕ} {r : Bool} {v : List Rec} → Started t s most r v → r ≡ false → 2 ≤ most → (a : Area) × Held v most a
-  not-started-holds (next s) x e h = let y = x .0 in absurd (let z : _≡_ {A = ℕ} 0 1 = cc in omega arith)
-  not-started-holds (stopped why) x e h = let d = x .2 h .2 in (with-open (d .stored) [] [], d .held)
 
   held-first : (s : Stepped) {most : ℕ} {r : Bool} {v : List Rec} → Started t s most r v → r ≡ true
       → (2 ≤ most) × ((a : Area) × Held v most a × Ready (t .modulus) a × (s ≡ next (state-of a)))
@@ -48,8 +44,18 @@ module _ (t : Input) (most limit : ℕ) {r : Bool} (v : List Rec) (x : Started t
   unfolding run-of
   no-room room out e = not-started t (start (limits-in most) t) (run (limits-in most) (t .modulus) limit 0) most v room out x e
 
-  pub no-room-leaves : r ≡ false → 2 ≤ most → (a : Area) × Held v most a
-  no-room-leaves = not-started-holds t (start (limits-in most) t) x
+  -- What the work area holds then.
+  pub no-room-leaves : r ≡ false → Worked t limit most v
+  no-room-leaves e = record {
+    unstarted = λ none. let y = subst (λ (s : Stepped). Started t s most r v) none x in subst (λ (b : Bool). Started t (stopped Room) most b v) e y;
+    ran = λ s starts. let y = subst (λ (s : Stepped). Started t s most r v) starts x in absurd (false≢true (sym e ∙ y .0));
+  }
+
+  pub run-leaves : {u : List Rec} → r ≡ true → Left (run-of (limits-in most) limit t) (t .modulus) u most → Worked t limit most u
+  run-leaves e left = record {
+    unstarted = λ none. let y = subst (λ (s : Stepped). Started t s most r v) none x in absurd (false≢true (sym (y .0) ∙ e));
+    ran = λ s starts. left;
+  }
 
   pub started-in-two : r ≡ true → 2 ≤ most
   started-in-two e = held-first t (start (limits-in most) t) x e .0
@@ -69,11 +75,6 @@ module _ (t : Input) (most limit : ℕ) {r : Bool} (v : List Rec) (x : Started t
       let there = subst (λ (n : ℕ). (a : Area) → Held v n a → Ready p a → Ran (run (limits-in n) p limit 0 (state-of a)) p (q .steps) (q .outcome) u n) m k in
       let here = subst (λ (n : ℕ). (a : Area) → Held v most a → Ready n a → Ran (run (limits-in most) n limit 0 (state-of a)) n (q .steps) (q .outcome) u most) (sym same) there in
       subst (λ (s : Stepped). Ran (after-step (run (limits-in most) (t .modulus) limit 0) 0 s) (t .modulus) (q .steps) (q .outcome) u most) (sym (a .3)) (here (a .0) (a .1) (a .2))
-
--- What a run leaves, however it ends.
-pub left-holds : (E : Ended) (p : ℕ) {most : ℕ} {v : List Rec} → Left E p v most → (a : Area) × Held v most a
-left-holds (finished n ss) p l = (_, l .1)
-left-holds (refused n why) p l = (_, l .3)
 
 -- Said of the words of the work area.
 pub in-words : (w : List ℕ) (room limit : ℕ) (t : Input) {r : Answer} {before after : List ℕ}

@@ -1,26 +1,27 @@
 // Elimination of a table, whole: the run in the lent work area, and the written list.
 ghost use mathlib.Core.Path.{_≡_};
-ghost use Prim.Native.Nat.{_/_, _≤_, _<_};
+ghost use Prim.Native.Nat.{_/_, _<_};
 ghost use lib.ListN.{length};
 ghost use Rattle.records.specs.Records.{view};
 ghost use Rattle.tables.specs.Read.{Input, good, read-table};
 ghost use Rattle.rules.specs.Run.{run-of};
 ghost use Rattle.rules.specs.Eliminate.{delivered, limits-of};
-ghost use Rattle.branches.specs.Area.{Area, Held, capacity, outside};
+ghost use Rattle.branches.specs.Area.{capacity, outside};
 ghost use Rattle.delivery.specs.Delivered.{Delivered};
 ghost use Rattle.elimination.specs.Eliminates.{Eliminates};
+ghost use Rattle.elimination.specs.Worked.{Worked};
 pub use run::Answer;
 pub use run::Outcome;
 use tables::ReadOutcome;
 use tables::Reason;
 
-// Eliminates an accepted table. The work area may hold anything before; afterwards it holds some state, or is as it was where it has fewer than two records.
+// Eliminates an accepted table. The work area may hold anything before; afterwards it holds what the start or the run left, or is as it was where it has fewer than two records.
 fn eliminate_accepted(table: &[u32], work: &mut [u32], output: &mut [u32], limit: u32) -> Answer
     requires { ⌜ ((t : Input) × (read-table (now table) ≡ good t)) ⌝ }
     ensures { λ r. ⌜ ((t : Input) → read-table (now (table .entry)) ≡ good t
         → Delivered (delivered (length (now (output .entry)) / 4) t (run-of (limits-of (length (now (work .entry)))) limit t)) r (now (output .entry)) (now (output .exit))) ⌝ }
-    ensures { λ _. ⌜ ((2 ≤ capacity (now (work .entry)) → (a : Area) × Held (view (now (work .exit))) (capacity (now (work .entry))) a)
-        × (capacity (now (work .entry)) < 2 → now (work .exit) ≡ now (work .entry))) ⌝ }
+    ensures { λ _. ⌜ ((t : Input) → read-table (now (table .entry)) ≡ good t → Worked t limit (capacity (now (work .entry))) (view (now (work .exit)))) ⌝ }
+    ensures { λ _. ⌜ (capacity (now (work .entry)) < 2 → now (work .exit) ≡ now (work .entry)) ⌝ }
     ensures { λ _. ⌜ outside (now (work .exit)) ≡ outside (now (work .entry)) ⌝ }
 {
     let mut divided = [0u64; 512];

@@ -23,7 +23,7 @@ heading steps o k = record { outcome = outcome-numbers o .outcome; steps = steps
 abbrev pub heading-of : Answer → ℕ → Heading
 heading-of a k = heading (a .steps) (a .outcome) k
 
--- A job's table lies within the slice, whose first words it is.
+-- A job's table is the first words of the slice.
 abbrev pub Shaped : Job → List ℕ → Type 0
 Shaped (Next s i) w = s .table ≤ length w
 Shaped End w = Unit {0}

@@ -42,7 +42,7 @@ pub fn gather_large(p: u64, f: &[u64], g: &[u64], x: &mut [u64]) -> Formed
     }
 }
 
-// `gathering::gather` in the buffers a and b. What is formed is copied into x, which need only hold the result.
+// `gathering::gather` in the buffers a and b. What is formed is copied into x, which has room for any result.
 fn gather_in(p: u64, f: &[u64], g: &[u64], a: &mut [u64], b: &mut [u64], x: &mut [u64]) -> Gathered
     requires { ⌜ (1 ≤ p) × (p < 2147483648) ⌝ }
     requires { ⌜ Holds p (now f) × (0 < length (now f)) ⌝ }

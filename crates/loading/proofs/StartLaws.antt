@@ -21,10 +21,13 @@ use Rattle.branches.specs.Area.{Held, capacity, with-open, empty}
 use Rattle.representation.specs.laws.Sounds.{empty-sound}
 use Rattle.representation.specs.laws.Sizes.{room-of-count}
 use Rattle.representation.specs.Ready.{limits-in}
-use Rattle.loading.specs.Started.{put-heads, Alone, Filled, no-polynomial, first-put, Started}
+use Rattle.loading.specs.Started.{put-heads, Alone, Filled, first-put, Started}
 use Rattle.loading.proofs.FillLaws.{size-put-heads, put-heads-none}
 
 -- ── the branch ──
+abbrev pub no-polynomial : Branch
+no-polynomial = record { P = []; Q = []; T = [] }
+
 pub alone-empty : {p most : ℕ} {v : List Rec} → Held v most (with-open empty [] []) → Alone p most no-polynomial v
 alone-empty {p = p} h = record { stored = empty; held = h; sound = empty-sound p; monic = tt; nonzero = tt; is = refl }
 
@@ -38,12 +41,14 @@ module _ (t : Input) where
   first-is = refl
 
   first-put-of-P : (k : ℕ) → k ≤ length (t .P) → put-heads false (t .modulus) (take k (t .P)) no-polynomial ≡ first-put t k
+  unfolding first-branch
   first-put-of-P k h =
       let b = put-heads false (t .modulus) (take k (t .P)) no-polynomial in
       let none : 0 ≡ k - length (t .P) = omega (arith, h) in
       sym (put-heads-none true (t .modulus) b) ∙ ap (λ (j : ℕ). put-heads true (t .modulus) (take j (t .Q)) b) none
 
   first-put-of-Q : (k j : ℕ) → k ≡ length (t .P) + j → put-heads true (t .modulus) (take j (t .Q)) (with-zeros (t .modulus) t) ≡ first-put t k
+  unfolding first-branch
   first-put-of-Q k j e =
       let behind : j ≡ k - length (t .P) = omega (arith, e) in
       let all : t .P ≡ take k (t .P) = sym (take-all k (t .P) (omega (arith, e))) in

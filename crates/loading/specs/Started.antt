@@ -14,6 +14,7 @@ use Rattle.tables.specs.declared.Reason.the-variants.{Room}
 use Rattle.rules.specs.Branch.{Branch, is-zero, is-one, member, put-P, put-Q, put-all}
 use Rattle.rules.specs.Room.{branch-size}
 use Rattle.rules.specs.Step.{Stepped, next, stopped}
+use Rattle.rules.specs.Run.{first-branch}
 use Rattle.records.specs.Records.{Rec}
 use Rattle.branches.specs.Area.{Stored, Area, Held, with-open, put-into-P, put-into-Q}
 use Rattle.representation.specs.Represent.{Sound, Branch-sound, branch-of, state-of, Monic, All-monic}
@@ -52,16 +53,13 @@ pub record Filled (p most : ℕ) (in-q : Bool) (fs : List Poly) (c : Branch) (r 
   pub alone : r ≡ true → Alone p most (put-heads in-q p fs c) v
   pub otherwise : r ≡ false → (j : ℕ) × (j < length fs) × (most < 1 + branch-size (put-heads in-q p (take (suc j) fs) c)) × Alone p most (put-heads in-q p (take j fs) c) v
 
-abbrev pub no-polynomial : Branch
-no-polynomial = record { P = []; Q = []; T = [] }
-
 -- The branch of a table's first k polynomials, those of P before those of Q.
 abbrev pub first-put : Input → ℕ → Branch
-first-put t k = put-heads true (t .modulus) (take (k - length (t .P)) (t .Q)) (put-heads false (t .modulus) (take k (t .P)) no-polynomial)
+first-put t k = first-branch (record { modulus = t .modulus; variables = t .variables; P = take k (t .P); Q = take (k - length (t .P)) (t .Q) })
 
 -- Of one polynomial of P and two of Q, all zero, the first two: zero is not put into P.
 three-zeros : first-put (record { modulus = 7; variables = 1; P = [] ∷ []; Q = [] ∷ ([] ∷ []) }) 2 ≡ record { P = []; Q = [] ∷ []; T = [] }
-unfolding put-all put-P put-Q monic is-zero is-one member
+unfolding first-branch put-all put-P put-Q monic is-zero is-one member
 three-zeros = refl
 
 -- The answer is whether the run starts. If so there are at least two records, and the work area holds its first state; otherwise, given

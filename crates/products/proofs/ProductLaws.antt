@@ -28,7 +28,7 @@ module _ (a b : ℕ) where
   pub row-lent : (x : ℕ) → 2 ≤ a → b ≤ 512 → lent-for-product a b ≤ x → b ≤ x
   row-lent x h k l = omega (arith, mul-le-mul-right b h)
 
-  -- Buffers too short for the gathering have 1,024 words.
+  -- A buffer too short for the gathering has room for any result.
   pub short-lent : (m n : ℕ) → (m < room-for a b) ⊎ (n < room-for a b) → (lent-for-product a b ≤ m) × (lent-for-product a b ≤ n) → 512 ≤ m
   short-lent m n short l = ⊎-elim (λ (h : m < room-for a b). omega (arith, l)) (λ (h : n < room-for a b). omega (arith, l)) short
 

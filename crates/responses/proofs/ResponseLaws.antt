@@ -86,18 +86,18 @@ module _ (bytes : List ℕ) where
 
   -- ── the other buffers ──
   module _ (words work output : List ℕ) where
-    pub untouched : too-long-or-broken bytes ≡ true → Responded bytes words work output words work output
-    untouched p = record { refused = λ q. (refl, refl, refl); decoded = λ q. absurd (true≢false (sym p ∙ q)) }
+    pub unread : {work′ : List ℕ} → too-long-or-broken bytes ≡ true → work′ ≡ replicate (length work) 0 → Responded bytes words work output words work′ output
+    unread p ez = record { cleared = ez; refused = λ q. (refl, refl); decoded = λ q. absurd (true≢false (sym p ∙ q)) }
 
     pub left : (words′ : List ℕ) {work′ output′ : List ℕ} → too-long-or-broken bytes ≡ false → length work ≡ 16384 → length output ≡ 16384
         → take (length bytes / 4) words′ ≡ words-of bytes → drop (length bytes / 4) words′ ≡ drop (length bytes / 4) words → work′ ≡ replicate (length work) 0
         → output′ ≡ output-after (eliminated (take (length bytes / 4) words′) (length work) (length output) 100000) output
         → Responded bytes words work output words′ work′ output′
     left words′ p ek eo ew er ez eout = record {
+      cleared = ez;
       refused = λ q. absurd (true≢false (sym q ∙ p));
       decoded = λ q. (
         sym (take-append-drop (length bytes / 4) words′) ∙ ap₂ (λ (x y : List ℕ). x ++ y) ew er,
-        ez,
         eout
             ∙ ap (λ (v : List ℕ). output-after (eliminated v (length work) (length output) 100000) output) ew
             ∙ ap₂ (λ (m n : ℕ). output-after (eliminated (words-of bytes) m n 100000) output) ek eo,

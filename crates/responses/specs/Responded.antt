@@ -10,16 +10,16 @@ use Rattle.rules.specs.Eliminate.{eliminated, output-after}
 use Rattle.decoding.specs.Words.{words-from, words-of}
 use Rattle.responses.specs.Response.{too-long-or-broken}
 
--- "Longer input, or a broken last word, is refusal 1": then all three stay. Otherwise the bytes' words stand in the first words of `words` and the
--- others stay, "each word of the work area is zero after the call", and the output is what the elimination leaves, refused or accepted.
+-- "The work area is all zero on every return." "Longer input, or a broken last word, is refusal 1": then the other two stay. Otherwise the bytes' words stand
+-- in the first words of `words` and the others stay, and the output is what the elimination leaves, refused or accepted.
 pub record Responded (bytes words work output words′ work′ output′ : List ℕ) : Type 0 where
-  pub refused : too-long-or-broken bytes ≡ true → (words′ ≡ words) × (work′ ≡ work) × (output′ ≡ output)
+  pub cleared : work′ ≡ replicate (length work) 0
+  pub refused : too-long-or-broken bytes ≡ true → (words′ ≡ words) × (output′ ≡ output)
   pub decoded : too-long-or-broken bytes ≡ false
       → (words′ ≡ words-of bytes ++ drop (length bytes / 4) words)
-      × (work′ ≡ replicate (length work) 0)
       × (output′ ≡ output-after (eliminated (words-of bytes) 16384 16384 100000) output)
 
 -- A word is no table, but it is decoded.
 a-word : Responded (7 ∷ 1 ∷ 0 ∷ 0 ∷ []) (1 ∷ 2 ∷ []) (3 ∷ 4 ∷ []) (5 ∷ []) (263 ∷ 2 ∷ []) (0 ∷ 0 ∷ []) (5 ∷ [])
 unfolding is-whole read-header read-table eliminated words-from words-of
-a-word = record { refused = λ e. absurd (true≢false (sym e)); decoded = λ e. (refl, refl, refl) }
+a-word = record { cleared = refl; refused = λ e. absurd (true≢false (sym e)); decoded = λ e. (refl, refl) }

@@ -60,9 +60,11 @@ pub fn respond(
 {
     let refused = [1, 0, 0];
     if 65536 < bytes.len() {
+        moves::clear(work);
         return text::print_line(text, 0, &refused);
     }
     if bytes.len() % 4 != 0 {
+        moves::clear(work);
         return text::print_line(text, 0, &refused);
     }
     decoding::decode(bytes, words);

@@ -20,7 +20,7 @@ use Rattle.rules.specs.Step.{Stepped, next, stopped, after-division, remainder-
 use Rattle.records.specs.Records.{view}
 use Rattle.branches.specs.Words.{put-Q, put-Q-before, remove}
 use Rattle.branches.specs.Area.{Stored, Held, Leaves, Opened, with-open, without-P, without-Q, capacity, Held-in}
-use Rattle.branches.proofs.LengthLaws.{same-capacity}
+use Rattle.branches.proofs.LengthLaws.{same-capacity, held-by}
 use Rattle.branches.specs.laws.Words.{length-remove, each-remove}
 use Rattle.representation.specs.Represent.{Sound, branch-of, system-of, state-of, with-new, Monic}
 use Rattle.representation.specs.laws.Lists.{sound-at}
@@ -270,7 +270,7 @@ module _ {p k : ℕ} {f : Poly} {closing : Bool} {place left₀ : ℕ} {w₀ w :
           let s = A .some in
           let b = taken-out closing place left (s .0) in
           let held = was-put (s .0) (s .1) (s .2) (s .3) (s .4) (s .5) .otherwise t in
-          (b, s .1, s .2, subst (λ (m : ℕ). Held (view v) m (with-open b (s .1) (s .2))) (sym (same-capacity v w₀ (B .same ∙ A .same))) held)
+          (b, s .1, s .2, held-by _ _ w₀ v (sym (B .same ∙ A .same)) held)
 
       -- Where there is room, the members go on; else the step stops, and the member stays out.
       pub member-put-back :

@@ -14,7 +14,8 @@ use Rattle.records.specs.Records.{view}
 use Rattle.branches.specs.declared.Listed.{Listed}
 use Rattle.branches.specs.Listed.{listed-of}
 use Rattle.branches.specs.Area.{Stored, Area, Held, Opened, has-branch, with-open, capacity, Held-in}
-use Rattle.branches.proofs.LengthLaws.{same-capacity}
+use Rattle.branches.proofs.ControlLaws.{count-is}
+use Rattle.branches.proofs.LengthLaws.{same-capacity, held-by}
 use Rattle.representation.specs.Represent.{branch-of, system-of, state-of}
 use Rattle.pivots.specs.declared.Division.{Division}
 use Rattle.steps.specs.declared.Prepared.{Prepared}
@@ -76,7 +77,7 @@ module _ {p : ℕ} {w t i v : List ℕ} where
     pub prepared-open : Some-open p w → Opened v
     prepared-open s =
         let x = P .answers (s .0) (s .1) (s .2) (s .3) (s .4) .1 in
-        (x .0, s .1, s .2, subst (λ (m : ℕ). Held (view v) m (with-open (x .0) (s .1) (s .2))) (sym (same-capacity v w (P .same))) (x .1))
+        (x .0, s .1, s .2, held-by _ _ w v (sym (P .same)) (x .1))
 
   module _ {d : Division} (P : Preparation p w (Members d) t i v) where
     pub prepared-pivot : Some-open p w → Pivot-in p d t i
@@ -165,8 +166,11 @@ module _ {p limit from : ℕ} {w₀ w : List ℕ} {steps : ℕ} (A : AtRun p lim
   capacity-kept : capacity w ≡ capacity w₀
   capacity-kept = same-capacity w w₀ (A .same)
 
+  held-now : {a : Area} → Held (view w) (capacity w₀) a → Held-in w a
+  held-now H = held-by _ _ w₀ w (sym (A .same)) H
+
   pub run-holds-some : (a : Area) × Held-in w a
-  run-holds-some = let s = A .some in (s .0, subst (λ (m : ℕ). Held (view w) m (s .0)) (sym capacity-kept) (s .1))
+  run-holds-some = let s = A .some in (s .0, held-now (s .1))
 
   pub run-paused : (v : List ℕ) → v ≡ w → Answers p limit from w₀ (paused steps) v
   run-paused v e = subst (Answers p limit from w₀ (paused steps)) (sym e) (λ a₀ H₀ R₀. (A .within, A .all a₀ H₀ R₀))
@@ -176,13 +180,13 @@ module _ {p limit from : ℕ} {w₀ w : List ℕ} {steps : ℕ} (A : AtRun p lim
     pub run-finished : (l : Listed) → ((a : Area) → Held-in w a → l ≡ listed-of (capacity w) a) → Answers p limit from w₀ (ended steps (Systems (l .count))) w
     run-finished l told a₀ H₀ R₀ =
         let s = A .all a₀ H₀ R₀ in
-        let H : Held-in w (s .0) = subst (λ (m : ℕ). Held (view w) m (s .0)) (sym capacity-kept) (s .1) in
+        let H = held-now (s .1) in
         let c = closed (s .0) (none (s .0) H) in
         let ss = s .0 .systems in
         let ends : run-in (capacity w₀) p (limit - from) from a₀ ≡ finished steps (reverse (map system-of ss)) =
         sym (s .3) ∙ ap (run-in (capacity w₀) p (limit - steps) steps) c ∙ run-ends (limits-in (capacity w₀)) p steps (limit - steps) ss in
         let count : l .count ≡ length (reverse (map system-of ss)) =
-        ap (λ (l : Listed). l .count) (told (s .0) H) ∙ sym (length-reverse (map system-of ss) ∙ length-map ss system-of) in
+        count-is H (told (s .0) H) ∙ sym (length-reverse (map system-of ss) ∙ length-map ss system-of) in
         subst (λ (E : Ended). Ran E p steps (Systems (l .count)) (view w) (capacity w₀)) (sym ends) (
         record {
           steps = refl;
@@ -199,7 +203,7 @@ module _ {p limit from : ℕ} {w₀ w : List ℕ} {steps : ℕ} (A : AtRun p lim
         × (run-in (capacity w₀) p (limit - steps) steps (with-open b bs ss) ≡ run-in (capacity w₀) p (limit - from) from a₀)
     run-open a₀ H₀ R₀ =
         let s = A .all a₀ H₀ R₀ in
-        let o = opened (s .0) (some (s .0) (subst (λ (m : ℕ). Held (view w) m (s .0)) (sym capacity-kept) (s .1))) in (
+        let o = opened (s .0) (some (s .0) (held-now (s .1))) in (
           o .0,
           o .1,
           s .0 .systems,
@@ -211,7 +215,7 @@ module _ {p limit from : ℕ} {w₀ w : List ℕ} {steps : ℕ} (A : AtRun p lim
     pub run-open-some : Some-open p w
     run-open-some =
         let s = A .some in
-        let h = subst (λ (m : ℕ). Held (view w) m (s .0)) (sym capacity-kept) (s .1) in
+        let h = held-now (s .1) in
         let o = opened (s .0) (some (s .0) h) in
         (o .0, o .1, s .0 .systems, subst (Held-in w) (o .2) h, subst (Ready p) (o .2) (s .2))
 
@@ -220,7 +224,7 @@ module _ {p limit from : ℕ} {w₀ w : List ℕ} {steps : ℕ} (A : AtRun p lim
         → ((a₀ : Area) → Held-in w₀ a₀ → Ready p a₀ → refused steps why ≡ run-in (capacity w₀) p (limit - from) from a₀)
         → Answers p limit from w₀ (ended steps (Refused why 0)) v
     refused-all why v same o ends a₀ H₀ R₀ =
-        let held = subst (λ (m : ℕ). Held (view v) m (with-open (o .0) (o .1) (o .2))) (same-capacity v w₀ same) (o .3) in
+        let held = held-by _ _ v w₀ same (o .3) in
         subst (λ (E : Ended). Ran E p steps (Refused why 0) (view v) (capacity w₀)) (ends a₀ H₀ R₀)
         (record { steps = refl; outcome = refl; left = (o .0, o .1, o .2, held) })
 

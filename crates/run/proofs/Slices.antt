@@ -29,10 +29,10 @@ pub record Kept (a b : Slices) : Type 0 where
   pub x : length (b .x) ≡ length (a .x)
   pub y : length (b .y) ≡ length (a .y)
   pub z : length (b .z) ≡ length (a .z)
-  pub out : outside (b .w) ≡ outside (a .w)
+  pub outside-w : outside (b .w) ≡ outside (a .w)
 
 pub kept-all : {a : Slices} → Kept a a
-kept-all = record { w = refl; t = refl; i = refl; r = refl; x = refl; y = refl; z = refl; out = refl }
+kept-all = record { w = refl; t = refl; i = refl; r = refl; x = refl; y = refl; z = refl; outside-w = refl }
 
 pub kept-then : {a b c : Slices} → Kept a b → Kept b c → Kept a c
 kept-then K L = record {
@@ -43,7 +43,7 @@ kept-then K L = record {
   x = L .x ∙ K .x;
   y = L .y ∙ K .y;
   z = L .z ∙ K .z;
-  out = L .out ∙ K .out;
+  outside-w = L .outside-w ∙ K .outside-w;
 }
 
 -- What the run asks of the scratch: the initial of a pivot that fits t fits i, every member fits r, and what fits x fits r, y and z.

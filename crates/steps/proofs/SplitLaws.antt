@@ -1,4 +1,4 @@
--- Rule 3 done, or stopped for want of room: then the branch stays open.
+-- Rule 3 done, or stopped for want of room: then a branch is open.
 use mathlib.Core.Path.{_≡_, refl, sym, ap, subst, _∙_}
 use mathlib.Core.Logic.{_≢_}
 use mathlib.Core.Bool.{Bool, true, false}

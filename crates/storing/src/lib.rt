@@ -7,7 +7,7 @@ ghost use Rattle.records.specs.Records.{room, view, Records-become};
 ghost use Rattle.stored.specs.Stored.{poly-records, inserted, removed, Storable};
 
 // Stores f from record `at` on.
-pub fn store(w: &mut [u32], at: usize, f: &[u64])
+fn store(w: &mut [u32], at: usize, f: &[u64])
     requires { ⌜ Storable (now f) ⌝ }
     requires { ⌜ at + (length (now f) / 2 + 1) ≤ room (now w) ⌝ }
     ensures { λ _. ⌜ Records-become (paste (view (now (w .entry))) at (poly-records (now (f .entry))) (length (now (f .entry)) / 2 + 1)) (now (w .entry)) (now (w .exit)) ⌝ }

@@ -1,7 +1,7 @@
 -- `is_one` meets its contract: two words, of which the first is 1 and the second is 0.
 use mathlib.Core.Path.{_≡_, refl, sym, ap, ap₂, _∙_}
 use mathlib.Core.Logic.{_≢_}
-use mathlib.Core.Bool.{Bool, true, false, _&&_}
+use mathlib.Core.Bool.{Bool, true, false, _&&_, and-true}
 use mathlib.Core.List.{List, [], _∷_}
 use Prim.Native.Nat.{ℕ}
 use native.Mathlib.Omega.{arith}
@@ -10,20 +10,14 @@ use borrow.Author.Tests.{eq-eqb, ne-eqb}
 use lib.Dec.{eqb}
 use lib.ListN.{length, getD}
 use Rattle.stored.specs.Stored.{same}
+use Rattle.finding.proofs.Laws.{same-lengths}
 use Rattle.branches.specs.Words.{is-one}
 use Rattle.branches.proofs.is_one.Statement.{statement}
 use Rattle.branches.proofs.is_one.Tie as tie
 
-and-false : (a : Bool) → a && false ≡ false
-and-false true = refl
-and-false false = refl
-
 other-length : (f : List ℕ) → length f ≢ 2 → is-one f ≡ false
-unfolding is-one same
-other-length [] h = refl
-other-length (c ∷ []) h = and-false (eqb c 1)
-other-length (c ∷ (m ∷ [])) h = absurd (h refl)
-other-length (c ∷ (m ∷ (d ∷ f))) h = ap (λ (t : Bool). eqb c 1 && t) (and-false (eqb m 0)) ∙ and-false (eqb c 1)
+unfolding is-one
+other-length f h = same-lengths f (1 ∷ 0 ∷ []) h
 
 two-words : (f : List ℕ) → length f ≡ 2 → is-one f ≡ eqb (getD f 0 0) 1 && (eqb (getD f 1 0) 0 && true)
 unfolding is-one same
@@ -31,10 +25,6 @@ two-words [] h = absurd (omega arith)
 two-words (c ∷ []) h = absurd (omega arith)
 two-words (c ∷ (m ∷ [])) h = refl
 two-words (c ∷ (m ∷ (d ∷ f))) h = absurd (omega arith)
-
-and-true : (a : Bool) → a && true ≡ a
-and-true true = refl
-and-true false = refl
 
 returns : tie.Need-returns
 returns c = sym (other-length _ (c .if1 .taken))

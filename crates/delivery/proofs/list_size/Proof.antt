@@ -1,21 +1,10 @@
 -- `list_size` meets its contract: the systems lie from where they start to the end of the work area.
-use mathlib.Core.Path.{_≡_, ap}
-use mathlib.Core.List.{List, []}
-use Prim.Native.Nat.{_-_}
 use native.Mathlib.Omega.{arith}
 use borrow.Author.Needs.{needs}
-use lib.ListN.{length}
-use Rattle.branches.specs.declared.Listed.{Listed}
-use Rattle.branches.specs.Area.{Stored, capacity, systems-records, Held-in}
 use Rattle.branches.proofs.ControlLaws.{top-inside}
 use Rattle.delivery.proofs.DeliverLaws.{records-needed}
 use Rattle.delivery.proofs.list_size.Statement.{statement}
 use Rattle.delivery.proofs.list_size.Tie as tie
-
--- Where the systems start.
-top-is : (r : tie.After-listed-systems) {ss : List Stored} → let w = r .before .before .args .work .now in Held-in w (record { branches = []; systems = ss })
-    → r .listed-systems .result .top ≡ capacity w - length (systems-records ss)
-top-is r h = ap (λ (l : Listed). l .top) (r .listed-systems .ensures _ h)
 
 listed-systems-requires : tie.Need-listed-systems-requires
 listed-systems-requires c κs = (_, c .before .pre .1)
@@ -27,13 +16,13 @@ sub-result : tie.Need-sub-result
 sub-result c =
     let n = c .before in
     let h = n .before .before .before .pre .1 in
-    omega (arith, top-inside h, top-is (n .before) h, n .count-records .ensures)
+    omega (arith, top-inside h (n .before .listed-systems .ensures _ h), n .count-records .ensures)
 
 add-result : tie.Need-add-result
 add-result c = search needs
 
 returns : tie.Need-returns
-returns c ss h l = let n = c .before in omega (arith, records-needed h l, top-is (n .before) h, n .count-records .ensures)
+returns c ss h l = let n = c .before in omega (arith, records-needed h (n .before .listed-systems .ensures _ h) l, n .count-records .ensures)
 
 pub list-size-spec : {M : Type 1} → statement M
 list-size-spec =

@@ -12,16 +12,16 @@ use Rattle.records.specs.Records.{view}
 use Rattle.tables.specs.Read.{Input, good, read-table}
 use Rattle.tables.specs.laws.Chains.{readable-words}
 use Rattle.rules.specs.Run.{Ended, start, run-of}
-use Rattle.branches.specs.Area.{Area, Held, capacity, outside, Held-in}
+use Rattle.branches.specs.Area.{Area, capacity, outside, Held-in}
 use Rattle.branches.proofs.LengthLaws.{same-capacity}
 use Rattle.representation.specs.Ready.{Ready, Modulus, limits-in}
 use Rattle.run.specs.declared.Answer.{Answer}
-use Rattle.run.specs.Stretch.{Ran}
+use Rattle.run.specs.Stretch.{Ran, Left}
 use Rattle.loading.specs.Started.{Started}
 use Rattle.loading.proofs.MonicLaws.{readable-modulus}
 use Rattle.tables.specs.laws.Accepted.{TableRead, table-read}
 use Rattle.scratch.proofs.StretchLaws.{Runs, runs-from-0}
-use Rattle.elimination.proofs.WholeLaws.{no-room, no-room-leaves, started-in-two, begins, run-is, left-holds, in-words}
+use Rattle.elimination.proofs.WholeLaws.{no-room, no-room-leaves, run-leaves, started-in-two, begins, run-is, in-words}
 use Rattle.elimination.proofs.eliminate_accepted.Statement.{statement}
 use Rattle.elimination.proofs.eliminate_accepted.Tie as tie
 
@@ -143,10 +143,7 @@ returns c =
     let none = not-true (f .start .result) (c .if1 .taken) in (
       λ t e. in-words (s .args .work .now) (room s) (s .args .limit) t
           (no-room t (most s) (s .args .limit) (view (area f)) (begun f t e) (room s) (s .args .output .now) none),
-      (
-        (no-room-leaves (s .pre .0) (most s) (s .args .limit) (view (area f)) (begun f (s .pre .0) (s .pre .1)) none, f .start .ensures .1 .0),
-        f .start .ensures .1 .1,
-      ),
+      (λ t e. no-room-leaves t (most s) (s .args .limit) (view (area f)) (begun f t e) none, (f .start .ensures .1 .0, f .start .ensures .1 .1)),
     )
 
 shared-slice-read-p : tie.Need-shared-slice-read-p
@@ -189,16 +186,13 @@ returns-2 c =
     let d = c .before .before in
     let n = delivers (d .before) in
     let s = entry (from-start n) in
-    let r = ran n (s .pre .0) (s .pre .1) in
     let f = from-start n in
     let two = started-in-two (s .pre .0) (most s) (s .args .limit) (view (area f)) (begun f (s .pre .0) (s .pre .1)) (found-room (run-due n)) in (
       λ t e. in-words (s .args .work .now) (room s) (s .args .limit) t (d .deliver .ensures t (due s t) e (ran n t e)),
       (
-        (
-          λ h. subst (λ (k : ℕ). (a : Area) × Held (view (left n)) k a) (sym (left-room n)) (left-holds (due s (s .pre .0)) _ (r .left)),
-          λ h. absurd (omega (arith, h, two)),
-        ),
-        has-run n .2 ∙ from-start n .start .ensures .1 .1,
+        λ t e. run-leaves t (most s) (s .args .limit) (view (area f)) (begun f t e) (found-room (run-due n))
+            (subst (Left (due s t) (t .modulus) (view (left n))) (sym (left-room n)) (ran n t e .left)),
+        (λ h. absurd (omega (arith, h, two)), has-run n .2 ∙ f .start .ensures .1 .1),
       ),
     )
 

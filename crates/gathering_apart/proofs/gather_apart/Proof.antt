@@ -1,4 +1,4 @@
--- `gather_apart` meets its contract: so `gather_in` ends.
+-- `gather_apart` meets its contract: it ends as `gather_in` does in buffers of 8,192 words.
 use native.Mathlib.Omega.{arith}
 use borrow.Author.Needs.{needs}
 use Rattle.gathering_apart.proofs.gather_apart.Statement.{statement}

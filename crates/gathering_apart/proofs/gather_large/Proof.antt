@@ -1,4 +1,4 @@
--- `gather_large` meets its contract: so `gather_in` ends. 66,816 words suffice for any two factors.
+-- `gather_large` meets its contract: it ends as `gather_in` does, and 66,816 words suffice for any two factors.
 use mathlib.Core.Path.{sym, subst}
 use Prim.Native.Nat.{ℕ, _≤_}
 use native.Mathlib.Omega.{arith}

@@ -14,8 +14,8 @@ use Rattle.tables.specs.laws.Chains.{readable-words}
 use Rattle.tables.specs.laws.Accepted.{TableRead, table-read}
 use Rattle.branches.specs.Area.{capacity, outside}
 use Rattle.branches.proofs.LengthLaws.{same-capacity}
-use Rattle.loading.specs.Started.{Alone, Filled, no-polynomial}
-use Rattle.loading.proofs.StartLaws.{alone-empty, with-zeros, start-none, start-fails, start-put}
+use Rattle.loading.specs.Started.{Alone, Filled}
+use Rattle.loading.proofs.StartLaws.{no-polynomial, alone-empty, with-zeros, start-none, start-fails, start-put}
 use Rattle.loading.proofs.start.Statement.{statement}
 use Rattle.loading.proofs.start.Tie as tie
 

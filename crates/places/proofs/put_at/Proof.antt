@@ -94,12 +94,12 @@ returns-2 c =
     let i = insert-of (k .before) in
     let s = room-of i in
     let r = s .before in
-    let A = opened r in (
+    let some = opened r in (
       λ b bs ss A. leaves-held
           (held-put (A .held) (end-read r .get1 .ensures) (A .adds) (A .there) (r .get2 .ensures) (s .if1 .left) (i .insert .ensures .0) (start r .pre .0) (A .counts)
           (k .resize .ensures .0)),
       outside-stays (w r) (k .resize .last .0) (k .resize .kept .0 ∙ i .insert .kept .0) (k .resize .ensures .0, k .resize .ensures .1 ∙ i .insert .ensures .1)
-          (beyond-put (A .held) (end-read r .get1 .ensures) (A .adds) (A .there) (r .get2 .ensures) (s .if1 .left) (i .insert .ensures .0) _ _ _),
+          (beyond-put (some .held) (end-read r .get1 .ensures) (some .adds) (some .there) (r .get2 .ensures) (s .if1 .left) (i .insert .ensures .0) _ _ _),
     )
 
 pub put-at-spec : {M : Type 1} → statement M

@@ -92,10 +92,10 @@ returns c =
     let m = remove-of (s .before) in
     let n = size-of m in
     let r = from-size n in
-    let A = opened r in (
+    let some = opened r in (
       λ b bs ss A. held-take (A .held) (r .get1 .ensures) (A .takes) (A .there) (n .get0 .ensures) (m .remove .ensures .0) (A .counts) (s .resize .ensures .0),
       outside-stays (w r) (s .resize .last .0) (s .resize .kept .0 ∙ m .remove .kept .0) (s .resize .ensures .0, s .resize .ensures .1 ∙ m .remove .ensures .1)
-          (beyond-take (A .held) (r .get1 .ensures) (A .takes) (A .there) (n .get0 .ensures) (m .remove .ensures .0) _ _ _),
+          (beyond-take (some .held) (r .get1 .ensures) (some .takes) (some .there) (n .get0 .ensures) (m .remove .ensures .0) _ _ _),
     )
 
 pub take-at-spec : {M : Type 1} → statement M

@@ -54,7 +54,7 @@ module _ {b : Stored} {bs ss : List Stored} where
   found-is : (c : tie.After-contains) → Entry (from-contains c) b bs ss → member (f (from-contains c)) (b .P) ≡ c .contains .result
   found-is c H = let r = from-contains c in sym (c .contains .ensures ∙ ap (member (f r)) (all-P H (open-is r H)))
 
-  -- f goes in there.
+  -- f goes in behind P.
   put : (c : tie.After-skip) → let r = from-place c in
       Entry r b bs ss → Put-at (w r) (c .skip .result) (f r) (o r .p + 1) (o r .q) (o r .t) (put-into-P (f r) b) bs ss
   put c H =

@@ -64,7 +64,7 @@ module _ {b : Stored} {bs ss : List Stored} where
   found-is c H =
       let r = from-skip (skip-of c) in sym (c .contains .ensures ∙ ap (member (f r)) (seen-Q H (open-is r H) (skip-of c .skip .ensures) (left r)))
 
-  -- f goes in there.
+  -- f goes in behind the members of Q that are looked at.
   put : (c : tie.After-skip2) → let r = from-place c in
       Entry r b bs ss → Put-at (w r) (c .skip2 .result) (f r) (o r .p) (o r .q + 1) (o r .t) (put-into-Q (left r) (f r) b) bs ss
   put c H =

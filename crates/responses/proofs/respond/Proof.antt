@@ -5,7 +5,7 @@ use native.Mathlib.Omega.{arith}
 use borrow.Author.Needs.{needs}
 use lib.ListN.{length, take}
 use lib.Seq.{length-take-le}
-use Rattle.responses.proofs.ResponseLaws.{too-long, broken, whole-words, refused, answered, untouched, left}
+use Rattle.responses.proofs.ResponseLaws.{too-long, broken, whole-words, refused, answered, unread, left}
 use Rattle.responses.proofs.respond.Statement.{statement}
 use Rattle.responses.proofs.respond.Tie as tie
 
@@ -21,6 +21,9 @@ abbrev decoded : tie.After-eliminate → tie.After-decode
 decoded c = c .before .before .before .before .before .before
 
 -- ── the needs ──
+clear-requires : tie.Need-clear-requires
+clear-requires c κs = search needs
+
 slice-aggregate-print-line : tie.Need-slice-aggregate-print-line
 slice-aggregate-print-line c = search needs
 
@@ -30,13 +33,20 @@ print-line-requires c κs = search needs
 same-length : tie.Need-same-length
 same-length c = search needs
 
+same-length-2 : tie.Need-same-length-2
+same-length-2 c = search needs
+
 returns : tie.Need-returns
 returns c =
     let e = c .before .before .print-line .ensures in
-    let i = c .before .before .before .before .before in
+    let k = c .before .before .before .before .before .before .before in
+    let i = k .before .before in
     let a = i .before .before .before .before .before .before .args in
     let long = too-long (a .bytes .now) (omega (arith, i .if1 .taken)) in
-    ((e .0, refused (a .bytes .now) long (e .1 (omega arith) .is)), untouched (a .bytes .now) (a .words .now) (a .work .now) (a .output .now) long)
+    ((e .0, refused (a .bytes .now) long (e .1 (omega arith) .is)), unread (a .bytes .now) (a .words .now) (a .work .now) (a .output .now) long (k .clear .ensures))
+
+clear-requires-2 : tie.Need-clear-requires-2
+clear-requires-2 c κs = search needs
 
 slice-aggregate-print-line-2 : tie.Need-slice-aggregate-print-line-2
 slice-aggregate-print-line-2 c = search needs
@@ -44,16 +54,20 @@ slice-aggregate-print-line-2 c = search needs
 print-line-requires-2 : tie.Need-print-line-requires-2
 print-line-requires-2 c κs = search needs
 
-same-length-2 : tie.Need-same-length-2
-same-length-2 c = search needs
+same-length-3 : tie.Need-same-length-3
+same-length-3 c = search needs
+
+same-length-4 : tie.Need-same-length-4
+same-length-4 c = search needs
 
 returns-2 : tie.Need-returns-2
 returns-2 c =
     let e = c .before .before .print-line2 .ensures in
-    let i = c .before .before .before .before .before in
+    let k = c .before .before .before .before .before .before .before in
+    let i = k .before .before in
     let a = i .before .before .before .before .before .before .before .args in
     let part = broken (a .bytes .now) (λ z. i .if2 .taken (omega (arith, z))) in
-    ((e .0, refused (a .bytes .now) part (e .1 (omega arith) .is)), untouched (a .bytes .now) (a .words .now) (a .work .now) (a .output .now) part)
+    ((e .0, refused (a .bytes .now) part (e .1 (omega arith) .is)), unread (a .bytes .now) (a .words .now) (a .work .now) (a .output .now) part (k .clear2 .ensures))
 
 decode-requires : tie.Need-decode-requires
 decode-requires c κs = search needs
@@ -73,17 +87,17 @@ eliminate-requires c κs = search needs
 put-answer-requires : tie.Need-put-answer-requires
 put-answer-requires c κs = search needs
 
-same-length-3 : tie.Need-same-length-3
-same-length-3 c = search needs
-
-same-length-4 : tie.Need-same-length-4
-same-length-4 c = search needs
-
 same-length-5 : tie.Need-same-length-5
 same-length-5 c = search needs
 
 same-length-6 : tie.Need-same-length-6
 same-length-6 c = search needs
+
+same-length-7 : tie.Need-same-length-7
+same-length-7 c = search needs
+
+same-length-8 : tie.Need-same-length-8
+same-length-8 c = search needs
 
 returns-3 : tie.Need-returns-3
 returns-3 c =
@@ -109,21 +123,25 @@ pub respond-spec : {M : Type 1} → statement M
 respond-spec =
     tie.close
     (tie.spec
+    clear-requires
     slice-aggregate-print-line
     print-line-requires
     same-length
+    same-length-2
     returns
+    clear-requires-2
     slice-aggregate-print-line-2
     print-line-requires-2
-    same-length-2
+    same-length-3
+    same-length-4
     returns-2
     decode-requires
     slice-reshare-prefix-eliminate
     slice-aggregate-eliminate
     eliminate-requires
     put-answer-requires
-    same-length-3
-    same-length-4
     same-length-5
     same-length-6
+    same-length-7
+    same-length-8
     returns-3)

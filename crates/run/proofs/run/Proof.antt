@@ -157,21 +157,21 @@ division-again c = let m = to-rounded c in (rounds-go-on c, kept-then (rounds-ke
 returns : Of tie.Need-returns
 returns c =
     let m = c .before .before in
-    (run-finished (run-invariant (none-in m)) (none-open m) (c .listed-systems .result) (c .listed-systems .ensures), (final-not-paused, kept-at-turn (none-in m) .out))
+    (run-finished (run-invariant (none-in m)) (none-open m) (c .listed-systems .result) (c .listed-systems .ensures), (final-not-paused, kept-at-turn (none-in m) .outside-w))
 
 returns-2 : Of tie.Need-returns-2
 returns-2 c =
     let m = c .before in
-    (run-no-steps (run-invariant (to-turn m)) (all-open m) (c .if2 .taken), (final-not-paused, kept-at-turn (to-turn m) .out))
+    (run-no-steps (run-invariant (to-turn m)) (all-open m) (c .if2 .taken), (final-not-paused, kept-at-turn (to-turn m) .outside-w))
 
 returns-3 : Of tie.Need-returns-3
-returns-3 c = let P = crowded-pauses c in (P .0, (λ e. P .1, kept-at-turn (crowded-run c) .out))
+returns-3 c = let P = crowded-pauses c in (P .0, (λ e. P .1, kept-at-turn (crowded-run c) .outside-w))
 
 returns-4 : Of tie.Need-returns-4
-returns-4 c = let P = pivot-pauses c in (P .0, (λ e. P .1, kept-at-prepared (crowded-in c) .out))
+returns-4 c = let P = pivot-pauses c in (P .0, (λ e. P .1, kept-at-prepared (crowded-in c) .outside-w))
 
 returns-5 : Of tie.Need-returns-5
-returns-5 c = (step-stops c, (final-not-paused, kept-at-prepared (stopped-in c) .out))
+returns-5 c = (step-stops c, (final-not-paused, kept-at-prepared (stopped-in c) .outside-w))
 
 returns-6 : Of tie.Need-returns-6
 returns-6 c =
@@ -180,7 +180,7 @@ returns-6 c =
     let e = formed-degree _ (round-call m .round-anywhere .result) _ (c .enum-told3 .given .1) (round-forms m) in
     let A = member-out (to-taken d) in
     let s = member-degree A (passes m degree-passed (λ g. refl) e) in
-    (left-stops (division-of d) Degree (at-rounded m .w) (kept-at-round m .w) (member-open A) s, (final-not-paused, kept-at-round m .out))
+    (left-stops (division-of d) Degree (at-rounded m .w) (kept-at-round m .w) (member-open A) s, (final-not-paused, kept-at-round m .outside-w))
 
 returns-7 : Of tie.Need-returns-7
 returns-7 c =
@@ -189,13 +189,13 @@ returns-7 c =
     let e = formed-terms _ (round-call m .round-anywhere .result) _ (c .enum-told4 .given .1) (round-forms m) in
     let A = member-out (to-taken d) in
     let s = member-terms A (passes m terms-passed (λ g. refl) e) in
-    (left-stops (division-of d) Terms (at-rounded m .w) (kept-at-round m .w) (member-open A) s, (final-not-paused, kept-at-round m .out))
+    (left-stops (division-of d) Terms (at-rounded m .w) (kept-at-round m .w) (member-open A) s, (final-not-paused, kept-at-round m .outside-w))
 
 returns-8 : Of tie.Need-returns-8
 returns-8 c =
     let m = c .before in
     let s = member-goes m .1 (not-true (fits m) (c .if6 .taken)) in
-    (left-stops (division-of (put-of m)) Room (at-put m .w) (kept-at-put m .w) (s .1) (s .0), (final-not-paused, kept-at-put m .out))
+    (left-stops (division-of (put-of m)) Room (at-put m .w) (kept-at-put m .w) (s .1) (s .0), (final-not-paused, kept-at-put m .outside-w))
 
 -- The needs between the returns: the seven slices lent are as long as they were.
 pub run-spec : {M : Type 1} → statement M

@@ -1,5 +1,5 @@
 -- `write_list` meets its contract. The invariant: from record `end` on stand the systems walked over, in list order, and `next` is their index.
-use mathlib.Core.Path.{_≡_, refl, sym, ap}
+use mathlib.Core.Path.{_≡_, refl, sym}
 use mathlib.Core.Logic.{⊎-elim}
 use mathlib.Core.List.{List, [], _∷_, map, reverse}
 use Prim.Native.Nat.{_+_, _-_}
@@ -7,9 +7,8 @@ use native.Mathlib.Omega.{arith}
 use lib.ListN.{length}
 use borrow.Author.Needs.{needs}
 use Rattle.records.specs.Records.{view}
-use Rattle.branches.specs.declared.Listed.{Listed}
-use Rattle.branches.specs.Area.{Stored, capacity, systems-records, Held-in}
-use Rattle.branches.proofs.ControlLaws.{top-some, top-inside}
+use Rattle.branches.specs.Area.{Stored, capacity, Held-in}
+use Rattle.branches.proofs.ControlLaws.{top-is, count-is, top-some, top-inside}
 use Rattle.representation.specs.Represent.{system-of}
 use Rattle.writing.proofs.Walk.{Walked, list-some, begins, Turn, turn, finished, list-written}
 use Rattle.writing.proofs.write_list.Statement.{statement}
@@ -47,11 +46,6 @@ turn-asked : (c : tie.In-loop Inv-loop μ-loop) → At c (c .before .before .bef
 turn-asked c = turn-of c (c .before .before .before .before .before .before .before .before .before .before .before .pre .0 .0)
     (c .before .before .before .before .before .before .before .before .before .before .before .pre .0 .1)
 
--- Where the systems start.
-top-is : (r : tie.After-listed-systems Inv-loop μ-loop) {ss : List Stored} → let w = r .before .before .before .args .w .now in Held-in w (record { branches = []; systems = ss })
-    → r .listed-systems .result .top ≡ capacity w - length (systems-records ss)
-top-is r h = ap (λ (l : Listed). l .top) (r .listed-systems .ensures _ h)
-
 listed-systems-requires : tie.Need-listed-systems-requires Inv-loop μ-loop
 listed-systems-requires c κs = let start = c .before .before in (_, start .pre .0 .1)
 
@@ -67,13 +61,15 @@ sub-end : tie.Need-sub-end Inv-loop μ-loop
 sub-end c =
     let h = c .before .before .before .before .before .before .before .before .before .pre .0 .1 in
     let most = c .before .before .before .before .before .count-records .ensures in
-    omega (arith, top-is (c .before .before .before .before .before .before) h, top-inside h, top-some h, h .few)
+    let told = c .before .before .before .before .before .before .listed-systems .ensures _ h in
+    omega (arith, top-inside h told, top-some h told, h .few)
 
 add-end : tie.Need-add-end Inv-loop μ-loop
 add-end c =
     let h = c .before .before .before .before .before .before .before .before .before .pre .0 .1 in
     let most = c .before .before .before .before .before .count-records .ensures in
-    omega (arith, top-is (c .before .before .before .before .before .before) h, top-inside h, top-some h, h .few)
+    let told = c .before .before .before .before .before .before .listed-systems .ensures _ h in
+    omega (arith, top-inside h told, top-some h told, h .few)
 
 loop-holds : tie.Need-loop-holds Inv-loop μ-loop
 loop-holds c =
@@ -90,7 +86,7 @@ loop-holds c =
             rest = ss;
             done = [];
             walk =
-                begins (view w) (capacity w) most ss d top (1 + (most - top)) h (sym (all .count-records .ensures)) (asked .1) (omega (arith, asked .0)) (top-is told h) refl;
+                begins (view w) (capacity w) most ss d top (1 + (most - top)) h (sym (all .count-records .ensures)) (asked .1) (omega (arith, asked .0)) (top-is h (told .listed-systems .ensures _ h)) refl;
           },
     )
 
@@ -156,7 +152,7 @@ returns c ss h =
     list-written ss (a .p) (a .n) (first .first) (told .listed-systems .result .count) (a .out .now) (put .last .0) (loop .out)
     (put .ensures .1)
     (omega (arith, start .pre .1 ss h .0, list-some (reverse (map system-of ss))))
-    (ap (λ (l : Listed). l .count) (told .listed-systems .ensures _ h))
+    (count-is h (told .listed-systems .ensures _ h))
     (λ h. ⊎-elim (λ w. omega arith) (λ w. omega arith) (first .came))
     (λ h. ⊎-elim (λ w. omega arith) (λ w. omega arith) (first .came))
     (finished v most ss (put .last .0) (loop .out) (loop .i) (loop .end) (loop .next) (w .rest) (w .done) (w .walk) (omega arith))

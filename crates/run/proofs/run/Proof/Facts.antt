@@ -98,7 +98,7 @@ module _ (m : StepPrepared) where
   prepare-keeps : Kept (at-turn (to-run m)) (at-prepared m)
   prepare-keeps =
       let k = prepare-call m .prepare .kept in
-      record { w = k .0; t = k .1 .1 .0; i = k .1 .1 .1 .0; r = k .1 .1 .1 .1 .0; x = refl; y = refl; z = refl; out = prepare-call m .prepare .ensures .1 .1 }
+      record { w = k .0; t = k .1 .1 .0; i = k .1 .1 .1 .0; r = k .1 .1 .1 .1 .0; x = refl; y = refl; z = refl; outside-w = prepare-call m .prepare .ensures .1 .1 }
 
   pub kept-at-prepared : Kept (at-entry (to-entry (to-run m))) (at-prepared m)
   kept-at-prepared = kept-then (kept-at-turn (to-run m)) prepare-keeps
@@ -196,7 +196,7 @@ module _ (m : MemberTaken) where
   take-keeps : Kept (at-members (to-members m)) (at-taken m)
   take-keeps =
       let k = take-call m .take .kept in
-      record { w = k .0; t = refl; i = refl; r = k .1 .1 .1 .1 .0; x = refl; y = refl; z = refl; out = take-call m .take .ensures .1 .1 }
+      record { w = k .0; t = refl; i = refl; r = k .1 .1 .1 .1 .0; x = refl; y = refl; z = refl; outside-w = take-call m .take .ensures .1 .1 }
 
   pub crowds-taken : Crowds (to-members m .members .crowded) (at-taken m)
   crowds-taken = to-members m .members .inv .2
@@ -288,7 +288,7 @@ module _ (m : RoundDone) where
   pub round-keeps : Kept (at-division (round-of m)) (at-rounded m)
   round-keeps =
       let k = round-call m .round-anywhere .kept .1 .1 .1 .1 .1 .1 in
-      record { w = refl; t = refl; i = refl; r = k .0; x = k .1 .1 .0; y = k .1 .1 .1 .0; z = k .1 .1 .1 .1 .0; out = refl }
+      record { w = refl; t = refl; i = refl; r = k .0; x = k .1 .1 .0; y = k .1 .1 .1 .0; z = k .1 .1 .1 .1 .0; outside-w = refl }
 
   pub kept-at-round : Kept (at-entry (entry-of (division-of (round-of m)))) (at-rounded m)
   kept-at-round = kept-then (kept-at-prepared (to-prepared (division-of (round-of m)))) (kept-then (division-keeps (round-of m)) round-keeps)
@@ -338,7 +338,7 @@ module _ (m : MemberPut) where
   put-back-keeps : Kept (at-division (put-of m)) (at-put m)
   put-back-keeps =
       let k = put-call m .put-back .kept in
-      record { w = k .0; t = refl; i = refl; r = k .1 .1 .1 .1 .0; x = refl; y = refl; z = refl; out = put-call m .put-back .ensures .1 .1 }
+      record { w = k .0; t = refl; i = refl; r = k .1 .1 .1 .1 .0; x = refl; y = refl; z = refl; outside-w = put-call m .put-back .ensures .1 .1 }
 
   pub member-keeps : Kept (at-found (division-of (put-of m))) (at-put m)
   member-keeps = kept-then (division-keeps (put-of m)) put-back-keeps
@@ -380,13 +380,13 @@ module _ (m : StepDone) where
       ⊎-elim
       (λ c. (
         subst Goes (sym (c .2)) (prepared-done (prepared-as P Done (c .1 .given .1))),
-        record { w = ap length (c .2); t = refl; i = refl; r = ap length (c .3); x = ap length (c .4); y = ap length (c .5); z = ap length (c .6); out = ap outside (c .2) },
+        record { w = ap length (c .2); t = refl; i = refl; r = ap length (c .3); x = ap length (c .4); y = ap length (c .5); z = ap length (c .6); outside-w = ap outside (c .2) },
         λ e. omega (arith, crowds-at-turn done-run (sym (c .7) ∙ e), ap length (c .4)),
       ))
       (λ c. (
         subst Goes (sym (c .5)) (members-done (prepared-as P (Members (c .1 .given .0 .0)) (c .1 .given .1)) (c .3 .inv .0) (omega (arith, c .4 .left))),
         kept-then (c .3 .inv .1)
-            record { w = ap length (c .5); t = refl; i = refl; r = ap length (c .6); x = ap length (c .7); y = ap length (c .8); z = ap length (c .9); out = ap outside (c .5) },
+            record { w = ap length (c .5); t = refl; i = refl; r = ap length (c .6); x = ap length (c .7); y = ap length (c .8); z = ap length (c .9); outside-w = ap outside (c .5) },
         λ e. omega (arith, c .3 .inv .2 (sym (c .10) ∙ e), ap length (c .7)),
       ))
       (m .match .came)

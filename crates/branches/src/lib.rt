@@ -1,6 +1,8 @@
 // The state of a run in the work area: the open branch, the waiting ones, and the listed systems; `specs/Area.antt` has the layout. How
 // many records it has; the listed systems (`specs/Listed.antt`); whether a polynomial is 1; and what is read of the open branch: its own record (`specs/Open.antt`), whether
 // Q holds a polynomial, and the words of one.
+#![tactic(auto)]
+
 ghost use Rattle.std.specs.Prelude.{◌≡◌, [], ◌≤◌, ◌<◌, length, get_or, take, drop};
 ghost use Rattle.stored.specs.Stored.{member, Storable};
 ghost use Rattle.branches.specs.Area.{Area, HeldIn, Opened, WhenOpen, capacity};
@@ -20,7 +22,7 @@ pub fn count_records(w: &[u32]) -> usize
 }
 
 // The listed systems: the record at which they start, and how many there are.
-#[derive(Drop)]
+#[derive(Clone, Copy)]
 pub struct Listed {
     pub top: usize,
     pub count: u32,
@@ -37,7 +39,7 @@ pub fn listed_systems(w: &[u32]) -> Listed
 }
 
 // The open branch: the record at which its polynomials start, and how many members P, Q and T have.
-#[derive(Drop)]
+#[derive(Clone, Copy)]
 pub struct Open {
     pub first: usize,
     pub p: u32,

@@ -1,4 +1,6 @@
 // Stored polynomials written as a chain: from the work area, where each is a head and its terms in a row, to the records of the output, linked.
+#![tactic(auto)]
+
 ghost use Rattle.std.specs.Prelude.{◌≡◌, map, ◌+◌, ◌*◌, ◌-◌, ◌≤◌, ◌<◌, length};
 ghost use Rattle.std.proofs.Math.Seq.{paste};
 ghost use Rattle.polynomials.specs.Packed.{terms};

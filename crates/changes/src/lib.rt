@@ -1,4 +1,6 @@
 // The open branch changed: a member of P or Q is taken out, or moved from P to T.
+#![tactic(auto)]
+
 ghost use Rattle.std.specs.Prelude.{◌≡◌, [], ◌<◌, length, get_or};
 ghost use Rattle.stored.specs.Stored.{Storable};
 ghost use Rattle.branches.specs.Area.{Opened, without_p, without_q, closed, WhenOpen, OpenBecomes, outside};
@@ -8,7 +10,7 @@ pub fn remove_p(w: &mut [u32], i: usize)
     requires opened { Opened w.old }
     requires when_open { WhenOpen w.old (λ b bs ss. i < length b.P) }
     ensures open_becomes { OpenBecomes (without_p i) w.old w.new }
-    ensures w_unchanged { outside w.new ≡ outside w.old }
+    ensures outside_stays { outside w.new ≡ outside w.old }
 {
     let b = branches::open_branch(w);
     let from = stored::skip(w, b.first, i);
@@ -20,7 +22,7 @@ pub fn remove_q(w: &mut [u32], i: usize)
     requires opened { Opened w.old }
     requires when_open { WhenOpen w.old (λ b bs ss. i < length b.Q) }
     ensures open_becomes { OpenBecomes (without_q i) w.old w.new }
-    ensures w_unchanged { outside w.new ≡ outside w.old }
+    ensures outside_stays { outside w.new ≡ outside w.old }
 {
     let b = branches::open_branch(w);
     let from = stored::skip(w, stored::skip(w, b.first, b.p as usize), i);
@@ -33,7 +35,7 @@ pub fn close(w: &mut [u32], i: usize, f: &[u64])
     requires when_open { WhenOpen w.old (λ b bs ss. (i < length b.P) × (get_or b.P i [] ≡ f.now)) }
     requires storable { Storable f.now }
     ensures open_becomes { OpenBecomes (closed i) w.old w.new }
-    ensures w_unchanged { outside w.new ≡ outside w.old }
+    ensures outside_stays { outside w.new ≡ outside w.old }
 {
     remove_p(w, i);
     let b = branches::open_branch(w);

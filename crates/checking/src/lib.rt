@@ -1,4 +1,6 @@
 // One polynomial of a table: its head, then its terms, to the first broken rule.
+#![tactic(auto)]
+
 ghost use Rattle.std.specs.Prelude.{◌≡◌, ◌≤◌, ◌<◌};
 ghost use Rattle.polynomials.specs.Packed.{bytes};
 ghost use Rattle.tables.specs.Words.{word, records};

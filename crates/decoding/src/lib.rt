@@ -1,4 +1,6 @@
 // Words from bytes, four to a word, the lowest first.
+#![tactic(auto)]
+
 ghost use Rattle.std.specs.Prelude.{◌≡◌, ◌+◌, ◌*◌, ◌/◌, ◌≤◌, length, take, drop};
 ghost use Rattle.decoding.specs.Words.{word_at, words_of};
 

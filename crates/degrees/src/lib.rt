@@ -1,4 +1,6 @@
 // Degrees of a polynomial: in one variable, an upper bound for all, and whether the sums of two polynomials' are over the bound.
+#![tactic(auto)]
+
 ghost use Rattle.std.specs.Prelude.{◌≡◌, ℕ, ◌+◌, ◌≤◌, ◌<◌, ltb, get_or};
 ghost use Rattle.polynomials.specs.Bounds.{at_most, degrees_over};
 ghost use Rattle.polynomials.specs.Division.{degree};

@@ -1,4 +1,6 @@
 // What an elimination hands over: its answer, and the systems of a finished run, written to the output if they fit.
+#![tactic(auto)]
+
 ghost use Rattle.std.specs.Prelude.{◌≡◌, List, [], map, reverse, ◌/◌, length};
 ghost use Rattle.records.specs.Records.{view};
 ghost use Rattle.tables.specs.Read.{Input, good, read_table};

@@ -1,5 +1,7 @@
 // One round of the division of R by T in v(k+1): R becomes I×R minus L×v(k+1)^(e−d)×T, with T of degree d and initial I,
 // R of degree e ≥ d, and L the coefficient of the highest power in R.
+#![tactic(auto)]
+
 ghost use Rattle.std.specs.Prelude.{◌≡◌, ◌+◌, ◌≤◌, ◌<◌, length, take};
 ghost use Rattle.polynomials.specs.Bounds.{standard, bounded_product, bounded_difference, bounded_round, and_then};
 ghost use Rattle.polynomials.specs.Division.{degree, coefficient};

@@ -1,4 +1,6 @@
 // Elimination of a table, whole: the run in the lent work area, and the written list.
+#![tactic(auto)]
+
 ghost use Rattle.std.specs.Prelude.{◌≡◌, ◌/◌, ◌<◌, length};
 ghost use Rattle.records.specs.Records.{view};
 ghost use Rattle.tables.specs.Read.{Input, good, read_table};
@@ -18,8 +20,8 @@ fn eliminate_accepted(table: &[u32], work: &mut [u32], output: &mut [u32], limit
     ensures delivered { (t : Input) → read_table table.now ≡ good t
         → Delivered (delivered (length output.old / 4) t (run_of (limits_of (length work.old)) limit t)) result output.old output.new }
     ensures worked { (t : Input) → read_table table.now ≡ good t → Worked t limit (capacity work.old) (view work.new) }
-    ensures work_unchanged { capacity work.old < 2 → work.new ≡ work.old }
-    ensures work_unchanged_2 { outside work.new ≡ outside work.old }
+    ensures too_small { capacity work.old < 2 → work.new ≡ work.old }
+    ensures outside_stays { outside work.new ≡ outside work.old }
 {
     let mut divided = [0u64; 512];
     if !loading::start(table, work, &mut divided) {

@@ -2,6 +2,8 @@
 // repetitions, how many words the table has, the words. A job prints a line with the best and the mean time of a call in nanoseconds, the
 // steps, and the outcome: 0 or the refusal's number. The time is the processor's, and the best is that of 16 batches of calls, since the clock
 // counts microseconds. The run ends with the input, or at a job that is cut short or too long for the buffers.
+#![tactic(auto)]
+
 mod timing;
 
 ghost use Rattle.std.specs.Prelude.{◌≡◌, ◌≤◌, length};

@@ -2,7 +2,7 @@
 ghost use Rattle.std.specs.Prelude.{◌≡◌, ◌<◌, min, max};
 
 // Nanoseconds of a call.
-#[derive(Drop)]
+#[derive(Clone, Copy)]
 pub struct Timing {
     pub best: u64,
     pub mean: u64,

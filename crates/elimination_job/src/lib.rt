@@ -1,4 +1,6 @@
 // A job of `elimination_jobs`: its shape, read from the input; its run; its first line.
+#![tactic(auto)]
+
 ghost use Rattle.std.specs.Prelude.{◌≡◌, [], ◌∷◌, ◌+◌, ◌≤◌, min, length, replicate};
 ghost use Rattle.rules.specs.Eliminate.{eliminated, output_after};
 ghost use Rattle.delivery.specs.Answer.{answer_of};
@@ -11,7 +13,7 @@ use lines::text;
 
 // What a job asks: words of the table, of the work area and of the output; what the latter two hold before; the words that the list is read
 // from; the number of points.
-#[derive(Drop)]
+#[derive(Clone, Copy)]
 pub struct Shape {
     pub limit: u32,
     pub table: usize,
@@ -22,14 +24,14 @@ pub struct Shape {
     pub points: u32,
 }
 
-#[derive(Drop)]
+#[derive(Clone, Copy)]
 pub enum Job {
     Next(Shape, Input),
     End,
 }
 
 // The first line of a job.
-#[derive(Drop)]
+#[derive(Clone, Copy)]
 pub struct Heading {
     pub outcome: u32,
     pub steps: u32,
@@ -118,7 +120,7 @@ pub fn run(table: &[u32], work: &mut [u32], output: &mut [u32], limit: u32, fill
     ensures value { result ≡ heading_of (answer_of (eliminated table.now (length work.old) (length output.old) limit)) 0 }
     ensures output_after { output.new ≡ output_after (eliminated table.now (length work.old) (length output.old) limit)
         (replicate (length output.old) filling) }
-    ensures work_after { work.new ≡ replicate (length work.old) 0 }
+    ensures work_cleared { work.new ≡ replicate (length work.old) 0 }
 {
     fill(work, filling);
     fill(output, filling);

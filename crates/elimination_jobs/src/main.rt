@@ -5,6 +5,8 @@
 // area are not zero afterwards; a line with all words of the output; and for each point a line with four numbers: 0 and 1 or 0 for yes or no
 // from the table, 0 and the place from the list, or in place of either a refusal's number and record.
 // The run ends with the input, or at a job that is cut short or too long for the buffers; what it printed before stays.
+#![tactic(auto)]
+
 ghost use Rattle.std.specs.Prelude.{◌≤◌, length};
 ghost use Rattle.lines.specs.Text.{Ends};
 

@@ -1,4 +1,6 @@
 // Polynomials of a table at a point: the value of one, and whether all of a chain are zero there, or none.
+#![tactic(auto)]
+
 ghost use Rattle.std.specs.Prelude.{◌≡◌, List, ◌≤◌, ◌<◌};
 ghost use Rattle.polynomials.specs.Poly.{Poly};
 ghost use Rattle.polynomials.specs.Value.{value_modulo, Point};

@@ -1,5 +1,7 @@
 // How many records a written list takes. It is told by the list alone: its records stand one behind the other, so that its last one is the last
 // term of the last head of the last system, or that head, that system or the header where there is none.
+#![tactic(auto)]
+
 ghost use Rattle.std.specs.Prelude.{◌≡◌, ◌≤◌, ◌<◌};
 ghost use Rattle.tables.specs.Words.{records};
 ghost use Rattle.extent.specs.Extent.{chain_last, extent};

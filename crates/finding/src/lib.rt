@@ -1,4 +1,6 @@
 // Stored polynomials compared with a working one.
+#![tactic(auto)]
+
 ghost use Rattle.std.specs.Prelude.{◌≡◌, ◌+◌, ◌≤◌, ◌<◌};
 ghost use Rattle.records.specs.Records.{room, view};
 ghost use Rattle.stored.specs.Stored.{size_at, words_at, skip_to, polys_at, same, member, Storable};

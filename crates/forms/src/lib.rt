@@ -1,4 +1,6 @@
 // Polynomials as words: whether words hold one, and whether two are equal.
+#![tactic(auto)]
+
 ghost use Rattle.std.specs.Prelude.{◌≡◌};
 ghost use Rattle.polynomials.specs.Poly.{equal};
 ghost use Rattle.polynomials.specs.Packed.{terms};

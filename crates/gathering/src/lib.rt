@@ -3,6 +3,8 @@
 // What is gathered can pass 256 terms and come back by cancelling. But a row cancels no more terms than it has, so the gathering
 // stops once the rows left can't bring it back: little more than half of all term products (`room_for`) is the most that a buffer must hold. Mostly it is far less:
 // a gathering goes on until a row finds no room.
+#![tactic(auto)]
+
 ghost use Rattle.std.specs.Prelude.{◌≡◌, false, ◌≤◌, ◌<◌, length};
 ghost use Rattle.polynomials.specs.Poly.{product};
 ghost use Rattle.polynomials.specs.Bounds.{at_most, degrees_over};
@@ -11,7 +13,7 @@ ghost use Rattle.polynomials.specs.Working.{Holds};
 ghost use Rattle.gathering.specs.Gathers.{Gathers, room_for};
 
 // How a gathering ends: with so many words, with more than 256 terms certain, or where the lent buffers are too short.
-#[derive(Drop)]
+#[derive(Clone, Copy)]
 pub enum Gathered {
     Words(usize),
     OverTerms,

@@ -1,4 +1,6 @@
 // Products gathered in buffers of their own, where the lent ones are too short.
+#![tactic(auto)]
+
 ghost use Rattle.std.specs.Prelude.{◌≡◌, false, ◌≤◌, ◌<◌, length};
 ghost use Rattle.polynomials.specs.Poly.{product};
 ghost use Rattle.polynomials.specs.Bounds.{standard, at_most, degrees_over, tested};

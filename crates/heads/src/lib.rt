@@ -1,4 +1,6 @@
 // What the heads and first terms of stored polynomials tell: whether one is zero or 1, and what leads.
+#![tactic(auto)]
+
 ghost use Rattle.std.specs.Prelude.{◌≡◌, map, ℕ, ◌+◌, ◌≤◌, ◌<◌};
 ghost use Rattle.polynomials.specs.Packed.{terms};
 ghost use Rattle.rules.specs.Branch.{is_one, some_one, some_zero, highest_leader};
@@ -72,7 +74,7 @@ pub fn leader_at(w: &[u32], i: usize) -> u32
 // The highest leading variable among the k polynomials from record `at` on.
 pub fn highest_leader(w: &[u32], at: usize, k: usize) -> u32
     requires k_bound { skip_to (view w.now) at k ≤ room w.now }
-    requires by_index { (p : ℕ) × AllHold p (polys_at (view w.now) at k) }
+    requires all_hold { (p : ℕ) × AllHold p (polys_at (view w.now) at k) }
     ensures { result ≡ highest_leader (map terms (polys_at (view w.now) at k)) }
 {
     let mut i = at;

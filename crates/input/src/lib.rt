@@ -1,5 +1,7 @@
 // Words from standard input by way of a buffer. What standard input holds is free: of a word that is read the contracts say where it stands in the
 // buffer, of words that stood in the buffer already that they are taken in order, none skipped, and of a buffer filled anew that its first is taken.
+#![tactic(auto)]
+
 ghost use Rattle.std.specs.Prelude.{◌≡◌, ◌+◌, length};
 ghost use Rattle.decoding.specs.Words.{word_at};
 ghost use Rattle.input.specs.Input.{Reached, Anew, Enough, Left, Ended, Taken, Within, Counted};
@@ -7,26 +9,26 @@ ghost use Rattle.input.specs.Input.{Reached, Anew, Enough, Left, Ended, Taken, W
 use libc::STDIN_FILENO;
 
 // The bytes of a buffer that are read and not yet used: from `at` up to `end`.
-#[derive(Drop)]
+#[derive(Clone, Copy)]
 pub struct Input {
     pub at: usize,
     pub end: usize,
 }
 
-#[derive(Drop)]
+#[derive(Clone, Copy)]
 pub enum Word {
     Read(u32, Input),
     End,
 }
 
-#[derive(Drop)]
+#[derive(Clone, Copy)]
 pub enum Filled {
     Full(Input),
     CutShort,
 }
 
 // The first words of a slice, or too few.
-#[derive(Drop)]
+#[derive(Clone, Copy)]
 pub enum Words {
     First(usize, Input),
     CutShort,

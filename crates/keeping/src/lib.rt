@@ -1,4 +1,6 @@
 // The branch that stays open at a split, built on top of the one set aside.
+#![tactic(auto)]
+
 ghost use Rattle.std.specs.Prelude.{◌≡◌, ◌∷◌, ◌≤◌, length};
 ghost use Rattle.records.specs.Records.{view};
 ghost use Rattle.stored.specs.Stored.{Storable};
@@ -14,7 +16,7 @@ pub fn keep_open(w: &mut [u32], i: usize, n: usize, f: &[u64], initial: &[u64]) 
     ensures when_open_2 { WhenOpen w.old (λ c bs ss.
         Leaves (capacity w.old) (with_open c bs ss) (with_open (kept_open i n f.now initial.now c) (c ∷ bs) ss)
         result (view w.new)) }
-    ensures w_unchanged { outside w.new ≡ outside w.old }
+    ensures outside_stays { outside w.new ≡ outside w.old }
 {
     let at = records::get0(w, 0) as usize;
     let end = records::get1(w, 0) as usize;

@@ -1,4 +1,6 @@
 // A point against a list of systems.
+#![tactic(auto)]
+
 ghost use Rattle.std.specs.Prelude.{◌≡◌, List, ◌<◌};
 ghost use Rattle.polynomials.specs.Value.{Point};
 ghost use Rattle.tables.specs.Words.{word, records};

@@ -1,4 +1,6 @@
 // The first branch: the polynomials on a table's chains, put in table order.
+#![tactic(auto)]
+
 ghost use Rattle.std.specs.Prelude.{◌≡◌, List, ◌≤◌, ◌<◌, length, take};
 ghost use Rattle.records.specs.Records.{view};
 ghost use Rattle.stored.specs.Stored.{Storable};
@@ -47,7 +49,7 @@ fn put_one(work: &mut [u32], f: &[u64], in_q: bool) -> bool
     requires storable { Storable f.now }
     ensures when_open { WhenOpen work.old (λ b bs ss.
         Leaves (capacity work.old) (with_open b bs ss) (with_open (put_into in_q f.now b) bs ss) result (view work.new)) }
-    ensures work_unchanged { outside work.new ≡ outside work.old }
+    ensures outside_stays { outside work.new ≡ outside work.old }
 {
     if in_q {
         return puts::put_q(work, 0, f);
@@ -71,7 +73,7 @@ fn put_heads(
     ensures filled { (fs : List Poly) (c : Branch) → read_heads table.now p n (records table.now) 0 first ≡ good fs
         → Alone p (capacity work.old) c (view work.old)
         → Filled p (capacity work.old) in_q fs c result (view work.new) }
-    ensures work_unchanged { outside work.new ≡ outside work.old }
+    ensures outside_stays { outside work.new ≡ outside work.old }
 {
     let mut i = first as usize;
     while i != 0 {
@@ -90,8 +92,8 @@ pub fn start(table: &[u32], work: &mut [u32], r: &mut [u64]) -> bool
     requires in_bounds { 512 ≤ length r.old }
     ensures started { (t : Input) → read_table table.now ≡ good t
         → Started t (start (limits_in (capacity work.old)) t) (capacity work.old) result (view work.new) }
-    ensures work_unchanged { capacity work.old < 2 → work.new ≡ work.old }
-    ensures work_unchanged_2 { outside work.new ≡ outside work.old }
+    ensures too_small { capacity work.old < 2 → work.new ≡ work.old }
+    ensures outside_stays { outside work.new ≡ outside work.old }
 {
     // Fewer than two records: no room for the control record and the branch's own.
     if work.len() < 8 {

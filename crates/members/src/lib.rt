@@ -1,4 +1,6 @@
 // A member to be divided by the pivot is taken out of the work area and loaded; its remainder is made monic and put back.
+#![tactic(auto)]
+
 ghost use Rattle.std.specs.Prelude.{◌≡◌, ◌≤◌, length, take, drop};
 ghost use Rattle.polynomials.specs.Poly.{monic};
 ghost use Rattle.polynomials.specs.Packed.{terms};
@@ -26,8 +28,8 @@ pub fn take(w: &mut [u32], closing: bool, place: usize, left: usize, r: &mut [u6
     ensures when_open_2 { WhenOpen w.old (λ b bs ss.
         (result ≡ length (next_member closing place left b)) × (take result r.new ≡ next_member closing place left b)
         × Held (view w.new) (capacity w.old) (with_open (taken_out closing place left b) bs ss)) }
-    ensures r_unchanged { drop result r.new ≡ drop result r.old }
-    ensures w_unchanged { outside w.new ≡ outside w.old }
+    ensures behind_stays { drop result r.new ≡ drop result r.old }
+    ensures outside_stays { outside w.new ≡ outside w.old }
 {
     if closing {
         let j = count_q(w) - left;
@@ -49,7 +51,7 @@ pub fn put_back(w: &mut [u32], p: u64, closing: bool, left: usize, r: &mut [u64]
         × (drop n r.new ≡ drop n r.old) }
     ensures when_open_2 { WhenOpen w.old (λ b bs ss.
         Leaves (capacity w.old) (with_open b bs ss) (with_open (put_in closing left (take n r.new) b) bs ss) result (view w.new)) }
-    ensures w_unchanged { outside w.new ≡ outside w.old }
+    ensures outside_stays { outside w.new ≡ outside w.old }
 {
     scaling::monic(p, &mut r[..n]);
     if closing {

@@ -1,4 +1,6 @@
 // Monomials: eight exponents packed in 64 bits, v1's in the lowest byte.
+#![tactic(auto)]
+
 ghost use Rattle.std.specs.Prelude.{◌≡◌, ◌+◌, ◌*◌, ◌<◌, get_or};
 ghost use Rattle.std.proofs.Math.Dec.{is_le};
 ghost use Rattle.polynomials.specs.Packed.{bytes, exponents};

@@ -1,4 +1,6 @@
 // Montgomery's products modulo an odd p: reduced by a division by 2^32 in place of one by p.
+#![tactic(auto)]
+
 ghost use Rattle.std.specs.Prelude.{◌*◌, ◌%◌, ◌<◌, ◌≡◌};
 ghost use Rattle.montgomery.specs.Montgomery.{NegatedInverse, Squares, Reduced};
 

@@ -1,4 +1,6 @@
 // Loops over the work area: records moved up or down, or appended, and every word cleared.
+#![tactic(auto)]
+
 ghost use Rattle.std.specs.Prelude.{◌≡◌, ◌+◌, ◌≤◌, length, replicate};
 ghost use Rattle.records.specs.Records.{room, view, moved, RecordsBecome};
 

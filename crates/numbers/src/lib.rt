@@ -1,4 +1,6 @@
 // Outcomes as numbers: document 01's number of a refusal, and each answer about tables and points as two numbers.
+#![tactic(auto)]
+
 ghost use Rattle.std.specs.Prelude.{◌≡◌};
 ghost use Rattle.tables.specs.Reason.{number as Reason·number};
 ghost use Rattle.tables.specs.Numbers.{accepted_numbers, refused_numbers};
@@ -7,7 +9,7 @@ ghost use Rattle.numbers.specs.Line.{line_of, reading_line, trial_line, place_li
 use tables::{PlaceOutcome, ReadOutcome, Reason, TrialOutcome};
 
 // An outcome in two numbers: 0 or the refusal's number, then the answer or the refusal's record.
-#[derive(Drop)]
+#[derive(Clone, Copy)]
 pub struct Line {
     pub outcome: u32,
     pub value: u32,

@@ -1,4 +1,6 @@
 // Rules 3 to 5 in the work area, once the pivot and its initial are loaded: whether rule 3 fits, the split, and what rule 4 or 5 leaves to be divided.
+#![tactic(auto)]
+
 ghost use Rattle.std.specs.Prelude.{◌≡◌, false, ◌||◌, [], ℕ, ◌+◌, ◌≤◌, ◌<◌, length, get_or};
 ghost use Rattle.polynomials.specs.Poly.{monic};
 ghost use Rattle.polynomials.specs.Packed.{terms};
@@ -17,7 +19,7 @@ use search::Other;
 
 // What a rule leaves to be divided by the pivot, whose words and whose initial's are so many: at rule 5 the last `left` members of Q, and at rule 4
 // the member of P at `place`, with `left` 1.
-#[derive(Drop)]
+#[derive(Clone, Copy)]
 pub struct Division {
     pub k: u32,
     pub degree: u64,
@@ -36,7 +38,7 @@ pub fn prepare_division(w: &mut [u32], k: u32, place: usize, t: &[u64], initial:
     ensures when_open_3 { WhenOpen w.old (λ b bs ss.
         (result ≡ division_of (other k place (branch_of b).P) k (degree k (terms t.now)) (length t.now) initial b)
         × Held (view w.new) (capacity w.old) (with_open (aimed (other k place (branch_of b).P) place b) bs ss)) }
-    ensures w_unchanged { outside w.new ≡ outside w.old }
+    ensures outside_stays { outside w.new ≡ outside w.old }
 {
     let degree = degrees::degree(t, k);
     let pivot = t.len();
@@ -104,7 +106,7 @@ pub fn apply_split(
         Leaves (capacity w.old)
         (unfinished_split (capacity w.old) place i.now (rest_words t.now i.now r.new) b bs ss)
         (split_area place i.now (rest_words t.now i.now r.new) b bs ss) result (view w.new)) }
-    ensures w_unchanged { outside w.new ≡ outside w.old }
+    ensures outside_stays { outside w.new ≡ outside w.old }
 {
     let m = i.len();
     let l = t.len() - m;

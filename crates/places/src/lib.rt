@@ -1,4 +1,6 @@
 // A polynomial put in among those of the open branch, or taken out, at a record that is known.
+#![tactic(auto)]
+
 ghost use Rattle.std.specs.Prelude.{◌≡◌, List, ◌<◌, get_or};
 ghost use Rattle.records.specs.Records.{room, view, zero_record, RecordsBecome};
 ghost use Rattle.stored.specs.Stored.{Storable};
@@ -11,7 +13,7 @@ pub fn put_at(w: &mut [u32], to: usize, f: &[u64], p: u32, q: u32, t: u32) -> bo
     requires some_open { SomeOpen (PutAt w.old to f.now p q t) }
     ensures leaves { (c : Stored) (bs ss : List Stored) (put : PutAt w.old to f.now p q t c bs ss)
         → Leaves (capacity w.old) (with_open put.b bs ss) (with_open c bs ss) result (view w.new) }
-    ensures w_unchanged { outside w.new ≡ outside w.old }
+    ensures outside_stays { outside w.new ≡ outside w.old }
 {
     let end = records::get1(w, 0) as usize;
     let top = records::get2(w, 0) as usize;
@@ -29,7 +31,7 @@ pub fn take_at(w: &mut [u32], from: usize, p: u32, q: u32, t: u32)
     requires { SomeOpen (TakeAt w.old from p q t) }
     ensures held { (b : Stored) (bs ss : List Stored) → TakeAt w.old from p q t b bs ss
         → Held (view w.new) (capacity w.old) (with_open b bs ss) }
-    ensures w_unchanged { outside w.new ≡ outside w.old }
+    ensures outside_stays { outside w.new ≡ outside w.old }
 {
     let end = records::get1(w, 0) as usize;
     let n = records::get0(w, from) as usize + 1;

@@ -1,4 +1,6 @@
 // A point against a table.
+#![tactic(auto)]
+
 ghost use Rattle.std.specs.Prelude.{◌≡◌};
 ghost use Rattle.tables.specs.Solve.{is_point, Tries};
 

@@ -1,5 +1,7 @@
 // Jobs on polynomials, a line for each answer: what document 01's jobs go through, products about 256 terms, and random operands.
 // `compare/src/bin/polynomial_jobs.rs` prints the same from a separately written Rust: `stdout` is what that printed.
+#![tactic(auto)]
+
 mod jobs;
 mod operands;
 mod print;

@@ -62,7 +62,7 @@ fn is_odd(j: u64, base: u64) -> bool
 }
 
 // The monomials of top, top - gap, .. in the base; the coefficient is c where the exponents have an odd sum, else 1.
-#[derive(Drop)]
+#[derive(Clone, Copy)]
 pub struct Progression {
     pub top: u64,
     pub gap: u64,
@@ -91,7 +91,7 @@ pub fn regular(s: Progression, out: &mut [u64]) -> usize
 }
 
 // What random operands have in common: numbers below `places`, whose digits in the base are scaled.
-#[derive(Drop)]
+#[derive(Clone, Copy)]
 pub struct Shape {
     pub base: u64,
     pub places: u64,

@@ -2,11 +2,13 @@
 //
 // A working polynomial is a slice of pairs of 64-bit words, a term's coefficient and then its monomial, in falling order.
 // A monomial's bytes are its exponents, v1's lowest: the order of monomials is the order of numbers, and their product a sum.
+#![tactic(auto)]
+
 ghost use Rattle.std.specs.Prelude.{◌≡◌, ◌+◌, ◌-◌, ◌≤◌, length, drop};
 ghost use Rattle.std.proofs.Math.Seq.{paste};
 
 // A polynomial that was formed in the first words of a lent slice, or which bound it passes.
-#[derive(Drop)]
+#[derive(Clone, Copy)]
 pub enum Formed {
     Words(usize),
     OverDegree,

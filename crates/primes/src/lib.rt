@@ -1,4 +1,6 @@
 // The prime test: trial division by the candidates of a wheel of 30, or one product of them modulo p.
+#![tactic(auto)]
+
 ghost use Rattle.std.specs.Prelude.{◌≡◌, ◌≤◌, ◌<◌};
 ghost use Rattle.residues.specs.Prime.{is_prime, is_modulus};
 ghost use Rattle.wheel.specs.Wheel.{Coprime30};

@@ -1,4 +1,6 @@
 // Products by the rows of the shorter factor: gathered in the lent buffers, and where these are too short anew in longer ones.
+#![tactic(auto)]
+
 ghost use Rattle.std.specs.Prelude.{◌≡◌, false, ◌≤◌, ◌<◌, length};
 ghost use Rattle.polynomials.specs.Poly.{product};
 ghost use Rattle.polynomials.specs.Bounds.{standard, at_most, bounded_product, degrees_over, tested};

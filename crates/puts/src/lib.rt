@@ -1,4 +1,6 @@
 // A polynomial put into P or Q of the open branch.
+#![tactic(auto)]
+
 ghost use Rattle.std.specs.Prelude.{◌≡◌, ◌≤◌, length};
 ghost use Rattle.records.specs.Records.{view};
 ghost use Rattle.stored.specs.Stored.{Storable};
@@ -10,7 +12,7 @@ pub fn put_p(w: &mut [u32], f: &[u64]) -> bool
     requires storable { Storable f.now }
     ensures when_open { WhenOpen w.old (λ b bs ss.
         Leaves (capacity w.old) (with_open b bs ss) (with_open (put_into_p f.now b) bs ss) result (view w.new)) }
-    ensures w_unchanged { outside w.new ≡ outside w.old }
+    ensures outside_stays { outside w.new ≡ outside w.old }
 {
     if f.len() == 0 {
         return true;
@@ -30,7 +32,7 @@ pub fn put_q(w: &mut [u32], left: usize, f: &[u64]) -> bool
     requires storable { Storable f.now }
     ensures when_open_2 { WhenOpen w.old (λ b bs ss.
         Leaves (capacity w.old) (with_open b bs ss) (with_open (put_into_q left f.now b) bs ss) result (view w.new)) }
-    ensures w_unchanged { outside w.new ≡ outside w.old }
+    ensures outside_stays { outside w.new ≡ outside w.old }
 {
     if branches::is_one(f) {
         return true;

@@ -2,11 +2,13 @@
 //
 // The borrow checker covers no function over a struct that holds a reference, so each function here is proved by a walk of its code. `word`
 // and `step` take the reader apart and leave the work to a function on the table and a number.
+#![tactic(auto)]
+
 ghost use Rattle.std.specs.Prelude.{◌≡◌, ◌<◌, eqb};
 ghost use Rattle.tables.specs.Words.{word, records};
 ghost use Rattle.readers.specs.Reader.{reader_at, stepped};
 
-#[derive(Drop)]
+#[derive(Clone, Copy)]
 pub struct Reader<'a> {
     pub table: &'a [u32],
     pub at: usize,

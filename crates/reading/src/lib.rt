@@ -1,4 +1,6 @@
 // Reading a table: the header, then the chains, to the first broken rule.
+#![tactic(auto)]
+
 ghost use Rattle.std.specs.Prelude.{◌≡◌, ◌<◌};
 ghost use Rattle.tables.specs.Words.{records};
 ghost use Rattle.tables.specs.Read.{read_header, read_heads, read_table};

@@ -1,4 +1,6 @@
 // The work area: a lent run of 32-bit words as records of four. This crate alone knows where a record's words lie there; `write` writes a record of the output too.
+#![tactic(auto)]
+
 ghost use Rattle.std.specs.Prelude.{◌≡◌, ◌<◌, get_or, set};
 ghost use Rattle.records.specs.Records.{zero_record, room, view, RecordsBecome, RecordWritten};
 

@@ -1,4 +1,6 @@
 // Residues modulo a prime p below 2^31, the numbers 0 to p - 1: sum, difference, product, inverse, power.
+#![tactic(auto)]
+
 ghost use Rattle.std.specs.Prelude.{◌≡◌, ◌%◌, ◌^◌, ◌≤◌, ◌<◌};
 ghost use Rattle.residues.specs.Prime.{Prime};
 ghost use Rattle.residues.specs.Residue.{sum, difference, product, inverse};

@@ -1,4 +1,6 @@
 // What `triangularize` prints for the bytes it reads.
+#![tactic(auto)]
+
 ghost use Rattle.std.specs.Prelude.{◌≡◌, ◌++◌, ◌+◌, ◌*◌, ◌≤◌, length, take};
 ghost use Rattle.responses.specs.Response.{response};
 ghost use Rattle.responses.specs.Responded.{Responded};
@@ -52,7 +54,7 @@ pub fn respond(
     text: &mut [u8],
 ) -> usize
     requires { (16384 ≡ length words.old) × (16384 ≡ length work.old) × (16384 ≡ length output.old) × (348352 ≤ length text.old) }
-    ensures upper_bound { (result ≤ length text.new) × (take result text.new ≡ response bytes.now) }
+    ensures response_made { (result ≤ length text.new) × (take result text.new ≡ response bytes.now) }
     ensures responded { Responded bytes.now words.old work.old output.old words.new work.new output.new }
 {
     let refused = [1, 0, 0];

@@ -1,4 +1,6 @@
 // The run: labelled nested loops; a limit met in the division breaks the outer loop, which yields the outcome.
+#![tactic(auto)]
+
 ghost use Rattle.std.specs.Prelude.{◌≡◌, ◌⊎◌, ◌-◌, ◌≤◌, ◌<◌, length};
 ghost use Rattle.records.specs.Records.{view};
 ghost use Rattle.branches.specs.Area.{Area, capacity, HeldIn, outside};
@@ -13,28 +15,28 @@ use steps::Prepared;
 use tables::Reason;
 
 // How an elimination ends: with so many systems, or refused for a reason at a record.
-#[derive(Drop)]
+#[derive(Clone, Copy)]
 pub enum Outcome {
     Systems(u32),
     Refused(Reason, u32),
 }
 
 // The answer of an elimination: the whole steps finished, and the outcome.
-#[derive(Drop)]
+#[derive(Clone, Copy)]
 pub struct Answer {
     pub steps: u32,
     pub outcome: Outcome,
 }
 
 // How a stretch of the run ends: with the run's outcome, or with a pause between two steps, where the lent scratch is too short.
-#[derive(Drop)]
+#[derive(Clone, Copy)]
 pub enum Ending {
     Final(Outcome),
     Paused,
 }
 
 // A stretch of the run: the whole steps finished so far, and how it ended.
-#[derive(Drop)]
+#[derive(Clone, Copy)]
 pub struct Stretch {
     pub steps: u32,
     pub ending: Ending,
@@ -61,8 +63,8 @@ pub fn run(
         × (length x.old ≤ length r.old) × (length x.old ≤ length y.old) × (length x.old ≤ length z.old) }
     ensures stretches { (a : Area) → HeldIn w.old a → Ready p a
         → Stretches (run (limits_in (capacity w.old)) p (limit - from) from (state_of a)) p limit result (view w.new) (capacity w.old) }
-    ensures fact { result.ending ≡ Paused → (length t.old < 512) ⊎ (length x.old < 1024) }
-    ensures w_unchanged { outside w.new ≡ outside w.old }
+    ensures when_paused { result.ending ≡ Paused → (length t.old < 512) ⊎ (length x.old < 1024) }
+    ensures outside_stays { outside w.new ≡ outside w.old }
 {
     let mut steps: u32 = from;
     let mut crowded = false;

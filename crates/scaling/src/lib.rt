@@ -1,4 +1,6 @@
 // The monic polynomial: every coefficient times the inverse of the first.
+#![tactic(auto)]
+
 ghost use Rattle.std.specs.Prelude.{◌≡◌, ◌<◌};
 ghost use Rattle.residues.specs.Prime.{Prime};
 ghost use Rattle.polynomials.specs.Poly.{monic};

@@ -1,4 +1,6 @@
 // The run in scratch of its own: short for a small job, then long where the run pauses.
+#![tactic(auto)]
+
 ghost use Rattle.std.specs.Prelude.{◌≡◌, ◌-◌, ◌≤◌, length};
 ghost use Rattle.records.specs.Records.{view};
 ghost use Rattle.branches.specs.Area.{Area, capacity, HeldIn, outside};
@@ -15,7 +17,7 @@ pub fn run_short(work: &mut [u32], p: u64, limit: u32, divided: &mut [u64]) -> A
     requires { Modulus p × ((a : Area) × HeldIn work.old a × Ready p a) × (512 ≤ length divided.old) }
     ensures ran { (a : Area) → HeldIn work.old a → Ready p a
         → Ran (run (limits_in (capacity work.old)) p limit 0 (state_of a)) p result.steps result.outcome (view work.new) (capacity work.old) }
-    ensures work_unchanged { outside work.new ≡ outside work.old }
+    ensures outside_stays { outside work.new ≡ outside work.old }
 {
     let mut pivot = [0u64; 32];
     let mut initial = [0u64; 32];
@@ -47,7 +49,7 @@ pub fn run_long(work: &mut [u32], p: u64, limit: u32, from: u32) -> Answer
     requires { Modulus p × (from ≤ limit) × ((a : Area) × HeldIn work.old a × Ready p a) }
     ensures ran { (a : Area) → HeldIn work.old a → Ready p a
         → Ran (run (limits_in (capacity work.old)) p (limit - from) from (state_of a)) p result.steps result.outcome (view work.new) (capacity work.old) }
-    ensures work_unchanged { outside work.new ≡ outside work.old }
+    ensures outside_stays { outside work.new ≡ outside work.old }
 {
     let mut pivot = [0u64; 512];
     let mut initial = [0u64; 512];

@@ -1,4 +1,6 @@
 // The search among stored polynomials led by one variable: the pivot, and the other polynomial of rule 4.
+#![tactic(auto)]
+
 ghost use Rattle.std.specs.Prelude.{◌≡◌, map, ℕ, ◌+◌, ◌≤◌, ◌<◌};
 ghost use Rattle.polynomials.specs.Packed.{terms};
 ghost use Rattle.rules.specs.Branch.{other};
@@ -10,7 +12,7 @@ ghost use Rattle.heads.specs.Heads.{AllHold};
 ghost use Rattle.search.specs.Search.{other_place, pivot_place};
 
 // The place in P of the other polynomial of rule 4.
-#[derive(Drop)]
+#[derive(Clone, Copy)]
 pub enum Other {
     None,
     At(usize),
@@ -19,7 +21,7 @@ pub enum Other {
 // The rank of the polynomial at record i as a pivot in the variable at position v.
 fn rank_at(w: &[u32], i: usize, v: u32) -> u64
     requires i_bound { (i < room w.now) × (i + 1 + size_at (view w.now) i ≤ room w.now) × (v < 8) }
-    requires by_index { (p : ℕ) × Holds p (words_at (view w.now) i) }
+    requires holds { (p : ℕ) × Holds p (words_at (view w.now) i) }
     ensures { result ≡ rank v (terms (words_at (view w.now) i)) }
 {
     if heads::leader_at(w, i) != v + 1 {
@@ -32,7 +34,7 @@ fn rank_at(w: &[u32], i: usize, v: u32) -> u64
 // The place of the pivot in the variable at position v among the k polynomials from record `at` on.
 pub fn pivot_place(w: &[u32], at: usize, k: usize, v: u32) -> usize
     requires k_bound { (skip_to (view w.now) at k ≤ room w.now) × (v < 8) }
-    requires by_index { (p : ℕ) × AllHold p (polys_at (view w.now) at k) }
+    requires all_hold { (p : ℕ) × AllHold p (polys_at (view w.now) at k) }
     ensures { result ≡ pivot_place v (map terms (polys_at (view w.now) at k)) }
 {
     let mut i = at;
@@ -55,7 +57,7 @@ pub fn pivot_place(w: &[u32], at: usize, k: usize, v: u32) -> usize
 // The place of the earliest polynomial led by the variable at position v other than the one at `place`, among the k from record `at` on.
 pub fn other_from(w: &[u32], at: usize, k: usize, v: u32, place: usize) -> Other
     requires k_bound { (skip_to (view w.now) at k ≤ room w.now) × (v < 8) }
-    requires by_index { (p : ℕ) × AllHold p (polys_at (view w.now) at k) }
+    requires all_hold { (p : ℕ) × AllHold p (polys_at (view w.now) at k) }
     ensures { result ≡ other_place (other v place (map terms (polys_at (view w.now) at k))) }
 {
     let mut i = at;

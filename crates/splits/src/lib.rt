@@ -1,4 +1,6 @@
 // A split: the initial goes into Q of the open branch, and a new branch is set aside under it.
+#![tactic(auto)]
+
 ghost use Rattle.std.specs.Prelude.{◌≡◌, false, [], ◌<◌, length, get_or};
 ghost use Rattle.records.specs.Records.{view};
 ghost use Rattle.stored.specs.Stored.{member, Storable};
@@ -17,7 +19,7 @@ pub fn split(w: &mut [u32], i: usize, f: &[u64], initial: &[u64], rest: &[u64]) 
     ensures when_open_2 { WhenOpen w.old (λ b bs ss.
         Leaves (capacity w.old) (unfinished_split (capacity w.old) i initial.now rest.now b bs ss)
         (split_area i initial.now rest.now b bs ss) result (view w.new)) }
-    ensures w_unchanged { outside w.new ≡ outside w.old }
+    ensures outside_stays { outside w.new ≡ outside w.old }
 {
     let b = branches::open_branch(w);
     changes::remove_p(w, i);

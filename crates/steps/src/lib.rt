@@ -1,4 +1,6 @@
 // A step of the run in the work area: the rule that fits is found and applied, but for the divisions of rules 4 and 5.
+#![tactic(auto)]
+
 ghost use Rattle.std.specs.Prelude.{◌≡◌, List, map, reverse, ◌≤◌, ◌<◌, length};
 ghost use Rattle.records.specs.Records.{view};
 ghost use Rattle.branches.specs.Area.{Stored, capacity, with_open, HeldIn, WhenOpen, outside};
@@ -14,7 +16,7 @@ use survey::Choice;
 use tables::Reason;
 
 // What a step has done when its rule has been found. `Crowded`: the pivot is longer than the slice for it, and the work area is as it was.
-#[derive(Drop)]
+#[derive(Clone, Copy)]
 pub enum Prepared {
     Done,
     Members(Division),
@@ -40,8 +42,8 @@ fn with_pivot(
         → Prepares (limits_in (capacity w.old)) p
         (apply (limits_in (capacity w.old)) p (map branch_of bs) (reverse (map system_of ss)) (rule_with k (chosen b place) (branch_of b)) (branch_of b))
         result t.new i.new (view w.new) (capacity w.old) bs ss) }
-    ensures t_len_bound { result ≡ Crowded → (length t.old < 512) × (w.new ≡ w.old) }
-    ensures w_unchanged { outside w.new ≡ outside w.old }
+    ensures when_crowded { result ≡ Crowded → (length t.old < 512) × (w.new ≡ w.old) }
+    ensures outside_stays { outside w.new ≡ outside w.old }
 {
     if t.len() < branches::words_p(w, place) {
         return Prepared::Crowded;
@@ -66,8 +68,8 @@ pub fn prepare(w: &mut [u32], p: u64, t: &mut [u64], i: &mut [u64], r: &mut [u64
         → Prepares (limits_in (capacity w.old)) p
         (step (limits_in (capacity w.old)) p (branch_of b) (map branch_of bs) (reverse (map system_of ss)))
         result t.new i.new (view w.new) (capacity w.old) bs ss) }
-    ensures t_len_bound { result ≡ Crowded → (length t.old < 512) × (w.new ≡ w.old) }
-    ensures w_unchanged { outside w.new ≡ outside w.old }
+    ensures when_crowded { result ≡ Crowded → (length t.old < 512) × (w.new ≡ w.old) }
+    ensures outside_stays { outside w.new ≡ outside w.old }
 {
     match survey::choose(w) {
         Choice::Drop => {

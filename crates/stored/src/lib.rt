@@ -1,4 +1,6 @@
 // Polynomials stored as consecutive records of the work area, and read.
+#![tactic(auto)]
+
 ghost use Rattle.std.specs.Prelude.{◌≡◌, ◌+◌, ◌*◌, ◌≤◌, ◌<◌, length, take, drop, get_or};
 ghost use Rattle.records.specs.Records.{room, view, zero_record};
 ghost use Rattle.stored.specs.Stored.{size_at, words_at, skip_to};

@@ -1,4 +1,6 @@
 // Polynomials stored in the work area, appended, put in among the records there, and taken out.
+#![tactic(auto)]
+
 ghost use Rattle.std.specs.Prelude.{◌≡◌, ◌+◌, ◌-◌, ◌/◌, ◌≤◌, length};
 ghost use Rattle.std.proofs.Math.Seq.{paste};
 ghost use Rattle.records.specs.Records.{room, view, RecordsBecome};

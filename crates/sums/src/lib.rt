@@ -1,4 +1,6 @@
 // Sums of polynomials by one merge, f plus a term times g; and the difference.
+#![tactic(auto)]
+
 ghost use Rattle.std.specs.Prelude.{◌+◌, ◌≤◌, ◌<◌, length};
 ghost use Rattle.polynomials.specs.Poly.{add_multiple};
 ghost use Rattle.polynomials.specs.Bounds.{standard, bounded_difference};

@@ -1,4 +1,6 @@
 // The survey of the open branch by the heads and first terms of its polynomials: rule 1, rule 2 or the pivot, and the other polynomial of rule 4.
+#![tactic(auto)]
+
 ghost use Rattle.std.specs.Prelude.{◌≡◌, ℕ, ◌<◌};
 ghost use Rattle.rules.specs.Branch.{other};
 ghost use Rattle.branches.specs.Area.{Opened, WhenOpen};
@@ -10,7 +12,7 @@ ghost use Rattle.survey.specs.Survey.{choice};
 use search::Other;
 
 // Rule 1, rule 2, or the pivot: the position k of its variable v(k+1), and its place in P.
-#[derive(Drop)]
+#[derive(Clone, Copy)]
 pub enum Choice {
     Drop,
     List,

@@ -1,4 +1,6 @@
 // A list of systems, read with its refusals.
+#![tactic(auto)]
+
 ghost use Rattle.std.specs.Prelude.{◌≡◌, ◌<◌};
 ghost use Rattle.polynomials.specs.Poly.{Poly};
 ghost use Rattle.polynomials.specs.Division.{leader};
@@ -11,7 +13,7 @@ ghost use Rattle.systems.specs.Count.{counted};
 use tables::{Checked, Next, Reason};
 
 // How many systems a list holds.
-#[derive(Drop)]
+#[derive(Clone, Copy)]
 enum Counted {
     Systems(u32),
     Refused(Reason, u32),

@@ -2,6 +2,8 @@
 // 1 or 0 for yes or no, the place of a system, or 0 for a table that was only read. The input is little-endian words: for each job its
 // kind (0 reads a table, 1 tries a point against a table, any other against a list), how many words the table has, the words, how many
 // the point has, the words. The run ends with the input, or at a job that is cut short or too long for the buffers.
+#![tactic(auto)]
+
 ghost use Rattle.std.specs.Prelude.{◌≡◌, [], ◌∷◌, ◌+◌, ◌≤◌, length};
 ghost use Rattle.lines.specs.Text.{LineAdded, Ends};
 ghost use Rattle.table_jobs.specs.Line.{line};

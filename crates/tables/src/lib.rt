@@ -2,8 +2,10 @@
 //
 // A table is a lent run of 32-bit words in records of four, numbered from 0. Chains run by index to higher records; index 0 ends one.
 
+#![tactic(auto)]
+
 // Where an index leads.
-#[derive(Drop)]
+#[derive(Clone, Copy)]
 pub enum Next {
     End,
     To(usize),
@@ -11,7 +13,7 @@ pub enum Next {
 }
 
 // Why a call is refused. `specs/Reason.antt` gives document 01's number for each.
-#[derive(Drop)]
+#[derive(Clone, Copy)]
 pub enum Reason {
     Shape,
     Prime,
@@ -31,31 +33,31 @@ pub enum Reason {
 }
 
 // What reading a part of a table finds.
-#[derive(Drop)]
+#[derive(Clone, Copy)]
 pub enum Checked {
     Good,
     Refused(Reason, u32),
 }
 
 // Whether a table is accepted.
-#[derive(Drop)]
+#[derive(Clone, Copy)]
 pub struct Reading {
     pub outcome: ReadOutcome,
 }
 
-#[derive(Drop)]
+#[derive(Clone, Copy)]
 pub enum ReadOutcome {
     Accepted,
     Refused(Reason, u32),
 }
 
 // Whether a point solves a table's input.
-#[derive(Drop)]
+#[derive(Clone, Copy)]
 pub struct Trial {
     pub outcome: TrialOutcome,
 }
 
-#[derive(Drop)]
+#[derive(Clone, Copy)]
 pub enum TrialOutcome {
     Yes,
     No,
@@ -63,12 +65,12 @@ pub enum TrialOutcome {
 }
 
 // The place of the first system of a list that a point solves, from 1; 0 for none.
-#[derive(Drop)]
+#[derive(Clone, Copy)]
 pub struct Placing {
     pub outcome: PlaceOutcome,
 }
 
-#[derive(Drop)]
+#[derive(Clone, Copy)]
 pub enum PlaceOutcome {
     Place(u32),
     Refused(Reason, u32),

@@ -1,6 +1,8 @@
 // The program of document 01: eliminates the table on standard input, little-endian words of at most 4,096 records, with a work area and an
 // output of 4,096 records each and a limit of 100,000 steps. It prints the outcome (0 or the refusal), the steps, then the count of systems
 // or the refusal's record; after an outcome of 0, each written record on a line.
+#![tactic(auto)]
+
 use libc::STDIN_FILENO;
 use lines::text;
 

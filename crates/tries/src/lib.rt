@@ -1,4 +1,6 @@
 // Points against a table and its list, tried for `elimination_jobs`.
+#![tactic(auto)]
+
 ghost use Rattle.std.specs.Prelude.{◌≡◌, [], ◌∷◌, ◌+◌, ◌≤◌, length};
 ghost use Rattle.lines.specs.Text.{LineAdded, Ends};
 ghost use Rattle.tries.specs.Tried.{tried};
@@ -8,7 +10,7 @@ use lines::{Turn, text};
 use numbers::Line;
 
 // What the table and what the list answer.
-#[derive(Drop)]
+#[derive(Clone, Copy)]
 pub struct Tried {
     pub trial: Line,
     pub place: Line,

@@ -1,4 +1,6 @@
 // The first branch, and what becomes of an open branch at its end: it is dropped, or listed as a system.
+#![tactic(auto)]
+
 ghost use Rattle.std.specs.Prelude.{◌≡◌, [], ◌∷◌, ◌≤◌};
 ghost use Rattle.records.specs.Records.{view};
 ghost use Rattle.branches.specs.Area.{Area, Held, Opened, capacity, with_open, empty, has_branch, HeldIn, WhenOpen, outside};
@@ -7,7 +9,7 @@ ghost use Rattle.branches.specs.Area.{Area, Held, Opened, capacity, with_open, e
 pub fn begin(w: &mut [u32])
     requires { 2 ≤ capacity w.old }
     ensures held { Held (view w.new) (capacity w.old) (with_open empty [] []) }
-    ensures w_unchanged { outside w.new ≡ outside w.old }
+    ensures outside_stays { outside w.new ≡ outside w.old }
 {
     let most = branches::count_records(w);
     records::write(w, 0, 1, 2, most as u32, 0);
@@ -27,7 +29,7 @@ pub fn drop(w: &mut [u32])
     requires { Opened w.old }
     ensures when_open { WhenOpen w.old (λ b bs ss.
         Held (view w.new) (capacity w.old) (record { branches = bs; systems = ss })) }
-    ensures w_unchanged { outside w.new ≡ outside w.old }
+    ensures outside_stays { outside w.new ≡ outside w.old }
 {
     let at = records::get0(w, 0) as usize;
     let under = records::get3(w, at);
@@ -41,7 +43,7 @@ pub fn list(w: &mut [u32])
     requires { Opened w.old }
     ensures when_open { WhenOpen w.old (λ b bs ss.
         Held (view w.new) (capacity w.old) (record { branches = bs; systems = b ∷ ss })) }
-    ensures w_unchanged { outside w.new ≡ outside w.old }
+    ensures outside_stays { outside w.new ≡ outside w.old }
 {
     let at = records::get0(w, 0) as usize;
     let end = records::get1(w, 0) as usize;

@@ -1,4 +1,6 @@
 // Values at a point of residues, v1's first.
+#![tactic(auto)]
+
 ghost use Rattle.std.specs.Prelude.{◌≡◌, ◌*◌, ◌%◌, ◌≤◌, ◌<◌};
 ghost use Rattle.polynomials.specs.Value.{monomial_valueℕ, value_modulo, Point};
 ghost use Rattle.polynomials.specs.Packed.{terms, bytes};

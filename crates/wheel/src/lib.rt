@@ -1,4 +1,6 @@
 // Trial division by the candidates of a wheel of 30.
+#![tactic(auto)]
+
 ghost use Rattle.std.specs.Prelude.{◌≡◌, ◌%◌, ◌≤◌, ◌<◌};
 ghost use Rattle.residues.specs.Prime.{is_prime};
 ghost use Rattle.wheel.specs.Wheel.{Coprime30, Turn};

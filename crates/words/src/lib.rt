@@ -1,4 +1,6 @@
 // The words of a table, and its indices.
+#![tactic(auto)]
+
 ghost use Rattle.std.specs.Prelude.{◌≡◌, ◌<◌};
 ghost use Rattle.tables.specs.Words.{word, records, follow};
 ghost use Rattle.tables.specs.Walk.{next};

@@ -1,4 +1,6 @@
 // The written list of systems: from the work area, where they lie newest first, to the output, from its last record to its first.
+#![tactic(auto)]
+
 ghost use Rattle.std.specs.Prelude.{◌≡◌, List, [], ◌∷◌, ◌++◌, map, reverse, ◌+◌, ◌*◌, ◌≤◌, length, drop};
 ghost use Rattle.std.proofs.Math.Seq.{paste};
 ghost use Rattle.rules.specs.Written.{system_words, list_words, list_records};

@@ -3,11 +3,11 @@ use native.Mathlib.Omega.{arith}
 use Rattle.branches.proofs.count_records.Statement.{statement}
 use Rattle.branches.proofs.count_records.Tie as tie
 
+returns-then-all-lt65536 : tie.Need-returns-then-all-lt65536
+returns-then-all-lt65536 c = omega arith
+
 returns : tie.Need-returns
 returns c = omega arith
 
-returns-2 : tie.Need-returns-2
-returns-2 c = omega arith
-
 pub count_records_spec : {M : Type 1} → statement M
-count_records_spec = tie.close (tie.spec returns returns-2)
+count_records_spec = tie.close (tie.spec returns-then-all-lt65536 returns)

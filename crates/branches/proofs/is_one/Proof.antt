@@ -26,26 +26,26 @@ two_words (c ∷ []) h = absurd (omega arith)
 two_words (c ∷ (m ∷ [])) h = refl
 two_words (c ∷ (m ∷ (d ∷ f))) h = absurd (omega arith)
 
+returns-then-f-ne2 : tie.Need-returns-then-f-ne2
+returns-then-f-ne2 c = sym (other_length _ c.if-f-ne2.true)
+
+bounds-f-0 : tie.Need-bounds-f-0
+bounds-f-0 c = search rules
+
+returns-then-f-ne1 : tie.Need-returns-then-f-ne1
+returns-then-f-ne1 c =
+    let f = c.args.f.now in
+    sym (two_words f c.if-f-ne2.false ∙ ap (λ (t : Bool). t && (eqb (get_or f 1 0) 0 && true)) (ne_eqb (get_or f 0 0) 1 c.if-f-ne1.true))
+
+bounds-f-1 : tie.Need-bounds-f-1
+bounds-f-1 c = search rules
+
 returns : tie.Need-returns
-returns c = sym (other_length _ c.if1.true)
-
-shared-slice-read-if2 : tie.Need-shared-slice-read-if2
-shared-slice-read-if2 c = search rules
-
-returns-2 : tie.Need-returns-2
-returns-2 c =
-    let f = c.before.before.before.args.f.now in
-    sym (two_words f c.before.before.if1.false ∙ ap (λ (t : Bool). t && (eqb (get_or f 1 0) 0 && true)) (ne_eqb (get_or f 0 0) 1 c.if2.true))
-
-shared-slice-read-result : tie.Need-shared-slice-read-result
-shared-slice-read-result c = search rules
-
-returns-3 : tie.Need-returns-3
-returns-3 c =
-    let f = c.before.before.before.before.args.f.now in
+returns c =
+    let f = c.args.f.now in
     sym
-    (two_words f c.before.before.before.if1.false ∙ ap₂ ◌&&◌ (eq-eqb (get_or f 0 0) 1 c.before.if2.false) (and-true (eqb (get_or f 1 0) 0)))
+    (two_words f c.if-f-ne2.false ∙ ap₂ ◌&&◌ (eq-eqb (get_or f 0 0) 1 c.if-f-ne1.false) (and-true (eqb (get_or f 1 0) 0)))
 
 pub is_one_spec : {M : Type 1} → statement M
 is_one_spec =
-    tie.close (tie.spec returns shared-slice-read-if2 returns-2 shared-slice-read-result returns-3)
+    tie.close (tie.spec returns-then-f-ne2 bounds-f-0 returns-then-f-ne1 bounds-f-1 returns)

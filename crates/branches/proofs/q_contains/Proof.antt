@@ -7,40 +7,33 @@ use borrow.Author.Rules.{rules}
 use Rattle.branches.proofs.q_contains.Statement.{statement}
 use Rattle.branches.proofs.q_contains.Tie as tie
 
-open-branch-requires : tie.Need-open-branch-requires
-open-branch-requires c κs = search rules
+open_branch-b-requires : tie.Need-open_branch-b-requires
+open_branch-b-requires c κs = search rules
 
-cast-skip : tie.Need-overflow-cast-skip
-cast-skip c = search rules
+overflow_cast-b : tie.Need-overflow_cast-b
+overflow_cast-b c = search rules
 
-skip-requires : tie.Need-skip-requires
-skip-requires c κs =
-    let s = c.before.before.before.before in
+skip-from-requires : tie.Need-skip-from-requires
+skip-from-requires c κs =
+    let s = c in
     let o = s.requires.0 in
-    inside_room s.args.w.now (end_p_inside o.3 (c.before.open-branch.ensures o.0 o.1 o.2 o.3))
+    inside_room s.args.w.now (end_p_inside o.3 (c.open_branch-b.ensures o.0 o.1 o.2 o.3))
 
-cast-contains : tie.Need-overflow-cast-contains
-cast-contains c = search rules
+overflow_cast-b-2 : tie.Need-overflow_cast-b-2
+overflow_cast-b-2 c = search rules
 
 contains-requires : tie.Need-contains-requires
 contains-requires c κs =
-    let k = c.before in
-    let s = k.before.before.before.before.before in
+    let k = c in
+    let s = k in
     let o = s.requires.0 in
-    (inside_room s.args.w.now (end_q_inside o.3 (k.before.before.open-branch.ensures o.0 o.1 o.2 o.3) k.skip.ensures), s.requires.1)
+    (inside_room s.args.w.now (end_q_inside o.3 (k.open_branch-b.ensures o.0 o.1 o.2 o.3) k.skip-from.ensures), s.requires.1)
 
 returns : tie.Need-returns
 returns c b bs ss H =
-    let k = c.before.before in
-    c.contains.ensures ∙ ap (member k.before.before.before.before.before.args.f.now) (all_q H (k.before.before.open-branch.ensures b bs ss H) k.skip.ensures)
+    let k = c in
+    c.contains.ensures ∙ ap (member k.args.f.now) (all_q H (k.open_branch-b.ensures b bs ss H) k.skip-from.ensures)
 
 pub q_contains_spec : {M : Type 1} → statement M
 q_contains_spec =
-    tie.close
-    (tie.spec
-    open-branch-requires
-    cast-skip
-    skip-requires
-    cast-contains
-    contains-requires
-    returns)
+    tie.close (tie.spec open_branch-b-requires overflow_cast-b skip-from-requires overflow_cast-b-2 contains-requires returns)

@@ -16,91 +16,91 @@ use Rattle.chains.proofs.Laws.{terms_end, terms_in, terms_turn}
 use Rattle.chains.proofs.write_terms.Statement.{statement}
 use Rattle.chains.proofs.write_terms.Tie as tie
 
-abbrev invariant_loop : tie.invariant_loop
-invariant_loop w from out₀ to n i₀ out i =
+abbrev invariant-loop-i : tie.invariant-loop-i
+invariant-loop-i w from out₀ to n i₀ out i =
     (i ≤ n) × (length out ≡ length out₀)
     × (over out (4 * (to + i)) (terms_words (to + i) (terms_in (view w) (from + 1 + i) (n - i))) ≡ over out₀ (4 * to) (terms_words to (terms (words_at (view w) from))))
 
-abbrev decreases_loop : tie.decreases_loop
-decreases_loop w from out₀ to n i₀ out i = n - i
+abbrev decreases-loop-i : tie.decreases-loop-i
+decreases-loop-i w from out₀ to n i₀ out i = n - i
 
-get0-requires : tie.Need-get0-requires invariant_loop decreases_loop
-get0-requires c κs = omega arith
+get0-n-requires : tie.Need-get0-n-requires invariant-loop-i decreases-loop-i
+get0-n-requires c κs = omega arith
 
-cast-n : tie.Need-overflow-cast-n invariant_loop decreases_loop
-cast-n c = omega arith
+overflow_cast-n : tie.Need-overflow_cast-n invariant-loop-i decreases-loop-i
+overflow_cast-n c = omega arith
 
-loop-holds : tie.Need-loop-init invariant_loop decreases_loop
+loop-i-init : tie.Need-loop-i-init invariant-loop-i decreases-loop-i
 unfolding words_at
-loop-holds c =
-    let a = c.before.before.before.args in
+loop-i-init c =
+    let a = c.args in
     let v = view a.w.now in
     let e₀ : a.to + 0 ≡ a.to = omega arith in
     let e₁ : a.from + 1 + 0 ≡ a.from + 1 = omega arith in
-    let e₂ : c.get0.result - 0 ≡ size_at v a.from = omega arith in
+    let e₂ : c.get0-n.result - 0 ≡ size_at v a.from = omega arith in
     (omega arith, refl, λ t. over a.out.now (4 * e₀ t) (terms_words (e₀ t) (terms_in v (e₁ t) (e₂ t))))
 
-add-get0 : tie.Need-overflow-add-get0 invariant_loop decreases_loop
-add-get0 c = omega arith
+overflow_add-from : tie.Need-overflow_add-from invariant-loop-i decreases-loop-i
+overflow_add-from c = omega arith
 
-add-get0-2 : tie.Need-overflow-add-get0-2 invariant_loop decreases_loop
-add-get0-2 c = omega arith
+overflow_add-from-in-loop-i : tie.Need-overflow_add-from-in-loop-i invariant-loop-i decreases-loop-i
+overflow_add-from-in-loop-i c = omega arith
 
-get0-requires-2 : tie.Need-get0-requires-2 invariant_loop decreases_loop
-get0-requires-2 c κs = omega arith
+get0-c-requires : tie.Need-get0-c-requires invariant-loop-i decreases-loop-i
+get0-c-requires c κs = omega arith
 
-add-get1 : tie.Need-overflow-add-get1 invariant_loop decreases_loop
-add-get1 c = omega arith
+overflow_add-from-in-loop-i-2 : tie.Need-overflow_add-from-in-loop-i-2 invariant-loop-i decreases-loop-i
+overflow_add-from-in-loop-i-2 c = omega arith
 
-add-get1-2 : tie.Need-overflow-add-get1-2 invariant_loop decreases_loop
-add-get1-2 c = omega arith
+overflow_add-from-in-loop-i-3 : tie.Need-overflow_add-from-in-loop-i-3 invariant-loop-i decreases-loop-i
+overflow_add-from-in-loop-i-3 c = omega arith
 
-get1-requires : tie.Need-get1-requires invariant_loop decreases_loop
-get1-requires c κs = omega arith
+get1-high-requires : tie.Need-get1-high-requires invariant-loop-i decreases-loop-i
+get1-high-requires c κs = omega arith
 
-add-get2 : tie.Need-overflow-add-get2 invariant_loop decreases_loop
-add-get2 c = omega arith
+overflow_add-from-in-loop-i-4 : tie.Need-overflow_add-from-in-loop-i-4 invariant-loop-i decreases-loop-i
+overflow_add-from-in-loop-i-4 c = omega arith
 
-add-get2-2 : tie.Need-overflow-add-get2-2 invariant_loop decreases_loop
-add-get2-2 c = omega arith
+overflow_add-from-in-loop-i-5 : tie.Need-overflow_add-from-in-loop-i-5 invariant-loop-i decreases-loop-i
+overflow_add-from-in-loop-i-5 c = omega arith
 
-get2-requires : tie.Need-get2-requires invariant_loop decreases_loop
-get2-requires c κs = omega arith
+get2-low-requires : tie.Need-get2-low-requires invariant-loop-i decreases-loop-i
+get2-low-requires c κs = omega arith
 
-add-if1 : tie.Need-overflow-add-if1 invariant_loop decreases_loop
-add-if1 c = omega arith
+overflow_add-i : tie.Need-overflow_add-i invariant-loop-i decreases-loop-i
+overflow_add-i c = omega arith
 
-add-next : tie.Need-overflow-add-next invariant_loop decreases_loop
-add-next c = omega arith
+overflow_add-next : tie.Need-overflow_add-next invariant-loop-i decreases-loop-i
+overflow_add-next c = omega arith
 
-add-next-2 : tie.Need-overflow-add-next-2 invariant_loop decreases_loop
-add-next-2 c = omega arith
+overflow_add-next-then-i-n : tie.Need-overflow_add-next-then-i-n invariant-loop-i decreases-loop-i
+overflow_add-next-then-i-n c = omega arith
 
-cast-next : tie.Need-overflow-cast-next invariant_loop decreases_loop
-cast-next c = omega arith
+overflow_cast-next : tie.Need-overflow_cast-next invariant-loop-i decreases-loop-i
+overflow_cast-next c = omega arith
 
-add-write : tie.Need-overflow-add-write invariant_loop decreases_loop
-add-write c = omega arith
+overflow_add-to : tie.Need-overflow_add-to invariant-loop-i decreases-loop-i
+overflow_add-to c = omega arith
 
-write-requires : tie.Need-write-requires invariant_loop decreases_loop
+write-requires : tie.Need-write-requires invariant-loop-i decreases-loop-i
 write-requires c κs = omega arith
 
-add-i : tie.Need-overflow-add-i invariant_loop decreases_loop
-add-i c = omega arith
+overflow_add-i-in-loop-i : tie.Need-overflow_add-i-in-loop-i invariant-loop-i decreases-loop-i
+overflow_add-i-in-loop-i c = omega arith
 
-loop-less : tie.Need-loop-smaller invariant_loop decreases_loop
-loop-less c = omega arith
+loop-i-smaller : tie.Need-loop-i-smaller invariant-loop-i decreases-loop-i
+loop-i-smaller c = omega arith
 
-loop-again : tie.Need-loop-preserved invariant_loop decreases_loop
-loop-again c =
-    let put = c.before.before.write in
-    let if1 = c.before.before.before.before.if1 in
-    let low = c.before.before.before.before.before.get2 in
-    let high = c.before.before.before.before.before.before.get1 in
-    let coefficient = c.before.before.before.before.before.before.before.get02 in
-    let turn = c.before.before.before.before.before.before.before.before.before.loop in
-    let n = c.before.before.before.before.before.before.before.before.before.before.get0.result in
-    let a = c.before.before.before.before.before.before.before.before.before.before.before.before.before.args in
+loop-i-preserved : tie.Need-loop-i-preserved invariant-loop-i decreases-loop-i
+loop-i-preserved c =
+    let put = c.write in
+    let if1 = c.if-i-n in
+    let low = c.get2-low in
+    let high = c.get1-high in
+    let coefficient = c.get0-c in
+    let turn = c.loop-i in
+    let n = c.get0-n.result in
+    let a = c.args in
     let i = turn.i in
     let j = a.from + 1 in (
       omega arith,
@@ -109,51 +109,51 @@ loop-again c =
           coefficient.result high.result low.result if1.next put.ensures.1
           (omega arith) (omega arith) (omega arith) (omega (arith, length_view a.w.now)) (omega arith)
           coefficient.ensures high.ensures low.ensures (omega arith) (omega arith)
-          (λ h. ⊎_elim (λ w. omega arith) (λ w. omega arith) if1.branch) (λ h. ⊎_elim (λ w. omega arith) (λ w. omega arith) if1.branch)
+          (λ h. ⊎_elim (λ w. omega arith) (λ w. omega arith) if1.branch-raw) (λ h. ⊎_elim (λ w. omega arith) (λ w. omega arith) if1.branch-raw)
           ∙ turn.invariant.2,
     )
 
-same_length : tie.Need-same-length invariant_loop decreases_loop
-same_length c = omega arith
+shape_of-out : tie.Need-shape_of-out invariant-loop-i decreases-loop-i
+shape_of-out c = omega arith
 
-returns : tie.Need-returns invariant_loop decreases_loop
+returns : tie.Need-returns invariant-loop-i decreases-loop-i
 returns c =
-    let a = c.before.before.before.before.before.args in
+    let a = c.args in
     let v = view a.w.now in
-    let n = c.before.before.get0.result in
-    let i = c.before.loop.i in
+    let n = c.get0-n.result in
+    let i = c.loop-i.i in
     let f = terms (words_at v a.from) in
     let l : length (terms_words a.to f) ≡ 4 * size_at v a.from =
     omega (arith, length_terms a.to f, length_terms_at v a.from (omega (arith, length_view a.w.now))) in
-    sym (terms_end v c.before.loop.out (a.to + i) (a.from + 1 + i) (n - i) (omega arith)) ∙ c.before.loop.invariant.2
+    sym (terms_end v c.loop-i.out (a.to + i) (a.from + 1 + i) (n - i) (omega arith)) ∙ c.loop-i.invariant.2
     ∙ sym (paste_over a.out.now (4 * a.to) (terms_words a.to f) (4 * size_at v a.from) l)
 
 pub write_terms_spec : {M : Type 1} → statement M
 write_terms_spec =
     tie.close
     (tie.spec
-    invariant_loop
-    decreases_loop
-    get0-requires
-    cast-n
-    loop-holds
-    add-get0
-    add-get0-2
-    get0-requires-2
-    add-get1
-    add-get1-2
-    get1-requires
-    add-get2
-    add-get2-2
-    get2-requires
-    add-if1
-    add-next
-    add-next-2
-    cast-next
-    add-write
+    invariant-loop-i
+    decreases-loop-i
+    get0-n-requires
+    overflow_cast-n
+    loop-i-init
+    overflow_add-from
+    overflow_add-from-in-loop-i
+    get0-c-requires
+    overflow_add-from-in-loop-i-2
+    overflow_add-from-in-loop-i-3
+    get1-high-requires
+    overflow_add-from-in-loop-i-4
+    overflow_add-from-in-loop-i-5
+    get2-low-requires
+    overflow_add-i
+    overflow_add-next
+    overflow_add-next-then-i-n
+    overflow_cast-next
+    overflow_add-to
     write-requires
-    add-i
-    loop-less
-    loop-again
-    same_length
+    overflow_add-i-in-loop-i
+    loop-i-smaller
+    loop-i-preserved
+    shape_of-out
     returns)

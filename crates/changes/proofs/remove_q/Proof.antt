@@ -19,15 +19,15 @@ use Rattle.changes.proofs.remove_q.Tie as tie
 -- ── the places, and the ways back from one to another ──
 -- The open branch is read; the end of P is known; the member's place is.
 abbrev Reading : Type 0
-Reading = tie.After-open-branch
+Reading = tie.After-open_branch-b
 
 abbrev start : Reading → tie.Start
-start r = r.before.before.before
+start r = r.before.before
 
 abbrev from_skip : tie.After-skip → Reading
-from_skip c = c.before.before.before
+from_skip c = c.before.before
 
-abbrev from_place : tie.After-skip2 → Reading
+abbrev from_place : tie.After-skip-from → Reading
 from_place c = from_skip c.before
 
 -- ── what is read ──
@@ -38,7 +38,7 @@ abbrev i : Reading → ℕ
 i r = (start r).args.i
 
 abbrev o : Reading → Open
-o r = r.open-branch.result
+o r = r.open_branch-b.result
 
 -- ── what is known ──
 abbrev Entry : Reading → Stored → List Stored → List Stored → Type 0
@@ -49,10 +49,10 @@ module _ {b : Stored} {bs ss : List Stored} where
   i_small r H = (start r).requires.1 b bs ss H
 
   open_is : (r : Reading) → Entry r b bs ss → o r ≡ open_of b bs
-  open_is r H = r.open-branch.ensures b bs ss H
+  open_is r H = r.open_branch-b.ensures b bs ss H
 
-  taken : (c : tie.After-skip2) → let r = from_place c in
-      Entry r b bs ss → TakeAt (w r) c.skip2.result (o r).p ((o r).q - 1) (o r).t (without_q (i r) b) bs ss
+  taken : (c : tie.After-skip-from) → let r = from_place c in
+      Entry r b bs ss → TakeAt (w r) c.skip-from.result (o r).p ((o r).q - 1) (o r).t (without_q (i r) b) bs ss
   taken c H =
       let r = from_place c in
       let h = i_small r H in
@@ -63,7 +63,7 @@ module _ {b : Stored} {bs ss : List Stored} where
         f = _;
         ys = _;
         takes = more_q h;
-        there = c.skip2.ensures ∙ skip_q H (open_is r H) c.before.skip.ensures (i r) (omega (arith, h));
+        there = c.skip-from.ensures ∙ skip_q H (open_is r H) c.skip.ensures (i r) (omega (arith, h));
         counts = counts_q h (counts_are H (open_is r H));
       }
 
@@ -72,42 +72,42 @@ opened : (r : Reading) → Entry r (start r).requires.0.0 (start r).requires.0.1
 opened r = (start r).requires.0.3
 
 -- ── the needs ──
-open-branch-requires : tie.Need-open-branch-requires
-open-branch-requires c κs = search rules
+open_branch-b-requires : tie.Need-open_branch-b-requires
+open_branch-b-requires c κs = search rules
 
-cast-skip : tie.Need-overflow-cast-skip
-cast-skip c = search rules
+overflow_cast-b : tie.Need-overflow_cast-b
+overflow_cast-b c = search rules
 
 skip-requires : tie.Need-skip-requires
-skip-requires c κs = let r = c.before.before in inside_room (w r) (end_p_inside (opened r) (open_is r (opened r)))
+skip-requires c κs = let r = c in inside_room (w r.before) (end_p_inside (opened r.before) (open_is r (opened r.before)))
 
-skip-requires-2 : tie.Need-skip-requires-2
-skip-requires-2 c κs =
+skip-from-requires : tie.Need-skip-from-requires
+skip-from-requires c κs =
     let r = from_skip c in
     let h = i_small r (opened r) in
     inside_room (w r) (skip_q_inside (opened r) (open_is r (opened r)) c.skip.ensures (i r) (omega (arith, h)))
 
-sub-take-at : tie.Need-overflow-sub-take-at
-sub-take-at c = let r = from_place c.before.before in omega (arith, i_small r (opened r), q_is (opened r) (open_is r (opened r)))
+overflow_sub-b : tie.Need-overflow_sub-b
+overflow_sub-b c = let r = from_place c.before.before in omega (arith, i_small r (opened r), q_is (opened r) (open_is r (opened r)))
 
-take-at-requires : tie.Need-take-at-requires
-take-at-requires c κs = let k = c.before.before in (_, _, _, taken k (opened (from_place k)))
+take_at-requires : tie.Need-take_at-requires
+take_at-requires c κs = let k = c in (_, _, _, taken k (opened (from_place k.before.before)))
 
-same_length : tie.Need-same-length
-same_length c = search rules
+shape_of-w : tie.Need-shape_of-w
+shape_of-w c = search rules
 
 returns : tie.Need-returns
-returns c = let m = c.before.before in (λ b bs ss H. m.take_at.ensures.0 _ _ _ (taken m.before.before.before H), m.take_at.ensures.1)
+returns c = let m = c in (λ b bs ss H. m.take_at.ensures.0 _ _ _ (taken m.before.before.before H), m.take_at.ensures.1)
 
 pub remove_q_spec : {M : Type 1} → statement M
 remove_q_spec =
     tie.close
     (tie.spec
-    open-branch-requires
-    cast-skip
+    open_branch-b-requires
+    overflow_cast-b
     skip-requires
-    skip-requires-2
-    sub-take-at
-    take-at-requires
-    same_length
+    skip-from-requires
+    overflow_sub-b
+    take_at-requires
+    shape_of-w
     returns)

@@ -8,44 +8,44 @@ use Rattle.checking.proofs.check_head.Tie as tie
 word-requires : tie.Need-word-requires
 word-requires c κs = search rules
 
-cast-t8 : tie.Need-overflow-cast-t8
-cast-t8 c = fits_word c.before.before.before.requires.0 c.before.before.before.requires.1
+overflow_cast-result : tie.Need-overflow_cast-result
+overflow_cast-result c = fits_word c.requires.0 c.requires.1
 
-returns : tie.Need-returns
-returns c =
-    let a = c.before.before.before.args in
-    refused_head a.table.now a.p a.n a.i (λ z. c.if1.true (c.before.word.ensures ∙ z))
+returns-then-word-ne0 : tie.Need-returns-then-word-ne0
+returns-then-word-ne0 c =
+    let a = c.args in
+    refused_head a.table.now a.p a.n a.i (λ z. c.if-word-ne0.true (c.word.ensures ∙ z))
 
 word-requires-2 : tie.Need-word-requires-2
 word-requires-2 c κs = search rules
 
-cast-t10 : tie.Need-overflow-cast-t10
-cast-t10 c = fits_word c.before.before.before.before.before.requires.0 c.before.before.before.before.before.requires.1
+overflow_cast-result-then-word-ne0-2 : tie.Need-overflow_cast-result-then-word-ne0-2
+overflow_cast-result-then-word-ne0-2 c = fits_word c.requires.0 c.requires.1
 
-returns-2 : tie.Need-returns-2
-returns-2 c =
-    let a = c.before.before.before.before.before.args in
-    refused_head_2 a.table.now a.p a.n a.i (sym c.before.before.before.word.ensures ∙ c.before.before.if1.false) (λ z. c.if2.true (c.before.word2.ensures ∙ z))
+returns-then-word-ne0-2 : tie.Need-returns-then-word-ne0-2
+returns-then-word-ne0-2 c =
+    let a = c.args in
+    refused_head_2 a.table.now a.p a.n a.i (sym c.word.ensures ∙ c.if-word-ne0.false) (λ z. c.if-word-ne0-2.true (c.word-2.ensures ∙ z))
 
-check-terms-requires : tie.Need-check-terms-requires
-check-terms-requires c κs = search rules
+check_terms-requires : tie.Need-check_terms-requires
+check_terms-requires c κs = search rules
 
-returns-3 : tie.Need-returns-3
-returns-3 c =
-    let a = c.before.before.before.before.before.before.args in
-    let k = c.before.before in
-    c.check-terms.ensures
-    ∙ head_terms a.table.now a.p a.n a.i (sym k.before.before.word.ensures ∙ k.before.if1.false) (sym k.word2.ensures ∙ c.before.if2.false)
+returns : tie.Need-returns
+returns c =
+    let a = c.args in
+    let k = c in
+    c.check_terms.ensures
+    ∙ head_terms a.table.now a.p a.n a.i (sym k.word.ensures ∙ k.if-word-ne0.false) (sym k.word-2.ensures ∙ c.if-word-ne0-2.false)
 
 pub check_head_spec : {M : Type 1} → statement M
 check_head_spec =
     tie.close
     (tie.spec
     word-requires
-    cast-t8
-    returns
+    overflow_cast-result
+    returns-then-word-ne0
     word-requires-2
-    cast-t10
-    returns-2
-    check-terms-requires
-    returns-3)
+    overflow_cast-result-then-word-ne0-2
+    returns-then-word-ne0-2
+    check_terms-requires
+    returns)

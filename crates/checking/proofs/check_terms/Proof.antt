@@ -15,164 +15,164 @@ use Rattle.checking.proofs.CheckLaws.{fits_word, terms_on}
 use Rattle.checking.proofs.check_terms.Statement.{statement}
 use Rattle.checking.proofs.check_terms.Tie as tie
 
-abbrev invariant_loop : tie.invariant_loop
-invariant_loop table p n head at₀ i₀ m₀ last₀ at i m last =
+abbrev invariant-loop-j : tie.invariant-loop-j
+invariant-loop-j table p n head at₀ i₀ m₀ last₀ at i m last =
     Reached (terms_chain table p n) (m, before m last) at i (checked (read_terms table p n (records table) 0 first head (word table head 0)))
 
-abbrev decreases_loop : tie.decreases_loop
-decreases_loop table p n head at₀ i₀ m₀ last₀ at i m last = records table - at
+abbrev decreases-loop-j : tie.decreases-loop-j
+decreases-loop-j table p n head at₀ i₀ m₀ last₀ at i m last = records table - at
 
 -- ── the places, and the ways back from one to another ──
 -- The index at the loop's head is followed.
 abbrev Followed : Type 0
-Followed = tie.After-follow invariant_loop decreases_loop
+Followed = tie.After-follow invariant-loop-j decreases-loop-j
 
-abbrev entry : Followed → tie.Start invariant_loop decreases_loop
+abbrev entry : Followed → tie.Start invariant-loop-j decreases-loop-j
 entry c = c.before.before.before.before
 
 -- It leads to record j, and the term there is checked.
 abbrev Found : Type 0
-Found = tie.After-j invariant_loop decreases_loop
+Found = tie.In-To-2 invariant-loop-j decreases-loop-j
 
 abbrev followed : Found → Followed
 followed c = c.before.before
 
-abbrev found : tie.After-check-term invariant_loop decreases_loop → Found
+abbrev found : tie.After-check_term invariant-loop-j decreases-loop-j → Found
 found c = c.before.before
 
 -- It is accepted.
 abbrev Accepted : Type 0
-Accepted = tie.After-enum-told3 invariant_loop decreases_loop
+Accepted = tie.In_default invariant-loop-j decreases-loop-j
 
 abbrev found_of : Accepted → Found
 found_of c = found c.before.before
 
 -- ── what is known there ──
 abbrev j : Found → ℕ
-j c = c.j.given.0.0
+j c = c.j-1.given.0.0
 
 -- The index leads to record j.
-leads_on : (c : Found) → let f = followed c in next (follow (entry f).args.table.now f.before.loop.at f.before.loop.i) ≡ To (j c)
-leads_on c = sym (followed c).follow.ensures ∙ c.j.given.1
+leads_on : (c : Found) → let f = followed c in next (follow (entry f).args.table.now f.loop-j.at f.loop-j.i) ≡ To (j c)
+leads_on c = sym (followed c).follow.ensures ∙ c.j-1.given.1
 
-inside : (c : Found) → ((followed c).before.loop.at < j c) × (j c < records (entry (followed c)).args.table.now)
+inside : (c : Found) → ((followed c).loop-j.at < j c) × (j c < records (entry (followed c)).args.table.now)
 inside c = next_inside _ _ _ _ (leads_on c)
 
 -- The term in record j is accepted.
 accepts : (c : Accepted) → let f = found_of c in
     let a = (entry (followed f)).args in
-    let l = (followed f).before.loop in
-    checked (read_term a.table.now a.p a.n l.m (before l.m l.last) (j f)) ≡ Good
-accepts c = sym c.before.before.check-term.ensures ∙ c.enum-told3.given.1
+    let l = (followed f).loop-j in
+    checked (read_term a.table.now a.p a.n l.m (before l.m l.new) (j f)) ≡ Good
+accepts c = sym c.check_term.ensures ∙ c.enum_told-in_default-1.given.1
 
 -- ── the needs ──
-word-requires : tie.Need-word-requires invariant_loop decreases_loop
-word-requires c κs = search rules
+word-i-requires : tie.Need-word-i-requires invariant-loop-j decreases-loop-j
+word-i-requires c κs = search rules
 
-loop-holds : tie.Need-loop-init invariant_loop decreases_loop
-loop-holds c =
-    let a = c.before.before.args in
-    rw c.word.ensures (reached_first (terms_chain a.table.now a.p a.n) (0, first) a.head (word a.table.now a.head 0) c.before.before.requires.1)
+loop-j-init : tie.Need-loop-j-init invariant-loop-j decreases-loop-j
+loop-j-init c =
+    let a = c.args in
+    rw c.word-i.ensures (reached_first (terms_chain a.table.now a.p a.n) (0, first) a.head (word a.table.now a.head 0) c.requires.1)
 
-follow-requires : tie.Need-follow-requires invariant_loop decreases_loop
+follow-requires : tie.Need-follow-requires invariant-loop-j decreases-loop-j
 follow-requires c κs = search rules
 
-enum_told : tie.Need-enum-told invariant_loop decreases_loop
-enum_told c = search rules
+enum_told-1 : tie.Need-enum_told-1 invariant-loop-j decreases-loop-j
+enum_told-1 c = search rules
 
-returns : tie.Need-returns invariant_loop decreases_loop
-returns c =
-    let f = c.before.before in
+returns-in-End : tie.Need-returns-in-End invariant-loop-j decreases-loop-j
+returns-in-End c =
+    let f = c in
+    let a = (entry f.before.before).args in
+    reached_end (terms_chain a.table.now a.p a.n) f.loop-j.invariant (sym f.follow.ensures ∙ c.enum_told-1.given.1)
+
+enum_told-in-Astray : tie.Need-enum_told-in-Astray invariant-loop-j decreases-loop-j
+enum_told-in-Astray c = search rules
+
+overflow_cast-result : tie.Need-overflow_cast-result invariant-loop-j decreases-loop-j
+overflow_cast-result c = let f = c in fits_word (entry f.before.before).requires.0 f.loop-j.invariant.enough.inside
+
+returns-in-Astray : tie.Need-returns-in-Astray invariant-loop-j decreases-loop-j
+returns-in-Astray c =
+    let f = c in
+    let a = (entry f.before.before).args in
+    reached_astray (terms_chain a.table.now a.p a.n) f.loop-j.invariant (sym f.follow.ensures ∙ c.enum_told-in-Astray-1.given.1)
+
+enum_known-j : tie.Need-enum_known-j invariant-loop-j decreases-loop-j
+enum_known-j c = search rules
+
+check_term-requires : tie.Need-check_term-requires invariant-loop-j decreases-loop-j
+check_term-requires c κs = ((entry (followed c.before)).requires.0, (inside c.before).1)
+
+enum_known-why : tie.Need-enum_known-why invariant-loop-j decreases-loop-j
+enum_known-why c = search rules
+
+returns-in-Refused : tie.Need-returns-in-Refused invariant-loop-j decreases-loop-j
+returns-in-Refused c =
+    let k = c in
+    let f = followed (found k.before.before.before) in
     let a = (entry f).args in
-    reached_end (terms_chain a.table.now a.p a.n) f.before.loop.invariant (sym f.follow.ensures ∙ c.enum_told.given.1)
+    reached_refused (terms_chain a.table.now a.p a.n) f.loop-j.invariant (leads_on (found k.before.before.before)) (sym k.check_term.ensures ∙ c.why-1.given.1)
 
-enum-told-2 : tie.Need-enum-told-2 invariant_loop decreases_loop
-enum-told-2 c = search rules
+enum_told-in_default : tie.Need-enum_told-in_default invariant-loop-j decreases-loop-j
+enum_told-in_default c = search rules
 
-cast-t14 : tie.Need-overflow-cast-t14 invariant_loop decreases_loop
-cast-t14 c = let f = c.before.before in fits_word (entry f).requires.0 f.before.loop.invariant.enough.inside
+word-requires : tie.Need-word-requires invariant-loop-j decreases-loop-j
+word-requires c κs = ((inside (found_of c)).1, omega arith)
 
-returns-2 : tie.Need-returns-2 invariant_loop decreases_loop
-returns-2 c =
-    let f = c.before.before in
+word-requires-in-To : tie.Need-word-requires-in-To invariant-loop-j decreases-loop-j
+word-requires-in-To c κs = ((inside (found_of c.before)).1, omega arith)
+
+packed-last-requires : tie.Need-packed-last-requires invariant-loop-j decreases-loop-j
+packed-last-requires c κs = search rules
+
+overflow_add-m : tie.Need-overflow_add-m invariant-loop-j decreases-loop-j
+overflow_add-m c =
+    let k = c in
+    let f = followed (found_of k.before.before.before) in
     let a = (entry f).args in
-    reached_astray (terms_chain a.table.now a.p a.n) f.before.loop.invariant (sym f.follow.ensures ∙ c.enum-told2.given.1)
-
-enum-known-j : tie.Need-enum-known-j invariant_loop decreases_loop
-enum-known-j c = search rules
-
-check-term-requires : tie.Need-check-term-requires invariant_loop decreases_loop
-check-term-requires c κs = ((entry (followed c.before)).pre.0, (inside c.before).1)
-
-enum-known-why : tie.Need-enum-known-why invariant_loop decreases_loop
-enum-known-why c = search rules
-
-returns-3 : tie.Need-returns-3 invariant_loop decreases_loop
-returns-3 c =
-    let k = c.before.before.before in
-    let f = followed (found k) in
-    let a = (entry f).args in
-    reached_refused (terms_chain a.table.now a.p a.n) f.before.loop.inv (leads_on (found k)) (sym k.check-term.ensures ∙ c.before.why.given.1)
-
-enum-told-3 : tie.Need-enum-told-3 invariant_loop decreases_loop
-enum-told-3 c = search rules
-
-word-requires-2 : tie.Need-word-requires-2 invariant_loop decreases_loop
-word-requires-2 c κs = ((inside (found_of c)).1, omega arith)
-
-word-requires-3 : tie.Need-word-requires-3 invariant_loop decreases_loop
-word-requires-3 c κs = ((inside (found_of c.before)).1, omega arith)
-
-packed-requires : tie.Need-packed-requires invariant_loop decreases_loop
-packed-requires c κs = search rules
-
-add-m : tie.Need-overflow-add-m invariant_loop decreases_loop
-add-m c =
-    let k = c.before.before.before in
-    let f = followed (found_of k) in
-    let a = (entry f).args in
-    let few : f.before.loop.m < 256 = (term_read a.table.now a.p a.n (checked_good _ (accepts k)).1).few in
+    let few : f.loop-j.m < 256 = (term_read a.table.now a.p a.n (checked_good _ (accepts k.before.before.before)).1).few in
     record { fits = omega arith }
 
-word-requires-4 : tie.Need-word-requires-4 invariant_loop decreases_loop
-word-requires-4 c κs = ((inside (found_of c.before.before.before)).1, omega arith)
+word-i-requires-in-To : tie.Need-word-i-requires-in-To invariant-loop-j decreases-loop-j
+word-i-requires-in-To c κs = ((inside (found_of c.before.before.before)).1, omega arith)
 
-loop-less : tie.Need-loop-smaller invariant_loop decreases_loop
-loop-less c = let h = inside (found_of c.before.before.before.before) in omega (arith, h.0, h.1)
+loop-j-smaller : tie.Need-loop-j-smaller invariant-loop-j decreases-loop-j
+loop-j-smaller c = let h = inside (found_of c.before.before.before.before) in omega (arith, h.0, h.1)
 
-loop-again : tie.Need-loop-preserved invariant_loop decreases_loop
-loop-again c =
-    let k = c.before.before.before.before in
-    let f = followed (found_of k) in
+loop-j-preserved : tie.Need-loop-j-preserved invariant-loop-j decreases-loop-j
+loop-j-preserved c =
+    let k = c in
+    let f = followed (found_of k.before.before.before.before) in
     let a = (entry f).args in
-    let l = f.before.loop in
-    let unpacked = c.before.packed.ensures.1 ∙ ap₂ exponents c.before.before.before.word2.ensures c.before.before.word3.ensures in
-    terms_on a.table.now a.p a.n l.m l.last c.before.packed.result c.word4.result l.inv (leads_on (found_of k)) (accepts k)
-    unpacked c.word4.ensures
+    let l = f.loop-j in
+    let unpacked = c.packed-last.ensures.1 ∙ ap₂ exponents c.word.ensures c.word-in-To.ensures in
+    terms_on a.table.now a.p a.n l.m l.new c.packed-last.result c.word-i-in-To.result l.invariant (leads_on (found_of k.before.before.before.before)) (accepts k.before.before.before.before)
+    unpacked c.word-i-in-To.ensures
 
 pub check_terms_spec : {M : Type 1} → statement M
 check_terms_spec =
     tie.close
     (tie.spec
-    invariant_loop
-    decreases_loop
-    word-requires
-    loop-holds
+    invariant-loop-j
+    decreases-loop-j
+    word-i-requires
+    loop-j-init
     follow-requires
-    enum_told
-    returns
-    enum-told-2
-    cast-t14
-    returns-2
-    enum-known-j
-    check-term-requires
-    enum-known-why
-    returns-3
-    enum-told-3
-    word-requires-2
-    word-requires-3
-    packed-requires
-    add-m
-    word-requires-4
-    loop-less
-    loop-again)
+    enum_told-1
+    returns-in-End
+    enum_told-in-Astray
+    overflow_cast-result
+    returns-in-Astray
+    enum_known-j
+    check_term-requires
+    enum_known-why
+    returns-in-Refused
+    enum_told-in_default
+    word-requires
+    word-requires-in-To
+    packed-last-requires
+    overflow_add-m
+    word-i-requires-in-To
+    loop-j-smaller
+    loop-j-preserved)

@@ -5,20 +5,20 @@ use Rattle.checking.proofs.CheckLaws.{above_all, above_shift}
 use Rattle.checking.proofs.has_above.Statement.{statement}
 use Rattle.checking.proofs.has_above.Tie as tie
 
+returns-then-n-eq8 : tie.Need-returns-then-n-eq8
+returns-then-n-eq8 c = let a = c.args in above_all a.n a.m c.if-n-eq8.true
+
+overflow_mul-result : tie.Need-overflow_mul-result
+overflow_mul-result c = search rules
+
+overflow_cast-result : tie.Need-overflow_cast-result
+overflow_cast-result c = search rules
+
+overflow_shr-result : tie.Need-overflow_shr-result
+overflow_shr-result c = search rules
+
 returns : tie.Need-returns
-returns c = let a = c.before.args in above_all a.n a.m c.if1.true
-
-mul-result : tie.Need-overflow-mul-result
-mul-result c = search rules
-
-cast-result : tie.Need-overflow-cast-result
-cast-result c = search rules
-
-shr-result : tie.Need-overflow-shr-result
-shr-result c = search rules
-
-returns-2 : tie.Need-returns-2
-returns-2 c = let a = c.before.args in above_shift a.n a.m c.before.requires (omega arith)
+returns c = let a = c.args in above_shift a.n a.m c.requires (omega arith)
 
 pub has_above_spec : {M : Type 1} → statement M
-has_above_spec = tie.close (tie.spec returns mul-result cast-result shr-result returns-2)
+has_above_spec = tie.close (tie.spec returns-then-n-eq8 overflow_mul-result overflow_cast-result overflow_shr-result returns)

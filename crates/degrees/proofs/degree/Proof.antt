@@ -11,56 +11,56 @@ use Rattle.degrees.proofs.DegreeLaws.{degree_at, degree_end}
 use Rattle.degrees.proofs.degree.Statement.{statement}
 use Rattle.degrees.proofs.degree.Tie as tie
 
-abbrev invariant_loop : tie.invariant_loop
-invariant_loop f k d₀ i₀ d i = (i % 2 ≡ 0) × (max d (degree k (terms (drop i f))) ≡ degree k (terms f))
+abbrev invariant-loop-i : tie.invariant-loop-i
+invariant-loop-i f k d₀ i₀ d i = (i % 2 ≡ 0) × (max d (degree k (terms (drop i f))) ≡ degree k (terms f))
 
-abbrev decreases_loop : tie.decreases_loop
-decreases_loop f k d₀ i₀ d i = length f - i
+abbrev decreases-loop-i : tie.decreases-loop-i
+decreases-loop-i f k d₀ i₀ d i = length f - i
 
-loop-holds : tie.Need-loop-init invariant_loop decreases_loop
-loop-holds c = search rules
+loop-i-init : tie.Need-loop-i-init invariant-loop-i decreases-loop-i
+loop-i-init c = search rules
 
-add-exponent : tie.Need-overflow-add-exponent invariant_loop decreases_loop
-add-exponent c = search rules
+overflow_add-i : tie.Need-overflow_add-i invariant-loop-i decreases-loop-i
+overflow_add-i c = search rules
 
-mul-exponent : tie.Need-overflow-mul-exponent invariant_loop decreases_loop
-mul-exponent c = search rules
+offset_bounds-f-i : tie.Need-offset_bounds-f-i invariant-loop-i decreases-loop-i
+offset_bounds-f-i c = search rules
 
-shared-slice-read-exponent : tie.Need-shared-slice-read-exponent invariant_loop decreases_loop
-shared-slice-read-exponent c = search rules
+bounds-f-i : tie.Need-bounds-f-i invariant-loop-i decreases-loop-i
+bounds-f-i c = search rules
 
-exponent-requires : tie.Need-exponent-requires invariant_loop decreases_loop
-exponent-requires c κs = search rules
+exponent-e-requires : tie.Need-exponent-e-requires invariant-loop-i decreases-loop-i
+exponent-e-requires c κs = search rules
 
-add-i : tie.Need-overflow-add-i invariant_loop decreases_loop
-add-i c = search rules
+overflow_add-i-in-loop-i : tie.Need-overflow_add-i-in-loop-i invariant-loop-i decreases-loop-i
+overflow_add-i-in-loop-i c = search rules
 
-loop-less : tie.Need-loop-smaller invariant_loop decreases_loop
-loop-less c = search rules
+loop-i-smaller : tie.Need-loop-i-smaller invariant-loop-i decreases-loop-i
+loop-i-smaller c = search rules
 
-loop-again : tie.Need-loop-preserved invariant_loop decreases_loop
-loop-again c =
-    let start = c.before.before.before.before.before.before in
-    let step = degree_at start.args.k c.before.before.before.before.loop.i start.args.f.now (omega arith) in
-    (search rules, ⊎_elim (λ w. omega (arith, step)) (λ w. omega (arith, step)) c.if1.branch)
+loop-i-preserved : tie.Need-loop-i-preserved invariant-loop-i decreases-loop-i
+loop-i-preserved c =
+    let start = c in
+    let step = degree_at start.args.k c.loop-i.i start.args.f.now (omega arith) in
+    (search rules, ⊎_elim (λ w. omega (arith, step)) (λ w. omega (arith, step)) c.if-d-e.branch-raw)
 
-returns : tie.Need-returns invariant_loop decreases_loop
+returns : tie.Need-returns invariant-loop-i decreases-loop-i
 returns c =
-    let start = c.before.before.before in
-    omega (arith, degree_end start.args.k c.before.loop.i start.args.f.now (omega arith))
+    let start = c in
+    omega (arith, degree_end start.args.k c.loop-i.i start.args.f.now (omega arith))
 
 pub degree_spec : {M : Type 1} → statement M
 degree_spec =
     tie.close
     (tie.spec
-    invariant_loop
-    decreases_loop
-    loop-holds
-    add-exponent
-    mul-exponent
-    shared-slice-read-exponent
-    exponent-requires
-    add-i
-    loop-less
-    loop-again
+    invariant-loop-i
+    decreases-loop-i
+    loop-i-init
+    overflow_add-i
+    offset_bounds-f-i
+    bounds-f-i
+    exponent-e-requires
+    overflow_add-i-in-loop-i
+    loop-i-smaller
+    loop-i-preserved
     returns)

@@ -18,14 +18,14 @@ exponent-requires c κs = search rules
 exponent-requires-2 : tie.Need-exponent-requires-2
 exponent-requires-2 c κs = search rules
 
-add-if1 : tie.Need-overflow-add-if1
-add-if1 c =
-    let start = c.before.before.before.before in
+overflow_add-exponent : tie.Need-overflow_add-exponent
+overflow_add-exponent c =
+    let start = c in
     record { fits = omega (arith, byte_small 8 start.args.u start.args.k, byte_small 8 start.args.v start.args.k) }
 
-returns : tie.Need-returns
-returns c =
-    let start = c.before.before.before.before.before in
+returns-then-exponent-le255 : tie.Need-returns-then-exponent-le255
+returns-then-exponent-le255 c =
+    let start = c in
     let k = start.args.k in
     sym (le-ltb 255 (degree k (terms start.args.f.now) + degree k (terms start.args.g.now)) (omega (arith, start.requires.0.2, start.requires.1.1)))
 
@@ -35,13 +35,13 @@ degree-requires c κs = search rules
 degree-requires-2 : tie.Need-degree-requires-2
 degree-requires-2 c κs = search rules
 
-add-result : tie.Need-overflow-add-result
-add-result c =
-    let start = c.before.before.before.before.before.before.before in
+overflow_add-result : tie.Need-overflow_add-result
+overflow_add-result c =
+    let start = c in
     record { fits = omega (arith, degree_small start.args.k start.args.f.now, degree_small start.args.k start.args.g.now) }
 
-returns-2 : tie.Need-returns-2
-returns-2 c = ap₂ (λ d e. ltb 255 (d + e)) c.before.degree.ensures c.degree2.ensures
+returns : tie.Need-returns
+returns c = ap₂ (λ d e. ltb 255 (d + e)) c.degree.ensures c.degree-2.ensures
 
 pub sum_over_spec : {M : Type 1} → statement M
 sum_over_spec =
@@ -49,9 +49,9 @@ sum_over_spec =
     (tie.spec
     exponent-requires
     exponent-requires-2
-    add-if1
-    returns
+    overflow_add-exponent
+    returns-then-exponent-le255
     degree-requires
     degree-requires-2
-    add-result
-    returns-2)
+    overflow_add-result
+    returns)

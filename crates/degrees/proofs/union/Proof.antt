@@ -10,51 +10,51 @@ use Rattle.degrees.proofs.DegreeLaws.{degree_at, degree_end, or_bytes}
 use Rattle.degrees.proofs.union.Statement.{statement}
 use Rattle.degrees.proofs.union.Tie as tie
 
-abbrev invariant_loop : tie.invariant_loop
-invariant_loop f m₀ i₀ m i = (i % 2 ≡ 0) × ((k : ℕ) → degree k (terms f) ≤ max (get_or (bytes 8 m) k 0) (degree k (terms (drop i f))))
+abbrev invariant-loop-i : tie.invariant-loop-i
+invariant-loop-i f m₀ i₀ m i = (i % 2 ≡ 0) × ((k : ℕ) → degree k (terms f) ≤ max (get_or (bytes 8 m) k 0) (degree k (terms (drop i f))))
 
-abbrev decreases_loop : tie.decreases_loop
-decreases_loop f m₀ i₀ m i = length f - i
+abbrev decreases-loop-i : tie.decreases-loop-i
+decreases-loop-i f m₀ i₀ m i = length f - i
 
-loop-holds : tie.Need-loop-init invariant_loop decreases_loop
-loop-holds c = (search rules, λ k. omega arith)
+loop-i-init : tie.Need-loop-i-init invariant-loop-i decreases-loop-i
+loop-i-init c = (search rules, λ k. omega arith)
 
-add-m : tie.Need-overflow-add-m invariant_loop decreases_loop
-add-m c = search rules
+overflow_add-m : tie.Need-overflow_add-m invariant-loop-i decreases-loop-i
+overflow_add-m c = search rules
 
-mul-m : tie.Need-overflow-mul-m invariant_loop decreases_loop
-mul-m c = search rules
+offset_bounds-f-i : tie.Need-offset_bounds-f-i invariant-loop-i decreases-loop-i
+offset_bounds-f-i c = search rules
 
-shared-slice-read-m : tie.Need-shared-slice-read-m invariant_loop decreases_loop
-shared-slice-read-m c = search rules
+bounds-f-i : tie.Need-bounds-f-i invariant-loop-i decreases-loop-i
+bounds-f-i c = search rules
 
-add-i : tie.Need-overflow-add-i invariant_loop decreases_loop
-add-i c = search rules
+overflow_add-i : tie.Need-overflow_add-i invariant-loop-i decreases-loop-i
+overflow_add-i c = search rules
 
-loop-less : tie.Need-loop-smaller invariant_loop decreases_loop
-loop-less c = search rules
+loop-i-smaller : tie.Need-loop-i-smaller invariant-loop-i decreases-loop-i
+loop-i-smaller c = search rules
 
-loop-again : tie.Need-loop-preserved invariant_loop decreases_loop
-loop-again c =
-    let f = c.before.before.before.args.f.now in
-    let i = c.before.before.loop.i in
-    let m = c.before.before.loop.m in
-    (search rules, λ k. omega (arith, c.before.before.loop.invariant.1 k, degree_at k i f (omega arith), or_bytes 8 m (get_or f (i + 1) 0) k))
+loop-i-preserved : tie.Need-loop-i-preserved invariant-loop-i decreases-loop-i
+loop-i-preserved c =
+    let f = c.args.f.now in
+    let i = c.loop-i.i in
+    let m = c.loop-i.m in
+    (search rules, λ k. omega (arith, c.loop-i.invariant.1 k, degree_at k i f (omega arith), or_bytes 8 m (get_or f (i + 1) 0) k))
 
-returns : tie.Need-returns invariant_loop decreases_loop
-returns c = λ k. omega (arith, c.before.loop.invariant.1 k, degree_end k c.before.loop.i c.before.before.args.f.now (omega arith))
+returns : tie.Need-returns invariant-loop-i decreases-loop-i
+returns c = λ k. omega (arith, c.loop-i.invariant.1 k, degree_end k c.loop-i.i c.args.f.now (omega arith))
 
 pub union_spec : {M : Type 1} → statement M
 union_spec =
     tie.close
     (tie.spec
-    invariant_loop
-    decreases_loop
-    loop-holds
-    add-m
-    mul-m
-    shared-slice-read-m
-    add-i
-    loop-less
-    loop-again
+    invariant-loop-i
+    decreases-loop-i
+    loop-i-init
+    overflow_add-m
+    offset_bounds-f-i
+    bounds-f-i
+    overflow_add-i
+    loop-i-smaller
+    loop-i-preserved
     returns)

@@ -26,80 +26,80 @@ module _ (s : tie.Start) where
   Left ss = HeldIn s.args.work.now (record { branches = []; systems = ss })
 
 -- ── the outcome is seen ──
-abbrev refused_in : tie.After-enum-told2 → tie.Start
+abbrev refused_in : tie.In_default → tie.Start
 refused_in m = m.before.before.before.before.before
 
-abbrev finished_in : tie.After-enum-told → tie.Start
+abbrev finished_in : tie.In-Systems → tie.Start
 finished_in m = m.before.before.before.before.before
 
 -- The systems that the contract's run left.
-systems : (m : tie.After-enum-told) → (ss : List Stored) × Left (finished_in m) ss × AllListed ss
-systems m = left_systems (finished_in m).requires.3 m.enum_told.given.1
+systems : (m : tie.In-Systems) → (ss : List Stored) × Left (finished_in m) ss × AllListed ss
+systems m = left_systems (finished_in m).requires.3 m.enum_told-1.given.1
 
 -- ── the list has room ──
-abbrev sized_in : tie.After-list-size → tie.Start
+abbrev sized_in : tie.After-list_size → tie.Start
 sized_in m = finished_in m.before
 
-abbrev writes_in : tie.Else1 → tie.Start
+abbrev writes_in : tie.Else-output-list_size → tie.Start
 writes_in m = sized_in m.before
 
 -- ── the answers ──
-enum_told : tie.Need-enum-told
-enum_told c = search rules
+enum_told-1 : tie.Need-enum_told-1
+enum_told-1 c = search rules
 
-enum-told-2 : tie.Need-enum-told-2
-enum-told-2 c = search rules
+enum_told-in_default : tie.Need-enum_told-in_default
+enum_told-in_default c = search rules
 
-returns : tie.Need-returns
-returns c t e h x = refused_run t _ (refused_in c).args.output.now x c.enum-told2.given.1
+returns-in_default : tie.Need-returns-in_default
+returns-in_default c t e h x = refused_run t _ (refused_in c).args.output.now x c.enum_told-in_default-1.given.1
 
-list-size-requires : tie.Need-list-size-requires
-list-size-requires c κs = systems c
+list_size-requires : tie.Need-list_size-requires
+list_size-requires c κs = systems c
 
-returns-2 : tie.Need-returns-2
-returns-2 c t e h x =
-    let k = c.before in
-    too_long t _ k.list-size.result (sized_in k).args.output.now x k.before.enum_told.given.1 k.list-size.ensures c.if1.true
+returns-then-output-list_size : tie.Need-returns-then-output-list_size
+returns-then-output-list_size c t e h x =
+    let k = c in
+    too_long t _ k.list_size.result (sized_in k.before).args.output.now x k.enum_told-1.given.1 k.list_size.ensures c.if-output-list_size.true
 
-shared-slice-read-write-list : tie.Need-shared-slice-read-write-list
-shared-slice-read-write-list c = omega (arith, header (writes_in c.before))
+bounds-table-0 : tie.Need-bounds-table-0
+bounds-table-0 c = omega (arith, header (writes_in c.before))
 
-shared-slice-read-write-list-2 : tie.Need-shared-slice-read-write-list-2
-shared-slice-read-write-list-2 c = omega (arith, header (writes_in c.before.before))
+bounds-table-1 : tie.Need-bounds-table-1
+bounds-table-1 c = omega (arith, header (writes_in c.before.before))
 
-write-list-requires : tie.Need-write-list-requires
-write-list-requires c κs =
-    let f = c.before.before.before in
-    let k = f.before in
-    let known = systems k.before in (
+write_list-requires : tie.Need-write_list-requires
+write_list-requires c κs =
+    let f = c in
+    let k = f in
+    let known = systems k.before.before.before.before.before in (
       (known.0, known.1),
-      λ ss h. let l = listed_known known.1 h known.2 in (omega (arith, k.list-size.ensures ss h l, f.if1.false), l),
+      λ ss h. let l = listed_known known.1 h known.2 in (omega (arith, k.list_size.ensures ss h l, f.if-output-list_size.false), l),
     )
 
-same_length : tie.Need-same-length
-same_length c = search rules
+shape_of-output : tie.Need-shape_of-output
+shape_of-output c = search rules
 
-returns-3 : tie.Need-returns-3
-returns-3 c t e h x =
-    let n = c.before.before in
-    let f = n.before.before.before.before in
-    let k = f.before in
-    let a = (writes_in f).args in
+returns : tie.Need-returns
+returns c t e h x =
+    let n = c in
+    let f = n in
+    let k = f in
+    let a = (writes_in f.before.before.before.before.before.before).args in
     let r = table_read a.table.now t h in
-    list_written t _ k.list-size.result _ _ a.output.now _ x k.before.enum_told.given.1 k.list-size.ensures f.if1.false
-    r.modulus r.variables n.write-list.ensures
+    list_written t _ k.list_size.result _ _ a.output.now _ x k.enum_told-1.given.1 k.list_size.ensures f.if-output-list_size.false
+    r.modulus r.variables n.write_list.ensures
 
 pub deliver_spec : {M : Type 1} → statement M
 deliver_spec =
     tie.close
     (tie.spec
-    enum_told
-    enum-told-2
-    returns
-    list-size-requires
-    returns-2
-    shared-slice-read-write-list
-    shared-slice-read-write-list-2
-    write-list-requires
-    same_length
-    returns-3)
+    enum_told-1
+    enum_told-in_default
+    returns-in_default
+    list_size-requires
+    returns-then-output-list_size
+    bounds-table-0
+    bounds-table-1
+    write_list-requires
+    shape_of-output
+    returns)

@@ -6,24 +6,24 @@ use Rattle.delivery.proofs.DeliverLaws.{records_needed}
 use Rattle.delivery.proofs.list_size.Statement.{statement}
 use Rattle.delivery.proofs.list_size.Tie as tie
 
-listed-systems-requires : tie.Need-listed-systems-requires
-listed-systems-requires c κs = (_, c.before.requires.1)
+listed_systems-listed-requires : tie.Need-listed_systems-listed-requires
+listed_systems-listed-requires c κs = (_, c.requires.1)
 
-count-records-requires : tie.Need-count-records-requires
-count-records-requires c κs = search rules
+count_records-requires : tie.Need-count_records-requires
+count_records-requires c κs = search rules
 
-sub-result : tie.Need-overflow-sub-result
-sub-result c =
-    let n = c.before in
-    let h = n.before.before.before.requires.1 in
-    omega (arith, top_inside h (n.before.listed-systems.ensures _ h), n.count-records.ensures)
+overflow_sub-result : tie.Need-overflow_sub-result
+overflow_sub-result c =
+    let n = c in
+    let h = n.requires.1 in
+    omega (arith, top_inside h (n.listed_systems-listed.ensures _ h), n.count_records.ensures)
 
-add-result : tie.Need-overflow-add-result
-add-result c = search rules
+overflow_add-result : tie.Need-overflow_add-result
+overflow_add-result c = search rules
 
 returns : tie.Need-returns
-returns c ss h l = let n = c.before in omega (arith, records_needed h (n.before.listed-systems.ensures _ h) l, n.count-records.ensures)
+returns c ss h l = let n = c in omega (arith, records_needed h (n.listed_systems-listed.ensures _ h) l, n.count_records.ensures)
 
 pub list_size_spec : {M : Type 1} → statement M
 list_size_spec =
-    tie.close (tie.spec listed-systems-requires count-records-requires sub-result add-result returns)
+    tie.close (tie.spec listed_systems-listed-requires count_records-requires overflow_sub-result overflow_add-result returns)

@@ -15,35 +15,35 @@ use Rattle.division.proofs.subtract_product.Statement.{statement}
 use Rattle.division.proofs.subtract_product.Tie as tie
 
 abbrev start : tie.After-product → tie.Start
-start c = c.before.before.before.before.before.before.before.before.before.before
+start c = c.before.before.before.before.before.before.before.before.before
 
 abbrev P : tie.After-product → Bounded
 P c = bounded_product standard (start c).args.p (terms (take (start c).args.l (start c).args.r.now)) (terms (start c).args.t.now)
 
 abbrev Y : tie.After-product → List ℕ
-Y c = c.product.new.1.1.1.0
+Y c = c.product.new.x
 
-abbrev called : tie.After-b → tie.After-product
+abbrev called : tie.In-Words-2 → tie.After-product
 called c = c.before.before.before.before.before.before
 
 -- The product is formed.
-answer : (c : tie.After-b) → Answered (start (called c)).args.p (P (called c)) c.b.given.0.0 (Y (called c))
+answer : (c : tie.In-Words-2) → Answered (start (called c)).args.p (P (called c)) c.b-1.given.0.0 (Y (called c))
 answer c =
     let s = start (called c) in
-    product_answered s.args.p s.pre.0.0 _ _ _ c.b.given.1 (terms (take s.args.l s.args.r.now)) (terms s.args.t.now) (called c).product.ensures
+    product_answered s.args.p s.requires.0.0 _ _ _ c.b-1.given.1 (terms (take s.args.l s.args.r.now)) (terms s.args.t.now) (called c).product.ensures
 
 -- a and the product find room in r.
-room : (c : tie.After-b) → length (start (called c)).args.a.now + length (take c.b.given.0.0 (Y (called c))) ≤ length (start (called c)).args.r.now
+room : (c : tie.In-Words-2) → length (start (called c)).args.a.now + length (take c.b-1.given.0.0 (Y (called c))) ≤ length (start (called c)).args.r.now
 room c =
     let s = start (called c) in
-    let taken = length-take-le s.args.l s.args.r.now s.pre.1.1.0.0 in
-    let few = product_words s.args.p _ _ _ _ s.pre.1.1.0.2.pairs s.pre.1.0.pairs taken refl _ _ (answer c) in
-    product_difference_lent _ _ _ _ _ s.pre.1.1.1.0.few (answer c).holds.few (omega (arith, few, length-take-le c.b.given.0.0 (Y (called c)) (answer c).inside)) s.pre.1.1.0.1
+    let taken = length-take-le s.args.l s.args.r.now s.requires.1.1.0.0 in
+    let few = product_words s.args.p _ _ _ _ s.requires.1.1.0.2.pairs s.requires.1.0.pairs taken refl _ _ (answer c) in
+    product_difference_lent _ _ _ _ _ s.requires.1.1.1.0.few (answer c).holds.few (omega (arith, few, length-take-le c.b-1.given.0.0 (Y (called c)) (answer c).inside)) s.requires.1.1.0.1
 
-subtract-row-requires : tie.Need-subtract-row-requires
-subtract-row-requires c κs =
-    let s = c.before.before.before.before.before.before.before in
-    let one = c.before.if1.true in (
+subtract_row-requires : tie.Need-subtract_row-requires
+subtract_row-requires c κs =
+    let s = c in
+    let one = c.if-l-eq2.true in (
       s.requires.0,
       (
         s.requires.1.0,
@@ -54,119 +54,119 @@ subtract-row-requires c κs =
       ),
     )
 
-same_length : tie.Need-same-length
-same_length c = search rules
+shape_of-r-then-l-eq2 : tie.Need-shape_of-r-then-l-eq2
+shape_of-r-then-l-eq2 c = search rules
 
-returns : tie.Need-returns
-returns c =
-    let s = c.before.before.before.before.before.before.before.before.before.before in
+returns-then-l-eq2 : tie.Need-returns-then-l-eq2
+returns-then-l-eq2 c =
+    let s = c in
     let p = s.args.p in
     let t = terms s.args.t.now in
     let less = bounded_difference standard p (terms s.args.a.now) in
-    let u = c.before.before.subtract-row in
+    let u = c.subtract_row in
     subst (λ (l : ℕ). Forms (and_then (bounded_product standard p (terms (take l s.args.r.now)) t) less) u.result u.new.1.1.0)
-    (sym c.before.before.before.before.if1.true) c.before.before.subtract-row.ensures
+    (sym c.if-l-eq2.true) c.subtract_row.ensures
 
-slice-reshare-prefix-product : tie.Need-slice-reshare-prefix-product
-slice-reshare-prefix-product c = search rules
+slice_bounds-product-end : tie.Need-slice_bounds-product-end
+slice_bounds-product-end c = search rules
 
-slice-aggregate-product : tie.Need-slice-aggregate-product
-slice-aggregate-product c = let s = c.before.before.before.before.before.before.before in sym (length-take-le s.args.l s.args.r.now s.requires.1.1.0.0)
+slice_bounds-product-end-2 : tie.Need-slice_bounds-product-end-2
+slice_bounds-product-end-2 c = let s = c in sym (length-take-le s.args.l s.args.r.now s.requires.1.1.0.0)
 
 product-requires : tie.Need-product-requires
 product-requires c κs =
-    let s = c.before.before.before.before.before.before.before.before.before in
+    let s = c in
     let taken = length-take-le s.args.l s.args.r.now s.requires.1.1.0.0 in
     (s.requires.0, (s.requires.1.1.0.2, (s.requires.1.0, (factor_lent_as _ _ _ _ taken s.requires.1.1.1.1.0, factor_lent_as _ _ _ _ taken s.requires.1.1.1.1.1))))
 
-enum-known-b : tie.Need-enum-known-b
-enum-known-b c = c.match.keys1
+enum_known-b : tie.Need-enum_known-b
+enum_known-b c = c.in-Words-1.keys1
 
-slice-reshare-prefix-difference : tie.Need-slice-reshare-prefix-difference
-slice-reshare-prefix-difference c = (answer c.before).inside
+slice_bounds-difference-end : tie.Need-slice_bounds-difference-end
+slice_bounds-difference-end c = (answer c.before).inside
 
-slice-aggregate-difference : tie.Need-slice-aggregate-difference
-slice-aggregate-difference c = let b = c.before.before in sym (length-take-le b.b.given.0.0 (Y (called b)) (answer b).inside)
+slice_bounds-difference-end-in-Words : tie.Need-slice_bounds-difference-end-in-Words
+slice_bounds-difference-end-in-Words c = let b = c in sym (length-take-le b.b-1.given.0.0 (Y (called b.before)) (answer b.before).inside)
 
 difference-requires : tie.Need-difference-requires
 difference-requires c κs =
-    let b = c.before.before.before in
-    let s = start (called b) in
-    (s.pre.0, (s.pre.1.1.1.0, ((answer b).holds, room b)))
+    let b = c in
+    let s = start (called b.before.before) in
+    (s.requires.0, (s.requires.1.1.1.0, ((answer b.before.before).holds, room b.before.before)))
 
-enum_told : tie.Need-enum-told
-enum_told c = c.match.keys2
+enum_told-1 : tie.Need-enum_told-1
+enum_told-1 c = c.in-OverDegree-1.keys2
 
-enum-told-2 : tie.Need-enum-told-2
-enum-told-2 c = c.match.keys3
+enum_told-in-OverTerms : tie.Need-enum_told-in-OverTerms
+enum_told-in-OverTerms c = c.in-OverTerms-1.keys3
 
-same-length-2 : tie.Need-same-length-2
-same-length-2 c = search rules
+shape_of-r-in-Words : tie.Need-shape_of-r-in-Words
+shape_of-r-in-Words c = search rules
 
-same-length-3 : tie.Need-same-length-3
-same-length-3 c = search rules
+shape_of-y-in-Words : tie.Need-shape_of-y-in-Words
+shape_of-y-in-Words c = search rules
 
-same-length-4 : tie.Need-same-length-4
-same-length-4 c = search rules
+shape_of-z-in-Words : tie.Need-shape_of-z-in-Words
+shape_of-z-in-Words c = search rules
 
-returns-2 : tie.Need-returns-2
-returns-2 c =
-    let b = c.before.before.before.before.before.before in
-    then_formed (P (called b)) _ _ _ _ (Y (called b)) _ (answer b) c.before.before.difference.ensures
+returns-in-Words : tie.Need-returns-in-Words
+returns-in-Words c =
+    let b = c in
+    then_formed (P (called b.before.before.before.before.before)) _ _ _ _ (Y (called b.before.before.before.before.before)) _ (answer b.before.before.before.before.before) c.difference.ensures
 
-same-length-5 : tie.Need-same-length-5
-same-length-5 c = search rules
+shape_of-r-in-OverDegree : tie.Need-shape_of-r-in-OverDegree
+shape_of-r-in-OverDegree c = search rules
 
-same-length-6 : tie.Need-same-length-6
-same-length-6 c = search rules
+shape_of-y-in-OverDegree : tie.Need-shape_of-y-in-OverDegree
+shape_of-y-in-OverDegree c = search rules
 
-same-length-7 : tie.Need-same-length-7
-same-length-7 c = search rules
+shape_of-z-in-OverDegree : tie.Need-shape_of-z-in-OverDegree
+shape_of-z-in-OverDegree c = search rules
 
-returns-3 : tie.Need-returns-3
-returns-3 c =
-    let u = c.before.before.before.before.before.before in
-    then_degree (P u) _ _ u.product.result (Y u) c.enum_told.given.1 u.product.ensures
+returns-in-OverDegree : tie.Need-returns-in-OverDegree
+returns-in-OverDegree c =
+    let u = c in
+    then_degree (P u.before.before.before.before.before.before) _ _ u.product.result (Y u.before.before.before.before.before.before) c.enum_told-1.given.1 u.product.ensures
 
-same-length-8 : tie.Need-same-length-8
-same-length-8 c = search rules
+shape_of-r-in-OverTerms : tie.Need-shape_of-r-in-OverTerms
+shape_of-r-in-OverTerms c = search rules
 
-same-length-9 : tie.Need-same-length-9
-same-length-9 c = search rules
+shape_of-y-in-OverTerms : tie.Need-shape_of-y-in-OverTerms
+shape_of-y-in-OverTerms c = search rules
 
-same-length-10 : tie.Need-same-length-10
-same-length-10 c = search rules
+shape_of-z-in-OverTerms : tie.Need-shape_of-z-in-OverTerms
+shape_of-z-in-OverTerms c = search rules
 
-returns-4 : tie.Need-returns-4
-returns-4 c =
-    let u = c.before.before.before.before.before.before in
-    then_terms (P u) _ _ u.product.result (Y u) c.enum-told2.given.1 u.product.ensures
+returns-in-OverTerms : tie.Need-returns-in-OverTerms
+returns-in-OverTerms c =
+    let u = c in
+    then_terms (P u.before.before.before.before.before.before) _ _ u.product.result (Y u.before.before.before.before.before.before) c.enum_told-in-OverTerms-1.given.1 u.product.ensures
 
 pub subtract_product_spec : {M : Type 1} → statement M
 subtract_product_spec =
     tie.close
     (tie.spec
-    subtract-row-requires
-    same_length
-    returns
-    slice-reshare-prefix-product
-    slice-aggregate-product
+    subtract_row-requires
+    shape_of-r-then-l-eq2
+    returns-then-l-eq2
+    slice_bounds-product-end
+    slice_bounds-product-end-2
     product-requires
-    enum-known-b
-    slice-reshare-prefix-difference
-    slice-aggregate-difference
+    enum_known-b
+    slice_bounds-difference-end
+    slice_bounds-difference-end-in-Words
     difference-requires
-    enum_told
-    enum-told-2
-    same-length-2
-    same-length-3
-    same-length-4
-    returns-2
-    same-length-5
-    same-length-6
-    same-length-7
-    returns-3
-    same-length-8
-    same-length-9
-    same-length-10
-    returns-4)
+    enum_told-1
+    enum_told-in-OverTerms
+    shape_of-r-in-Words
+    shape_of-y-in-Words
+    shape_of-z-in-Words
+    returns-in-Words
+    shape_of-r-in-OverDegree
+    shape_of-y-in-OverDegree
+    shape_of-z-in-OverDegree
+    returns-in-OverDegree
+    shape_of-r-in-OverTerms
+    shape_of-y-in-OverTerms
+    shape_of-z-in-OverTerms
+    returns-in-OverTerms)

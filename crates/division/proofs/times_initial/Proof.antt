@@ -9,55 +9,55 @@ use Rattle.division.proofs.RoundLaws.{copy_forms}
 use Rattle.division.proofs.times_initial.Statement.{statement}
 use Rattle.division.proofs.times_initial.Tie as tie
 
-abbrev start : tie.Then3 → tie.Start
+abbrev start : tie.Then-i-eq0 → tie.Start
 start one = one.before.before.before.before.before.before.before.before.before
 
 -- A copy of f finds room in x: it is the one row.
-room : (one : tie.Then3) → length (start one).args.f.now ≤ length (start one).args.x.now
-room one = let s = start one in row_lent _ _ _ (omega (arith, one.before.before.before.before.if1.true)) s.pre.1.1.0.few s.pre.1.1.1.0
+room : (one : tie.Then-i-eq0) → length (start one).args.f.now ≤ length (start one).args.x.now
+room one = let s = start one in row_lent _ _ _ (omega (arith, one.if-i-eq2.true)) s.requires.1.1.0.few s.requires.1.1.1.0
 
-shared-slice-read-if2 : tie.Need-shared-slice-read-if2
-shared-slice-read-if2 c = search rules
+bounds-i-0 : tie.Need-bounds-i-0
+bounds-i-0 c = search rules
 
-shared-slice-read-if3 : tie.Need-shared-slice-read-if3
-shared-slice-read-if3 c = search rules
+bounds-i-1 : tie.Need-bounds-i-1
+bounds-i-1 c = search rules
 
 copy-requires : tie.Need-copy-requires
 copy-requires c κs = omega (arith, room c.before)
 
-same_length : tie.Need-same-length
-same_length c = search rules
+shape_of-x-then-i-eq0 : tie.Need-shape_of-x-then-i-eq0
+shape_of-x-then-i-eq0 c = search rules
 
-returns : tie.Need-returns
-returns c =
-    let one = c.before.before.before.before in
-    let s = start one in
-    copy_forms s.args.p s.pre.0.0 s.args.i.now s.args.f.now s.args.x.now _
-    one.before.before.before.before.if1.true (eqb-true (get_or s.args.i.now 0 0) 1 one.before.before.if2.true) (eqb-true (get_or s.args.i.now 1 0) 0 one.if3.true)
-    s.pre.1.1.0 (room one) c.before.before.copy.ensures
+returns-then-i-eq0 : tie.Need-returns-then-i-eq0
+returns-then-i-eq0 c =
+    let one = c in
+    let s = start one.before.before.before.before in
+    copy_forms s.args.p s.requires.0.0 s.args.i.now s.args.f.now s.args.x.now _
+    one.if-i-eq2.true (eqb-true (get_or s.args.i.now 0 0) 1 one.if-i-eq1.true) (eqb-true (get_or s.args.i.now 1 0) 0 one.if-i-eq0.true)
+    s.requires.1.1.0 (room one.before.before.before.before) c.copy.ensures
 
 product-requires : tie.Need-product-requires
 product-requires c κs = search rules
 
-same-length-2 : tie.Need-same-length-2
-same-length-2 c = search rules
+shape_of-x : tie.Need-shape_of-x
+shape_of-x c = search rules
 
-same-length-3 : tie.Need-same-length-3
-same-length-3 c = search rules
+shape_of-z : tie.Need-shape_of-z
+shape_of-z c = search rules
 
-returns-2 : tie.Need-returns-2
-returns-2 c = search rules
+returns : tie.Need-returns
+returns c = search rules
 
 pub times_initial_spec : {M : Type 1} → statement M
 times_initial_spec =
     tie.close
     (tie.spec
-    shared-slice-read-if2
-    shared-slice-read-if3
+    bounds-i-0
+    bounds-i-1
     copy-requires
-    same_length
-    returns
+    shape_of-x-then-i-eq0
+    returns-then-i-eq0
     product-requires
-    same-length-2
-    same-length-3
-    returns-2)
+    shape_of-x
+    shape_of-z
+    returns)

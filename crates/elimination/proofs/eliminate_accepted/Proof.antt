@@ -38,8 +38,8 @@ module _ (s : tie.Start) where
   due t = run_of (limits_in most) s.args.limit t
 
   -- What is read of the table that the contract's `requires` tells of.
-  told : TableRead s.args.table.now s.pre.0
-  told = table_read s.args.table.now s.pre.0 s.pre.1
+  told : TableRead s.args.table.now s.requires.0
+  told = table_read s.args.table.now s.requires.0 s.requires.1
 
   header : 4 ≤ length s.args.table.now
   header = readable_words told.readable
@@ -50,27 +50,27 @@ module _ (m : tie.After-start) where
   entry = m.before.before.before.before.before.before
 
   abbrev area : List ℕ
-  area = m.start.last.1.0
+  area = m.start.new.work
 
   same_room : capacity area ≡ most entry
-  same_room = same_capacity area entry.args.work.now m.start.kept.1.0
+  same_room = same_capacity area entry.args.work.now m.start.auto.work
 
   begun : (t : Input) → read_table entry.args.table.now ≡ good t
       → Started t (start (limits_in (most entry)) t) (most entry) m.start.result (view area)
   begun t e = m.start.ensures.0 t e
 
 -- ── it found no room; or it found room ──
-abbrev no_room_in : tie.Then1 → tie.After-start
+abbrev no_room_in : tie.Then-not-start → tie.After-start
 no_room_in m = m.before.before.before.before
 
-abbrev to_start : tie.Else1 → tie.After-start
+abbrev to_start : tie.Else-not-start → tie.After-start
 to_start m = m.before.before.before.before
 
-found_room : (m : tie.Else1) → (to_start m).start.result ≡ true
-found_room m = not-false (to_start m).start.result m.if1.false
+found_room : (m : tie.Else-not-start) → (to_start m).start.result ≡ true
+found_room m = not-false (to_start m).start.result m.if-not-start.false
 
 -- ── the run is due ──
-module _ (m : tie.Else1) where
+module _ (m : tie.Else-not-start) where
   abbrev to_begun : tie.After-start
   to_begun = to_start m
 
@@ -83,22 +83,22 @@ module _ (m : tie.Else1) where
   first : (a : Area) × HeldIn (area to_begun) a × Ready modulus a
   first =
       let s = entry to_begun in
-      begins s.pre.0 (most s) s.args.limit (view (area to_begun)) (begun to_begun s.pre.0 s.pre.1) (found_room m)
+      begins s.requires.0 (most s) s.args.limit (view (area to_begun)) (begun to_begun s.requires.0 s.requires.1) (found_room m)
       (told s).modulus (same_room to_begun)
 
 -- ── it has been made, in short scratch or in long ──
-abbrev run_due : tie.Joined2 → tie.Else1
+abbrev run_due : tie.Joined-table-le128 → tie.Else-not-start
 run_due m = m.before.before
 
-module _ (m : tie.Joined2) where
+module _ (m : tie.Joined-table-le128) where
   abbrev from_start : tie.After-start
   from_start = to_start (run_due m)
 
   abbrev left : List ℕ
-  left = m.if2.work
+  left = m.if-table-le128.work
 
   abbrev answer : Answer
-  answer = m.if2.ran
+  answer = m.if-table-le128.ran
 
   -- What both calls tell.
   abbrev HasRun : Answer → List ℕ → Type 0
@@ -111,9 +111,9 @@ module _ (m : tie.Joined2) where
   has_run : HasRun answer left
   has_run =
       ⊎_elim
-      (λ c. same_answer c.7 c.8 (c.3.kept.0, c.3.ensures.0, c.3.ensures.1))
-      (λ c. same_answer c.5 c.6 (c.2.kept.0, runs_from_0 _ _ _ _ _ c.2.ensures.0, c.2.ensures.1))
-      m.if2.came
+      (λ c. same_answer c.7 c.8 (c.3.auto.0, c.3.ensures.0, c.3.ensures.1))
+      (λ c. same_answer c.5 c.6 (c.2.auto.0, runs_from_0 _ _ _ _ _ c.2.ensures.0, c.2.ensures.1))
+      m.if-table-le128.came
 
   left_room : most (entry from_start) ≡ capacity left
   left_room = sym (same_capacity left (area from_start) has_run.0 ∙ same_room from_start)
@@ -127,67 +127,67 @@ module _ (m : tie.Joined2) where
       (table_read a.table.now t e).modulus (same_room from_start) has_run.1)
 
 -- ── the answers ──
-slice-aggregate-start : tie.Need-slice-aggregate-start
-slice-aggregate-start c = search rules
+slice_bounds-start-end : tie.Need-slice_bounds-start-end
+slice_bounds-start-end c = search rules
 
 start-requires : tie.Need-start-requires
 start-requires c κs = search rules
 
-same_length : tie.Need-same-length
-same_length c = search rules
+shape_of-work-then-not-start : tie.Need-shape_of-work-then-not-start
+shape_of-work-then-not-start c = search rules
 
-returns : tie.Need-returns
-returns c =
+returns-then-not-start : tie.Need-returns-then-not-start
+returns-then-not-start c =
     let f = no_room_in c in
     let s = entry f in
-    let none = not-true f.start.result c.if1.true in (
+    let none = not-true f.start.result c.if-not-start.true in (
       λ t e. in_words s.args.work.now (room s) s.args.limit t
           (no_room t (most s) s.args.limit (view (area f)) (begun f t e) (room s) s.args.output.now none),
       (λ t e. no_room_leaves t (most s) s.args.limit (view (area f)) (begun f t e) none, (f.start.ensures.1.0, f.start.ensures.1.1)),
     )
 
-shared-slice-read-p : tie.Need-shared-slice-read-p
-shared-slice-read-p c = omega (arith, header (entry (to_start c.before)))
+bounds-table-0 : tie.Need-bounds-table-0
+bounds-table-0 c = omega (arith, header (entry (to_start c.before)))
 
-cast-p : tie.Need-overflow-cast-p
-cast-p c = omega (arith, c.shared-slice-known2.given 0)
+overflow_cast-p : tie.Need-overflow_cast-p
+overflow_cast-p c = omega (arith, c.shared_slice_known-2-1.given 0)
 
-slice-aggregate-run-short : tie.Need-slice-aggregate-run-short
-slice-aggregate-run-short c = search rules
+slice_bounds-run_short-end : tie.Need-slice_bounds-run_short-end
+slice_bounds-run_short-end c = search rules
 
-run-short-requires : tie.Need-run-short-requires
-run-short-requires c κs =
-    let m = c.before.before.before.before in
-    (residues m, first m, omega (arith, (to_start m).start.auto.1.1.0))
+run_short-ran-requires : tie.Need-run_short-ran-requires
+run_short-ran-requires c κs =
+    let m = c in
+    (residues m.before.before.before.before, first m.before.before.before.before, omega (arith, (to_start m.before.before.before.before).start.auto.r))
 
-run-long-requires : tie.Need-run-long-requires
-run-long-requires c κs = let m = c.before.before.before in (residues m, omega arith, first m)
+run_long-ran-requires : tie.Need-run_long-ran-requires
+run_long-ran-requires c κs = let m = c in (residues m.before.before.before, omega arith, first m.before.before.before)
 
 -- The run is delivered.
-abbrev delivers : tie.After-deliver-arg2 → tie.Joined2
+abbrev delivers : tie.After-deliver-arg2 → tie.Joined-table-le128
 delivers m = m.before.before
 
 deliver-requires : tie.Need-deliver-requires
 deliver-requires c κs =
     let n = delivers c in
     let s = entry (from_start n) in
-    (s.pre.0, due s s.pre.0, s.pre.1, ran n s.pre.0 s.pre.1)
+    (s.requires.0, due s s.requires.0, s.requires.1, ran n s.requires.0 s.requires.1)
 
-same-length-2 : tie.Need-same-length-2
-same-length-2 c =
+shape_of-work : tie.Need-shape_of-work
+shape_of-work c =
     let n = delivers c.before.before.before in
-    (has_run n).0 ∙ (from_start n).start.kept.1.0
+    (has_run n).0 ∙ (from_start n).start.auto.work
 
-same-length-3 : tie.Need-same-length-3
-same-length-3 c = search rules
+shape_of-output : tie.Need-shape_of-output
+shape_of-output c = search rules
 
-returns-2 : tie.Need-returns-2
-returns-2 c =
-    let d = c.before.before in
+returns : tie.Need-returns
+returns c =
+    let d = c in
     let n = delivers d.before in
     let s = entry (from_start n) in
     let f = from_start n in
-    let two = started_in_two s.pre.0 (most s) s.args.limit (view (area f)) (begun f s.pre.0 s.pre.1) (found_room (run_due n)) in (
+    let two = started_in_two s.requires.0 (most s) s.args.limit (view (area f)) (begun f s.requires.0 s.requires.1) (found_room (run_due n)) in (
       λ t e. in_words s.args.work.now (room s) s.args.limit t (d.deliver.ensures t (due s t) e (ran n t e)),
       (
         λ t e. run_leaves t (most s) s.args.limit (view (area f)) (begun f t e) (found_room (run_due n))
@@ -200,16 +200,16 @@ pub eliminate_accepted_spec : {M : Type 1} → statement M
 eliminate_accepted_spec =
     tie.close
     (tie.spec
-    slice-aggregate-start
+    slice_bounds-start-end
     start-requires
-    same_length
-    returns
-    shared-slice-read-p
-    cast-p
-    slice-aggregate-run-short
-    run-short-requires
-    run-long-requires
+    shape_of-work-then-not-start
+    returns-then-not-start
+    bounds-table-0
+    overflow_cast-p
+    slice_bounds-run_short-end
+    run_short-ran-requires
+    run_long-ran-requires
     deliver-requires
-    same-length-2
-    same-length-3
-    returns-2)
+    shape_of-work
+    shape_of-output
+    returns)

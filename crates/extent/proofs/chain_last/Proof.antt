@@ -14,95 +14,95 @@ use Rattle.extent.proofs.ExtentLaws.{Walking, walking_first, walking_end, walkin
 use Rattle.extent.proofs.chain_last.Statement.{statement}
 use Rattle.extent.proofs.chain_last.Tie as tie
 
-abbrev invariant_loop : tie.invariant_loop
-invariant_loop list i j at₀ index₀ at index = Walking list (chain_last list i j) at index
+abbrev invariant-loop-k : tie.invariant-loop-k
+invariant-loop-k list i j at₀ index₀ at index = Walking list (chain_last list i j) at index
 
-abbrev decreases_loop : tie.decreases_loop
-decreases_loop list i j at₀ index₀ at index = records list - at
+abbrev decreases-loop-k : tie.decreases-loop-k
+decreases-loop-k list i j at₀ index₀ at index = records list - at
 
 -- ── the places ──
 -- The index at the loop's head is followed, and leads to record k.
 abbrev Followed : Type 0
-Followed = tie.After-follow invariant_loop decreases_loop
+Followed = tie.After-follow invariant-loop-k decreases-loop-k
 
 abbrev list : Followed → List ℕ
-list c = c.before.before.before.before.args.list.now
+list c = c.args.list.now
 
 abbrev Found : Type 0
-Found = tie.After-k invariant_loop decreases_loop
+Found = tie.In-To-2 invariant-loop-k decreases-loop-k
 
 abbrev followed : Found → Followed
 followed c = c.before.before
 
 abbrev k : Found → ℕ
-k c = c.k.given.0.0
+k c = c.k-1.given.0.0
 
 -- ── what is known there ──
-leads_on : (c : Found) → let f = followed c in next (follow (list f) f.before.loop.at f.before.loop.index) ≡ To (k c)
-leads_on c = sym (followed c).follow.ensures ∙ c.k.given.1
+leads_on : (c : Found) → let f = followed c in next (follow (list f) f.loop-k.at f.loop-k.index) ≡ To (k c)
+leads_on c = sym (followed c).follow.ensures ∙ c.k-1.given.1
 
-inside : (c : Found) → let f = followed c in (f.before.loop.at < k c) × (k c < records (list f))
-inside c = let f = followed c in next_inside (list f) f.before.loop.at f.before.loop.index (k c) (leads_on c)
+inside : (c : Found) → let f = followed c in (f.loop-k.at < k c) × (k c < records (list f))
+inside c = let f = followed c in next_inside (list f) f.loop-k.at f.loop-k.index (k c) (leads_on c)
 
 -- ── the needs ──
-word-requires : tie.Need-word-requires invariant_loop decreases_loop
-word-requires c κs = search rules
+word-index-requires : tie.Need-word-index-requires invariant-loop-k decreases-loop-k
+word-index-requires c κs = search rules
 
-loop-holds : tie.Need-loop-init invariant_loop decreases_loop
-loop-holds c =
-    let a = c.before.before.args in
-    rw c.word.ensures (walking_first a.list.now a.i a.j c.before.before.requires.0)
+loop-k-init : tie.Need-loop-k-init invariant-loop-k decreases-loop-k
+loop-k-init c =
+    let a = c.args in
+    rw c.word-index.ensures (walking_first a.list.now a.i a.j c.requires.0)
 
-follow-requires : tie.Need-follow-requires invariant_loop decreases_loop
+follow-requires : tie.Need-follow-requires invariant-loop-k decreases-loop-k
 follow-requires c κs = search rules
 
-enum-known-k : tie.Need-enum-known-k invariant_loop decreases_loop
-enum-known-k c = search rules
+enum_known-k : tie.Need-enum_known-k invariant-loop-k decreases-loop-k
+enum_known-k c = search rules
 
-word-requires-2 : tie.Need-word-requires-2 invariant_loop decreases_loop
-word-requires-2 c κs = ((inside c.before).1, omega arith)
+word-index-requires-in-To : tie.Need-word-index-requires-in-To invariant-loop-k decreases-loop-k
+word-index-requires-in-To c κs = ((inside c.before).1, omega arith)
 
-loop-less : tie.Need-loop-smaller invariant_loop decreases_loop
-loop-less c = let h = inside c.before.before in omega (arith, h.0, h.1)
+loop-k-smaller : tie.Need-loop-k-smaller invariant-loop-k decreases-loop-k
+loop-k-smaller c = let h = inside c.before.before in omega (arith, h.0, h.1)
 
-loop-again : tie.Need-loop-preserved invariant_loop decreases_loop
-loop-again c =
-    let d = c.before.before in
-    let l = (followed d).before.loop in
-    rw c.word2.ensures (walking_on (list (followed d)) l.at l.index (k d) l.inv (leads_on d))
+loop-k-preserved : tie.Need-loop-k-preserved invariant-loop-k decreases-loop-k
+loop-k-preserved c =
+    let d = c in
+    let l = (followed d.before.before).loop-k in
+    rw c.word-index-in-To.ensures (walking_on (list (followed d.before.before)) l.at l.index (k d.before.before) l.invariant (leads_on d.before.before))
 
-enum_told : tie.Need-enum-told invariant_loop decreases_loop
-enum_told c = search rules
+enum_told-1 : tie.Need-enum_told-1 invariant-loop-k decreases-loop-k
+enum_told-1 c = search rules
 
-returns : tie.Need-returns invariant_loop decreases_loop
-returns c =
-    let f = c.before.before in
-    let l = f.before.loop in
-    (walking_end (list f) l.at l.index l.invariant (sym f.follow.ensures ∙ c.enum_told.given.1), l.invariant.inside)
+returns-in-End : tie.Need-returns-in-End invariant-loop-k decreases-loop-k
+returns-in-End c =
+    let f = c in
+    let l = f.loop-k in
+    (walking_end (list f.before.before) l.at l.index l.invariant (sym f.follow.ensures ∙ c.enum_told-1.given.1), l.invariant.inside)
 
-enum-told-2 : tie.Need-enum-told-2 invariant_loop decreases_loop
-enum-told-2 c = search rules
+enum_told-in-Astray : tie.Need-enum_told-in-Astray invariant-loop-k decreases-loop-k
+enum_told-in-Astray c = search rules
 
-returns-2 : tie.Need-returns-2 invariant_loop decreases_loop
-returns-2 c =
-    let f = c.before.before in
-    let l = f.before.loop in
-    (walking_astray (list f) l.at l.index l.invariant (sym f.follow.ensures ∙ c.enum-told2.given.1), l.invariant.inside)
+returns-in-Astray : tie.Need-returns-in-Astray invariant-loop-k decreases-loop-k
+returns-in-Astray c =
+    let f = c in
+    let l = f.loop-k in
+    (walking_astray (list f.before.before) l.at l.index l.invariant (sym f.follow.ensures ∙ c.enum_told-in-Astray-1.given.1), l.invariant.inside)
 
 pub chain_last_spec : {M : Type 1} → statement M
 chain_last_spec =
     tie.close
     (tie.spec
-    invariant_loop
-    decreases_loop
-    word-requires
-    loop-holds
+    invariant-loop-k
+    decreases-loop-k
+    word-index-requires
+    loop-k-init
     follow-requires
-    enum-known-k
-    word-requires-2
-    loop-less
-    loop-again
-    enum_told
-    returns
-    enum-told-2
-    returns-2)
+    enum_known-k
+    word-index-requires-in-To
+    loop-k-smaller
+    loop-k-preserved
+    enum_told-1
+    returns-in-End
+    enum_told-in-Astray
+    returns-in-Astray)

@@ -8,71 +8,71 @@ use Rattle.extent.proofs.written_records.Statement.{statement}
 use Rattle.extent.proofs.written_records.Tie as tie
 
 -- The places: the chain of the systems is walked, then U's of the last one, then T's.
-abbrev entry : tie.After-chain-last → tie.Start
+abbrev entry : tie.After-chain_last-system → tie.Start
 entry c = c.before.before.before
 
-abbrev first : tie.After-chain-last2 → tie.After-chain-last
+abbrev first : tie.After-chain_last-u → tie.After-chain_last-system
 first c = c.before.before
 
-abbrev list : tie.After-chain-last2 → List ℕ
+abbrev list : tie.After-chain_last-u → List ℕ
 list c = (entry (first c)).args.list.now
 
+returns-then-list-lt4 : tie.Need-returns-then-list-lt4
+returns-then-list-lt4 c = (extent_none c.args.list.now c.if-list-lt4.true, omega arith)
+
+chain_last-system-requires : tie.Need-chain_last-system-requires
+chain_last-system-requires c κs = search rules
+
+returns-then-system-eq0 : tie.Need-returns-then-system-eq0
+returns-then-system-eq0 c = (extent_header c.args.list.now c.if-list-lt4.false c.chain_last-system.ensures.0 c.if-system-eq0.true, omega arith)
+
+chain_last-u-requires : tie.Need-chain_last-u-requires
+chain_last-u-requires c κs = search rules
+
+chain_last-requires : tie.Need-chain_last-requires
+chain_last-requires c κs = search rules
+
+overflow_add-result : tie.Need-overflow_add-result
+overflow_add-result c = search rules
+
+returns-then-u-system : tie.Need-returns-then-u-system
+returns-then-u-system c =
+    let d = c in
+    let b = first d.before.before in (
+      extent_u (list d.before.before) b.if-list-lt4.left b.chain_last-system.ensures.0 d.if-system-eq0.false d.chain_last-u.ensures.0
+          c.if-u-system.true c.chain_last.ensures.0,
+      omega arith,
+    )
+
+chain_last-t-requires : tie.Need-chain_last-t-requires
+chain_last-t-requires c κs = search rules
+
+chain_last-requires-then-t-system : tie.Need-chain_last-requires-then-t-system
+chain_last-requires-then-t-system c κs = search rules
+
+overflow_add-result-then-t-system : tie.Need-overflow_add-result-then-t-system
+overflow_add-result-then-t-system c = search rules
+
+returns-then-t-system : tie.Need-returns-then-t-system
+returns-then-t-system c =
+    let u = c in
+    let d = u in
+    let b = first d.before.before.before.before in (
+      extent_t (list d.before.before.before.before) b.if-list-lt4.left b.chain_last-system.ensures.0 d.if-system-eq0.false d.chain_last-u.ensures.0
+          u.if-u-system.false u.chain_last-t.ensures.0 c.if-t-system.true c.chain_last-then-t-system.ensures.0,
+      omega arith,
+    )
+
+overflow_add-result-2 : tie.Need-overflow_add-result-2
+overflow_add-result-2 c = search rules
+
 returns : tie.Need-returns
-returns c = (extent_none c.before.before.args.list.now c.if1.true, omega arith)
-
-chain-last-requires : tie.Need-chain-last-requires
-chain-last-requires c κs = search rules
-
-returns-2 : tie.Need-returns-2
-returns-2 c = (extent_header c.before.before.before.before.args.list.now c.before.before.if1.false c.before.chain_last.ensures.0 c.if2.true, omega arith)
-
-chain-last-requires-2 : tie.Need-chain-last-requires-2
-chain-last-requires-2 c κs = search rules
-
-chain-last-requires-3 : tie.Need-chain-last-requires-3
-chain-last-requires-3 c κs = search rules
-
-add-result : tie.Need-overflow-add-result
-add-result c = search rules
-
-returns-3 : tie.Need-returns-3
-returns-3 c =
-    let d = c.before.before in
-    let b = first d in (
-      extent_u (list d) b.before.if1.left b.chain_last.ensures.0 d.before.if2.false d.chain-last2.ensures.0
-          c.before.if3.true c.chain-last3.ensures.0,
-      omega arith,
-    )
-
-chain-last-requires-4 : tie.Need-chain-last-requires-4
-chain-last-requires-4 c κs = search rules
-
-chain-last-requires-5 : tie.Need-chain-last-requires-5
-chain-last-requires-5 c κs = search rules
-
-add-result-2 : tie.Need-overflow-add-result-2
-add-result-2 c = search rules
-
-returns-4 : tie.Need-returns-4
-returns-4 c =
-    let u = c.before.before in
-    let d = u.before.before in
-    let b = first d in (
-      extent_t (list d) b.before.if1.left b.chain_last.ensures.0 d.before.if2.false d.chain-last2.ensures.0
-          u.before.if3.false u.chain-last4.ensures.0 c.before.if4.true c.chain-last5.ensures.0,
-      omega arith,
-    )
-
-add-result-3 : tie.Need-overflow-add-result-3
-add-result-3 c = search rules
-
-returns-5 : tie.Need-returns-5
-returns-5 c =
-    let u = c.before in
-    let d = u.before.before in
-    let b = first d in (
-      extent_system (list d) b.before.if1.left b.chain_last.ensures.0 d.before.if2.false d.chain-last2.ensures.0
-          u.before.if3.false u.chain-last4.ensures.0 c.if4.false,
+returns c =
+    let u = c in
+    let d = u in
+    let b = first d.before.before.before in (
+      extent_system (list d.before.before.before) b.if-list-lt4.left b.chain_last-system.ensures.0 d.if-system-eq0.false d.chain_last-u.ensures.0
+          u.if-u-system.false u.chain_last-t.ensures.0 c.if-t-system.false,
       omega arith,
     )
 
@@ -80,16 +80,16 @@ pub written_records_spec : {M : Type 1} → statement M
 written_records_spec =
     tie.close
     (tie.spec
-    returns
-    chain-last-requires
-    returns-2
-    chain-last-requires-2
-    chain-last-requires-3
-    add-result
-    returns-3
-    chain-last-requires-4
-    chain-last-requires-5
-    add-result-2
-    returns-4
-    add-result-3
-    returns-5)
+    returns-then-list-lt4
+    chain_last-system-requires
+    returns-then-system-eq0
+    chain_last-u-requires
+    chain_last-requires
+    overflow_add-result
+    returns-then-u-system
+    chain_last-t-requires
+    chain_last-requires-then-t-system
+    overflow_add-result-then-t-system
+    returns-then-t-system
+    overflow_add-result-2
+    returns)

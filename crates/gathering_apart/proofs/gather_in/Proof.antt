@@ -8,89 +8,89 @@ use Rattle.gathering_apart.proofs.gather_in.Statement.{statement}
 use Rattle.gathering_apart.proofs.gather_in.Tie as tie
 
 -- ── the places ──
-abbrev entry : tie.After-gather → tie.Start
+abbrev entry : tie.After-gather-ended → tie.Start
 entry c = c.before.before.before.before.before.before.before.before
 
-abbrev gathered : tie.After-ended → tie.After-gather
+abbrev gathered : tie.In-Words-2 → tie.After-gather-ended
 gathered c = c.before.before.before.before.before.before
 
 -- ── the needs ──
-gather-requires : tie.Need-gather-requires
-gather-requires c κs = let s = c.before.before.before.before.before.before.before in (s.requires.0, (s.requires.1.0, (s.requires.1.1.0, s.requires.1.1.1.0)))
+gather-ended-requires : tie.Need-gather-ended-requires
+gather-ended-requires c κs = let s = c in (s.requires.0, (s.requires.1.0, (s.requires.1.1.0, s.requires.1.1.1.0)))
 
-enum-known-ended : tie.Need-enum-known-ended
-enum-known-ended c = c.match.keys1
+enum_known-ended : tie.Need-enum_known-ended
+enum_known-ended c = c.in-Words-1.keys1
 
-slice-reshare-prefix-copy : tie.Need-slice-reshare-prefix-copy
-slice-reshare-prefix-copy c = let e = c.before in (words_formed _ _ _ _ _ _ (gathered e).gather.ensures _ e.ended.given.1).0.within
+slice_bounds-copy-end : tie.Need-slice_bounds-copy-end
+slice_bounds-copy-end c = let e = c in (words_formed _ _ _ _ _ _ (gathered e.before).gather-ended.ensures _ e.ended-1.given.1).0.within
 
-slice-aggregate-copy : tie.Need-slice-aggregate-copy
-slice-aggregate-copy c =
-    let e = c.before.before in
-    sym (length-take-le _ _ (words_formed _ _ _ _ _ _ (gathered e).gather.ensures _ e.ended.given.1).0.within)
+slice_bounds-copy-end-in-Words : tie.Need-slice_bounds-copy-end-in-Words
+slice_bounds-copy-end-in-Words c =
+    let e = c in
+    sym (length-take-le _ _ (words_formed _ _ _ _ _ _ (gathered e.before).gather-ended.ensures _ e.ended-1.given.1).0.within)
 
 copy-requires : tie.Need-copy-requires
 copy-requires c κs =
-    let e = c.before.before.before in
-    let s = entry (gathered e) in
-    copy_asks _ _ _ s.args.x.now (words_formed _ _ _ _ _ _ (gathered e).gather.ensures _ e.ended.given.1) s.pre.1.1.1.1
+    let e = c in
+    let s = entry (gathered e.before.before) in
+    copy_asks _ _ _ s.args.x.now (words_formed _ _ _ _ _ _ (gathered e.before.before).gather-ended.ensures _ e.ended-1.given.1) s.requires.1.1.1.1
 
-enum_told : tie.Need-enum-told
-enum_told c = c.match.keys2
+enum_told-1 : tie.Need-enum_told-1
+enum_told-1 c = c.in-OverTerms-1.keys2
 
-enum-told-2 : tie.Need-enum-told-2
-enum-told-2 c = c.match.keys3
+enum_told-in-Short : tie.Need-enum_told-in-Short
+enum_told-in-Short c = c.in-Short-1.keys3
 
-same_length : tie.Need-same-length
-same_length c = search rules
+shape_of-a-in-Words : tie.Need-shape_of-a-in-Words
+shape_of-a-in-Words c = search rules
 
-same-length-2 : tie.Need-same-length-2
-same-length-2 c = search rules
+shape_of-b-in-Words : tie.Need-shape_of-b-in-Words
+shape_of-b-in-Words c = search rules
 
-same-length-3 : tie.Need-same-length-3
-same-length-3 c = c.before.before.copy.auto.1.1.0
+shape_of-x : tie.Need-shape_of-x
+shape_of-x c = c.copy.auto.out
 
-returns : tie.Need-returns
-returns c =
-    let e = c.before.before.before.before.before.before in
-    words_copied _ _ _ _ _ _ (gathered e).gather.ensures _ e.ended.given.1 _ _ (entry (gathered e)).requires.1.1.1.1 c.before.before.copy.ensures
+returns-in-Words : tie.Need-returns-in-Words
+returns-in-Words c =
+    let e = c in
+    words_copied _ _ _ _ _ _ (gathered e.before.before.before.before.before).gather-ended.ensures _ e.ended-1.given.1 _ _ (entry (gathered e.before.before.before.before.before)).requires.1.1.1.1 c.copy.ensures
 
-same-length-4 : tie.Need-same-length-4
-same-length-4 c = search rules
+shape_of-a-in-OverTerms : tie.Need-shape_of-a-in-OverTerms
+shape_of-a-in-OverTerms c = search rules
 
-same-length-5 : tie.Need-same-length-5
-same-length-5 c = search rules
+shape_of-b-in-OverTerms : tie.Need-shape_of-b-in-OverTerms
+shape_of-b-in-OverTerms c = search rules
 
-returns-2 : tie.Need-returns-2
-returns-2 c = over_terms_ended _ _ _ _ _ _ c.before.before.before.before.before.before.gather.ensures _ c.enum_told.given.1
+returns-in-OverTerms : tie.Need-returns-in-OverTerms
+returns-in-OverTerms c = over_terms_ended _ _ _ _ _ _ c.gather-ended.ensures _ c.enum_told-1.given.1
 
-same-length-6 : tie.Need-same-length-6
-same-length-6 c = search rules
+shape_of-a-in-Short : tie.Need-shape_of-a-in-Short
+shape_of-a-in-Short c = search rules
 
-same-length-7 : tie.Need-same-length-7
-same-length-7 c = search rules
+shape_of-b-in-Short : tie.Need-shape_of-b-in-Short
+shape_of-b-in-Short c = search rules
 
-returns-3 : tie.Need-returns-3
-returns-3 c = short_ended _ _ _ _ _ _ c.before.before.before.before.before.before.gather.ensures c.enum-told2.given.1
+returns-in-Short : tie.Need-returns-in-Short
+returns-in-Short c = short_ended _ _ _ _ _ _ c.gather-ended.ensures c.enum_told-in-Short-1.given.1
 
 pub gather_in_spec : {M : Type 1} → statement M
 gather_in_spec =
     tie.close
     (tie.spec
-    gather-requires
-    enum-known-ended
-    slice-reshare-prefix-copy
-    slice-aggregate-copy
+    gather-ended-requires
+    enum_known-ended
+    slice_bounds-copy-end
+    slice_bounds-copy-end-in-Words
     copy-requires
-    enum_told
-    enum-told-2
-    same_length
-    same-length-2
-    same-length-3
-    returns
-    same-length-4
-    same-length-5
-    returns-2
-    same-length-6
-    same-length-7
-    returns-3)
+    enum_told-1
+    enum_told-in-Short
+    shape_of-a-in-Words
+    shape_of-b-in-Words
+    shape_of-x
+    returns-in-Words
+    shape_of-a-in-OverTerms
+    shape_of-b-in-OverTerms
+    returns-in-OverTerms
+    shape_of-a-in-Short
+    shape_of-b-in-Short
+    returns-in-Short)

@@ -12,58 +12,58 @@ use Rattle.gathering_apart.proofs.gather_large.Tie as tie
 room : {n need : ℕ} → need ≤ n → need ≤ length (replicate {A = ℕ} n 0)
 room {n} {need} h = subst (λ k. need ≤ k) (sym (length-replicate {A = ℕ} n 0)) h
 
-slice-aggregate-gather-in : tie.Need-slice-aggregate-gather-in
-slice-aggregate-gather-in c = sym (length-replicate {A = ℕ} _ 0)
+slice_bounds-gather_in-end : tie.Need-slice_bounds-gather_in-end
+slice_bounds-gather_in-end c = sym (length-replicate {A = ℕ} _ 0)
 
-slice-aggregate-gather-in-2 : tie.Need-slice-aggregate-gather-in-2
-slice-aggregate-gather-in-2 c = sym (length-replicate {A = ℕ} _ 0)
+slice_bounds-gather_in-end-2 : tie.Need-slice_bounds-gather_in-end-2
+slice_bounds-gather_in-end-2 c = sym (length-replicate {A = ℕ} _ 0)
 
-gather-in-requires : tie.Need-gather-in-requires
-gather-in-requires c κs = let s = c.before.before.before.before.before.before in (s.requires.0, (s.requires.1.0, (s.requires.1.1.0, omega (arith, s.requires.1.1.0.0.few, s.requires.1.1.1))))
+gather_in-ended-requires : tie.Need-gather_in-ended-requires
+gather_in-ended-requires c κs = let s = c in (s.requires.0, (s.requires.1.0, (s.requires.1.1.0, omega (arith, s.requires.1.1.0.0.few, s.requires.1.1.1))))
 
-enum-known-ended : tie.Need-enum-known-ended
-enum-known-ended c = c.match.keys1
+enum_known-ended : tie.Need-enum_known-ended
+enum_known-ended c = c.in-Words-1.keys1
 
-enum_told : tie.Need-enum-told
-enum_told c = c.match.keys2
+enum_told-1 : tie.Need-enum_told-1
+enum_told-1 c = c.in-OverTerms-1.keys2
 
-enum-told-2 : tie.Need-enum-told-2
-enum-told-2 c = c.match.keys3
+enum_told-in-Short : tie.Need-enum_told-in-Short
+enum_told-in-Short c = c.in-Short-1.keys3
 
-same_length : tie.Need-same-length
-same_length c = search rules
+shape_of-x-in-Words : tie.Need-shape_of-x-in-Words
+shape_of-x-in-Words c = search rules
 
-returns : tie.Need-returns
-returns c = words_ended _ _ _ _ _ _ c.before.before.before.before.before.before.before.gather-in.ensures _ c.before.ended.given.1
+returns-in-Words : tie.Need-returns-in-Words
+returns-in-Words c = words_ended _ _ _ _ _ _ c.gather_in-ended.ensures _ c.ended-1.given.1
 
-same-length-2 : tie.Need-same-length-2
-same-length-2 c = search rules
+shape_of-x-in-OverTerms : tie.Need-shape_of-x-in-OverTerms
+shape_of-x-in-OverTerms c = search rules
 
-returns-2 : tie.Need-returns-2
-returns-2 c = over_terms_ended _ _ _ _ _ _ c.before.before.before.before.before.before.gather-in.ensures _ c.enum_told.given.1
+returns-in-OverTerms : tie.Need-returns-in-OverTerms
+returns-in-OverTerms c = over_terms_ended _ _ _ _ _ _ c.gather_in-ended.ensures _ c.enum_told-1.given.1
 
-same-length-3 : tie.Need-same-length-3
-same-length-3 c = search rules
+shape_of-x-in-Short : tie.Need-shape_of-x-in-Short
+shape_of-x-in-Short c = search rules
 
-returns-3 : tie.Need-returns-3
-returns-3 c =
-    let s = c.before.before.before.before.before.before.before.before.before.before.before.before.before in
+returns-in-Short : tie.Need-returns-in-Short
+returns-in-Short c =
+    let s = c in
     let enough = buffers_suffice _ _ s.requires.1.0.0.few s.requires.1.1.0.0.few in
-    absurd (never_short _ _ _ _ _ _ c.before.before.before.before.before.before.gather-in.ensures c.enum-told2.given.1 (room enough) (room enough))
+    absurd (never_short _ _ _ _ _ _ c.gather_in-ended.ensures c.enum_told-in-Short-1.given.1 (room enough) (room enough))
 
 pub gather_large_spec : {M : Type 1} → statement M
 gather_large_spec =
     tie.close
     (tie.spec
-    slice-aggregate-gather-in
-    slice-aggregate-gather-in-2
-    gather-in-requires
-    enum-known-ended
-    enum_told
-    enum-told-2
-    same_length
-    returns
-    same-length-2
-    returns-2
-    same-length-3
-    returns-3)
+    slice_bounds-gather_in-end
+    slice_bounds-gather_in-end-2
+    gather_in-ended-requires
+    enum_known-ended
+    enum_told-1
+    enum_told-in-Short
+    shape_of-x-in-Words
+    returns-in-Words
+    shape_of-x-in-OverTerms
+    returns-in-OverTerms
+    shape_of-x-in-Short
+    returns-in-Short)

@@ -11,90 +11,90 @@ use Rattle.heads.proofs.Walk.{all_at, all_turn, all_end}
 use Rattle.heads.proofs.has_one.Statement.{statement}
 use Rattle.heads.proofs.has_one.Tie as tie
 
-abbrev invariant_loop : tie.invariant_loop
-invariant_loop w at k i₀ left₀ i left =
+abbrev invariant-loop-left : tie.invariant-loop-left
+invariant-loop-left w at k i₀ left₀ i left =
     (skip_to (view w) i left ≡ skip_to (view w) at k) × (some_one (all_at (view w) i left) ≡ some_one (all_at (view w) at k))
 
-abbrev decreases_loop : tie.decreases_loop
-decreases_loop w at k i₀ left₀ i left = left
+abbrev decreases-loop-left : tie.decreases-loop-left
+decreases-loop-left w at k i₀ left₀ i left = left
 
 -- In a turn the polynomial at i lies in the records.
-within : (c : tie.In-loop invariant_loop decreases_loop)
-    → c.before.loop.i + 1 + size_at (view c.before.before.before.args.w.now) c.before.loop.i ≤ room c.before.before.before.args.w.now
-within c = omega (arith, skip_in (view c.before.before.before.args.w.now) c.before.loop.i c.before.loop.left c.loop-test.true)
+within : (c : tie.In-loop-left invariant-loop-left decreases-loop-left)
+    → c.loop-left.i + 1 + size_at (view c.args.w.now) c.loop-left.i ≤ room c.args.w.now
+within c = omega (arith, skip_in (view c.args.w.now) c.loop-left.i c.loop-left.left c.loop-left-test.true)
 
-loop-holds : tie.Need-loop-init invariant_loop decreases_loop
-loop-holds c = (refl, refl)
+loop-left-init : tie.Need-loop-left-init invariant-loop-left decreases-loop-left
+loop-left-init c = (refl, refl)
 
-one-at-requires : tie.Need-one-at-requires invariant_loop decreases_loop
-one-at-requires c κs = (omega (arith, within c), within c)
+one_at-requires : tie.Need-one_at-requires invariant-loop-left decreases-loop-left
+one_at-requires c κs = (omega (arith, within c), within c)
 
-returns : tie.Need-returns invariant_loop decreases_loop
+returns-then-one_at : tie.Need-returns-then-one_at invariant-loop-left decreases-loop-left
 unfolding some_one
-returns c =
-    let turn = c.before.before.before in
-    let v = view turn.before.before.args.w.now in
-    let i = turn.loop.i in
-    let left = turn.loop.left in
+returns-then-one_at c =
+    let turn = c in
+    let v = view turn.args.w.now in
+    let i = turn.loop-left.i in
+    let left = turn.loop-left.left in
     let behind = some_one (all_at v (i + 1 + size_at v i) (left - 1)) in
-    sym (ap some_one (all_turn v i left c.before.before.loop-test.true)
-    ∙ ap (λ (t : Bool). t || behind) (sym c.before.one_at.ensures ∙ c.if1.true))
-    ∙ turn.loop.invariant.1
+    sym (ap some_one (all_turn v i left c.loop-left-test.true)
+    ∙ ap (λ (t : Bool). t || behind) (sym c.one_at.ensures ∙ c.if-one_at.true))
+    ∙ turn.loop-left.invariant.1
 
-get0-requires : tie.Need-get0-requires invariant_loop decreases_loop
-get0-requires c κs = omega (arith, within c.before.before)
+get0-n-requires : tie.Need-get0-n-requires invariant-loop-left decreases-loop-left
+get0-n-requires c κs = omega (arith, within c.before.before)
 
-cast-n : tie.Need-overflow-cast-n invariant_loop decreases_loop
-cast-n c = omega arith
+overflow_cast-n : tie.Need-overflow_cast-n invariant-loop-left decreases-loop-left
+overflow_cast-n c = omega arith
 
-add-i : tie.Need-overflow-add-i invariant_loop decreases_loop
-add-i c = omega (arith, within c.before.before.before)
+overflow_add-i : tie.Need-overflow_add-i invariant-loop-left decreases-loop-left
+overflow_add-i c = omega (arith, within c.before.before.before)
 
-add-i-2 : tie.Need-overflow-add-i-2 invariant_loop decreases_loop
-add-i-2 c = omega (arith, within c.before.before.before)
+overflow_add-i-in-loop-left : tie.Need-overflow_add-i-in-loop-left invariant-loop-left decreases-loop-left
+overflow_add-i-in-loop-left c = omega (arith, within c.before.before.before)
 
-sub-left : tie.Need-overflow-sub-left invariant_loop decreases_loop
-sub-left c = omega arith
+overflow_sub-left : tie.Need-overflow_sub-left invariant-loop-left decreases-loop-left
+overflow_sub-left c = omega arith
 
-loop-less : tie.Need-loop-smaller invariant_loop decreases_loop
-loop-less c = omega arith
+loop-left-smaller : tie.Need-loop-left-smaller invariant-loop-left decreases-loop-left
+loop-left-smaller c = omega arith
 
-loop-again : tie.Need-loop-preserved invariant_loop decreases_loop
+loop-left-preserved : tie.Need-loop-left-preserved invariant-loop-left decreases-loop-left
 unfolding some_one
-loop-again c =
-    let turn = c.before.before.before.before in
-    let v = view turn.before.before.args.w.now in
-    let i = turn.loop.i in
-    let left = turn.loop.left in
-    let some : 0 < left = c.before.before.before.loop-test.true in
+loop-left-preserved c =
+    let turn = c in
+    let v = view turn.args.w.now in
+    let i = turn.loop-left.i in
+    let left = turn.loop-left.left in
+    let some : 0 < left = c.loop-left-test.true in
     let behind = some_one (all_at v (i + 1 + size_at v i) (left - 1)) in (
-      ap (λ (n : ℕ). skip_to v (i + 1 + n) (left - 1)) c.get0.ensures ∙ sym (skip_turn v i left some) ∙ turn.loop.invariant.0,
-      ap (λ (n : ℕ). some_one (all_at v (i + 1 + n) (left - 1))) c.get0.ensures
-          ∙ sym (ap some_one (all_turn v i left some) ∙ ap (λ (t : Bool). t || behind) (sym c.before.before.one_at.ensures ∙ c.before.if1.false))
-          ∙ turn.loop.invariant.1,
+      ap (λ (n : ℕ). skip_to v (i + 1 + n) (left - 1)) c.get0-n.ensures ∙ sym (skip_turn v i left some) ∙ turn.loop-left.invariant.0,
+      ap (λ (n : ℕ). some_one (all_at v (i + 1 + n) (left - 1))) c.get0-n.ensures
+          ∙ sym (ap some_one (all_turn v i left some) ∙ ap (λ (t : Bool). t || behind) (sym c.one_at.ensures ∙ c.if-one_at.false))
+          ∙ turn.loop-left.invariant.1,
     )
 
-returns-2 : tie.Need-returns-2 invariant_loop decreases_loop
+returns : tie.Need-returns invariant-loop-left decreases-loop-left
 unfolding some_one
-returns-2 c =
-    let v = view c.before.before.before.args.w.now in
-    let done : c.before.loop.left ≡ 0 = omega arith in
-    sym (ap some_one (all_end v c.before.loop.i c.before.loop.left done)) ∙ c.before.loop.invariant.1
+returns c =
+    let v = view c.args.w.now in
+    let done : c.loop-left.left ≡ 0 = omega arith in
+    sym (ap some_one (all_end v c.loop-left.i c.loop-left.left done)) ∙ c.loop-left.invariant.1
 
 pub has_one_spec : {M : Type 1} → statement M
 has_one_spec =
     tie.close
     (tie.spec
-    invariant_loop
-    decreases_loop
-    loop-holds
-    one-at-requires
-    returns
-    get0-requires
-    cast-n
-    add-i
-    add-i-2
-    sub-left
-    loop-less
-    loop-again
-    returns-2)
+    invariant-loop-left
+    decreases-loop-left
+    loop-left-init
+    one_at-requires
+    returns-then-one_at
+    get0-n-requires
+    overflow_cast-n
+    overflow_add-i
+    overflow_add-i-in-loop-left
+    overflow_sub-left
+    loop-left-smaller
+    loop-left-preserved
+    returns)

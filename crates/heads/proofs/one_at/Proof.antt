@@ -22,43 +22,43 @@ use Rattle.heads.proofs.one_at.Tie as tie
 get0-requires : tie.Need-get0-requires
 get0-requires c κs = search rules
 
-returns : tie.Need-returns
-returns c =
-    let s = c.before.before.before in
+returns-then-get0-ne1 : tie.Need-returns-then-get0-ne1
+returns-then-get0-ne1 c =
+    let s = c in
     let v = view s.args.w.now in
     let fits : s.args.i + 1 + size_at v s.args.i ≤ length v = omega (arith, length_view s.args.w.now, s.requires.1) in
-    sym (not_one_at v s.args.i fits (λ (e : size_at v s.args.i ≡ 1). omega (arith, c.before.get0.ensures)))
+    sym (not_one_at v s.args.i fits (λ (e : size_at v s.args.i ≡ 1). omega (arith, c.get0.ensures)))
 
-add-get0 : tie.Need-overflow-add-get0
-add-get0 c = search rules
+overflow_add-i : tie.Need-overflow_add-i
+overflow_add-i c = search rules
 
 get0-requires-2 : tie.Need-get0-requires-2
 get0-requires-2 c κs = search rules
 
-returns-2 : tie.Need-returns-2
-returns-2 c =
-    let s = c.before.before.before.before.before in
+returns-then-get0-ne1-2 : tie.Need-returns-then-get0-ne1-2
+returns-then-get0-ne1-2 c =
+    let s = c in
     let v = view s.args.w.now in
     let i = s.args.i in
     let fits : i + 1 + size_at v i ≤ length v = omega (arith, length_view s.args.w.now, s.requires.1) in
-    let one : size_at v i ≡ 1 = omega (arith, c.before.before.before.get0.ensures) in
-    let differ : (get_or v (i + 1) zero_record).w0 ≢ 1 = λ (e : (get_or v (i + 1) zero_record).w0 ≡ 1). omega (arith, c.before.get02.ensures) in
+    let one : size_at v i ≡ 1 = omega (arith, c.get0.ensures) in
+    let differ : (get_or v (i + 1) zero_record).w0 ≢ 1 = λ (e : (get_or v (i + 1) zero_record).w0 ≡ 1). omega (arith, c.get0-2.ensures) in
     sym (one_at_first v i fits one ∙ ap (λ (b : Bool). b && all_zeros (bytes 8 (monomial_at v (i + 1)))) (ne_eqb (get_or v (i + 1) zero_record).w0 1 differ))
 
-add-monomial : tie.Need-overflow-add-monomial
-add-monomial c = search rules
+overflow_add-i-2 : tie.Need-overflow_add-i-2
+overflow_add-i-2 c = search rules
 
 monomial-requires : tie.Need-monomial-requires
 monomial-requires c κs = search rules
 
-returns-3 : tie.Need-returns-3
-returns-3 c =
-    let s = c.before.before.before.before.before.before in
+returns : tie.Need-returns
+returns c =
+    let s = c in
     let v = view s.args.w.now in
     let i = s.args.i in
     let fits : i + 1 + size_at v i ≤ length v = omega (arith, length_view s.args.w.now, s.requires.1) in
-    let one : size_at v i ≡ 1 = omega (arith, c.before.before.before.before.get0.ensures) in
-    let first : (get_or v (i + 1) zero_record).w0 ≡ 1 = omega (arith, c.before.before.get02.ensures) in
+    let one : size_at v i ≡ 1 = omega (arith, c.get0.ensures) in
+    let first : (get_or v (i + 1) zero_record).w0 ≡ 1 = omega (arith, c.get0-2.ensures) in
     let m = monomial_at v (i + 1) in
     let small : m < 18446744073709551616 = omega (arith, c.monomial.ensures) in
     ap (λ (n : ℕ). eqb n 0) c.monomial.ensures
@@ -69,10 +69,10 @@ one_at_spec =
     tie.close
     (tie.spec
     get0-requires
-    returns
-    add-get0
+    returns-then-get0-ne1
+    overflow_add-i
     get0-requires-2
-    returns-2
-    add-monomial
+    returns-then-get0-ne1-2
+    overflow_add-i-2
     monomial-requires
-    returns-3)
+    returns)

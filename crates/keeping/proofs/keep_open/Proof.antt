@@ -12,283 +12,283 @@ use Rattle.keeping.proofs.keep_open.Tie as tie
 use Known.*
 
 -- ── the needs ──
-get0-requires : tie.Need-get0-requires
-get0-requires c κs = search rules
+get0-at-requires : tie.Need-get0-at-requires
+get0-at-requires c κs = search rules
 
-cast-at : tie.Need-overflow-cast-at
-cast-at c = search rules
+overflow_cast-at : tie.Need-overflow_cast-at
+overflow_cast-at c = search rules
 
-get1-requires : tie.Need-get1-requires
-get1-requires c κs = search rules
+get1-end-requires : tie.Need-get1-end-requires
+get1-end-requires c κs = search rules
 
-cast-end : tie.Need-overflow-cast-end
-cast-end c = search rules
+overflow_cast-end : tie.Need-overflow_cast-end
+overflow_cast-end c = search rules
 
-get2-requires : tie.Need-get2-requires
-get2-requires c κs = search rules
+get2-top-requires : tie.Need-get2-top-requires
+get2-top-requires c κs = search rules
 
-cast-top : tie.Need-overflow-cast-top
-cast-top c = search rules
+overflow_cast-top : tie.Need-overflow_cast-top
+overflow_cast-top c = search rules
 
-get0-requires-2 : tie.Need-get0-requires-2
-get0-requires-2 c κs = at_inside c.before
+get0-p-requires : tie.Need-get0-p-requires
+get0-p-requires c κs = at_inside c
 
-cast-p : tie.Need-overflow-cast-p
-cast-p c = search rules
+overflow_cast-p : tie.Need-overflow_cast-p
+overflow_cast-p c = search rules
 
-get1-requires-2 : tie.Need-get1-requires-2
-get1-requires-2 c κs = at_inside c.before.before.before
+get1-q-requires : tie.Need-get1-q-requires
+get1-q-requires c κs = at_inside c.before
 
-get2-requires-2 : tie.Need-get2-requires-2
-get2-requires-2 c κs = at_inside c.before.before.before.before.before
+get2-t-requires : tie.Need-get2-t-requires
+get2-t-requires c κs = at_inside c.before.before
 
-add-skip : tie.Need-overflow-add-skip
-add-skip c = search rules
+overflow_add-at : tie.Need-overflow_add-at
+overflow_add-at c = search rules
 
-skip-requires : tie.Need-skip-requires
-skip-requires c κs = let r = c.before in skip_inside r (omega (arith, to_front_is r (opened r)))
+skip-front-requires : tie.Need-skip-front-requires
+skip-front-requires c κs = let r = c in skip_inside r (omega (arith, to_front_is r (opened r)))
 
-sub-skip : tie.Need-overflow-sub-skip
-sub-skip c = let r = from_front c.before in (members r (opened r)).0
+overflow_sub-n : tie.Need-overflow_sub-n
+overflow_sub-n c = let r = from_front c in (members r (opened r)).0
 
-skip-requires-2 : tie.Need-skip-requires-2
-skip-requires-2 c κs = let r = from_front c.before in skip_inside r (omega (arith, to_back_is c.before (opened r)))
+skip-back-requires : tie.Need-skip-back-requires
+skip-back-requires c κs = let r = from_front c in skip_inside r (omega (arith, to_back_is c.before (opened r)))
 
-sub-skip-2 : tie.Need-overflow-sub-skip-2
-sub-skip-2 c = let r = from_back c.before in omega (arith, p_is r (opened r), members r (opened r))
+overflow_sub-p : tie.Need-overflow_sub-p
+overflow_sub-p c = let r = from_back c in omega (arith, p_is r (opened r), members r (opened r))
 
-skip-requires-3 : tie.Need-skip-requires-3
-skip-requires-3 c κs = let r = from_back c.before in skip_inside r (omega (arith, to_p_is c.before (opened r)))
+skip-from_q-requires : tie.Need-skip-from_q-requires
+skip-from_q-requires c κs = let r = from_back c in skip_inside r (omega (arith, to_p_is c.before (opened r)))
 
-cast-skip : tie.Need-overflow-cast-skip
-cast-skip c = search rules
+overflow_cast-q : tie.Need-overflow_cast-q
+overflow_cast-q c = search rules
 
-skip-requires-4 : tie.Need-skip-requires-4
-skip-requires-4 c κs = let r = from_p c.before in skip_inside r (omega (arith, to_q_is c.before (opened r)))
+skip-from_t-requires : tie.Need-skip-from_t-requires
+skip-from_t-requires c κs = let r = from_p c in skip_inside r (omega (arith, to_q_is c.before (opened r)))
 
-add-size : tie.Need-overflow-add-size
-add-size c = search rules
+overflow_add-size : tie.Need-overflow_add-size
+overflow_add-size c = search rules
 
-sub-size : tie.Need-overflow-sub-size
-sub-size c = let o = in_order c in omega (arith, o.front_of, o.back_of)
+overflow_sub-size : tie.Need-overflow_sub-size
+overflow_sub-size c = let o = in_order c in omega (arith, o.front_of, o.back_of)
 
-add-size-2 : tie.Need-overflow-add-size-2
-add-size-2 c = search rules
+overflow_add-size-2 : tie.Need-overflow_add-size-2
+overflow_add-size-2 c = search rules
 
-add-size-3 : tie.Need-overflow-add-size-3
-add-size-3 c = omega (arith, in_order c, few_words c)
+overflow_add-size-3 : tie.Need-overflow_add-size-3
+overflow_add-size-3 c = omega (arith, in_order c, few_words c)
 
-add-size-4 : tie.Need-overflow-add-size-4
-add-size-4 c = omega (arith, in_order c, few_words c)
+overflow_add-size-4 : tie.Need-overflow_add-size-4
+overflow_add-size-4 c = omega (arith, in_order c, few_words c)
 
-sub-size-2 : tie.Need-overflow-sub-size-2
-sub-size-2 c = (in_order c).T_of
+overflow_sub-size-2 : tie.Need-overflow_sub-size-2
+overflow_sub-size-2 c = (in_order c).T_of
 
-add-size-5 : tie.Need-overflow-add-size-5
-add-size-5 c = omega (arith, in_order c, few_words c)
+overflow_add-size-5 : tie.Need-overflow_add-size-5
+overflow_add-size-5 c = omega (arith, in_order c, few_words c)
 
-add-size-6 : tie.Need-overflow-add-size-6
-add-size-6 c = omega (arith, in_order c, few_words c)
+overflow_add-size-6 : tie.Need-overflow_add-size-6
+overflow_add-size-6 c = omega (arith, in_order c, few_words c)
 
-add-size-7 : tie.Need-overflow-add-size-7
-add-size-7 c = omega (arith, in_order c, few_words c)
+overflow_add-size-7 : tie.Need-overflow_add-size-7
+overflow_add-size-7 c = omega (arith, in_order c, few_words c)
 
-sub-size-3 : tie.Need-overflow-sub-size-3
-sub-size-3 c = (in_order c).end_of
+overflow_sub-size-3 : tie.Need-overflow_sub-size-3
+overflow_sub-size-3 c = (in_order c).end_of
 
-add-size-8 : tie.Need-overflow-add-size-8
-add-size-8 c = omega (arith, in_order c, few_words c)
+overflow_add-size-8 : tie.Need-overflow_add-size-8
+overflow_add-size-8 c = omega (arith, in_order c, few_words c)
 
-sub-if1 : tie.Need-overflow-sub-if1
-sub-if1 c = (in_order c).top_of
+overflow_sub-top : tie.Need-overflow_sub-top
+overflow_sub-top c = (in_order c).top_of
 
-same_length : tie.Need-same-length
-same_length c = refl
+shape_of-w-then-top-end : tie.Need-shape_of-w-then-top-end
+shape_of-w-then-top-end c = refl
 
-returns : tie.Need-returns
-returns c = let r = words c.before in (λ b bs ss H. no_room H (i r) (n r) (members r H) (f r) (initial r) (placed c.before H) c.if1.true, refl)
+returns-then-top-end : tie.Need-returns-then-top-end
+returns-then-top-end c = let r = words c.before in (λ b bs ss H. no_room H (i r) (n r) (members r H) (f r) (initial r) (placed c.before H) c.if-top-end.true, refl)
 
-add-write : tie.Need-overflow-add-write
-add-write c = omega (arith, in_order c.before.before)
+overflow_add-n : tie.Need-overflow_add-n
+overflow_add-n c = omega (arith, in_order c.before.before)
 
-cast-write : tie.Need-overflow-cast-write
-cast-write c = omega (arith, in_order c.before.before)
+overflow_cast-n : tie.Need-overflow_cast-n
+overflow_cast-n c = omega (arith, in_order c.before.before)
 
-add-write-2 : tie.Need-overflow-add-write-2
-add-write-2 c = omega (arith, in_order c.before.before)
+overflow_add-q : tie.Need-overflow_add-q
+overflow_add-q c = omega (arith, in_order c.before.before)
 
-cast-write-2 : tie.Need-overflow-cast-write-2
-cast-write-2 c = search rules
+overflow_cast-at-2 : tie.Need-overflow_cast-at-2
+overflow_cast-at-2 c = search rules
 
 write-requires : tie.Need-write-requires
-write-requires c κs = let o = in_order c.before.before in omega (arith, o.top_of, o.room_of, c.before.if1.false)
+write-requires c κs = let o = in_order c.before.before in omega (arith, o.top_of, o.room_of, c.if-top-end.false)
 
-add-append-block : tie.Need-overflow-add-append-block
-add-append-block c = search rules
+overflow_add-at-2 : tie.Need-overflow_add-at-2
+overflow_add-at-2 c = search rules
 
-add-append-block-2 : tie.Need-overflow-add-append-block-2
-add-append-block-2 c = search rules
+overflow_add-at-3 : tie.Need-overflow_add-at-3
+overflow_add-at-3 c = search rules
 
-sub-append-block : tie.Need-overflow-sub-append-block
-sub-append-block c = (in_order (from_own c.before.before.before)).front_of
+overflow_sub-front : tie.Need-overflow_sub-front
+overflow_sub-front c = (in_order (from_own c.before.before.before)).front_of
 
-add-append-block-3 : tie.Need-overflow-add-append-block-3
-add-append-block-3 c = search rules
+overflow_add-end : tie.Need-overflow_add-end
+overflow_add-end c = search rules
 
-append-block-requires : tie.Need-append-block-requires
-append-block-requires c κs =
-    let m = c.before.before.before in (omega (arith, in_order (from_own m)), next_fits (after_own m))
+append_block-to-requires : tie.Need-append_block-to-requires
+append_block-to-requires c κs =
+    let m = c in (omega (arith, in_order (from_own m.before.before.before)), next_fits (after_own m.before.before.before))
 
-append-requires : tie.Need-append-requires
-append-requires c κs =
-    let m = c.before.before.before in ((start (words (from_1 m))).pre.1.1.0, next_fits (after_1 m))
+append-to-requires : tie.Need-append-to-requires
+append-to-requires c κs =
+    let m = c in ((start (words (from_1 m.before.before.before))).requires.1.1.0, next_fits (after_1 m.before.before.before))
 
-sub-append-block-2 : tie.Need-overflow-sub-append-block-2
-sub-append-block-2 c = (in_order (from_2 c.before.before.before)).back_of
+overflow_sub-back : tie.Need-overflow_sub-back
+overflow_sub-back c = (in_order (from_2 c.before.before.before)).back_of
 
-append-block-requires-2 : tie.Need-append-block-requires-2
-append-block-requires-2 c κs =
-    let m = c.before.before.before in (copied_up (after_2 m) (before_end (from_2 m)).0, next_fits (after_2 m))
+append_block-to-requires-2 : tie.Need-append_block-to-requires-2
+append_block-to-requires-2 c κs =
+    let m = c in (copied_up (after_2 m.before.before.before) (before_end (from_2 m.before.before.before)).0, next_fits (after_2 m.before.before.before))
 
-sub-append-block-3 : tie.Need-overflow-sub-append-block-3
-sub-append-block-3 c = (in_order (from_3 c.before.before.before)).T_of
+overflow_sub-from_t : tie.Need-overflow_sub-from_t
+overflow_sub-from_t c = (in_order (from_3 c.before.before.before)).T_of
 
-append-block-requires-3 : tie.Need-append-block-requires-3
-append-block-requires-3 c κs =
-    let m = c.before.before.before in (copied_up (after_3 m) (before_end (from_3 m)).1, next_fits (after_3 m))
+append_block-to-requires-3 : tie.Need-append_block-to-requires-3
+append_block-to-requires-3 c κs =
+    let m = c in (copied_up (after_3 m.before.before.before) (before_end (from_3 m.before.before.before)).1, next_fits (after_3 m.before.before.before))
 
-append-requires-2 : tie.Need-append-requires-2
-append-requires-2 c κs =
-    let m = c.before.before.before in ((start (words (from_4 m))).pre.1.1.1, next_fits (after_4 m))
+append-to-requires-2 : tie.Need-append-to-requires-2
+append-to-requires-2 c κs =
+    let m = c in ((start (words (from_4 m.before.before.before))).requires.1.1.1, next_fits (after_4 m.before.before.before))
 
-sub-append-block-4 : tie.Need-overflow-sub-append-block-4
-sub-append-block-4 c = (in_order (from_5 c.before.before.before)).end_of
+overflow_sub-end : tie.Need-overflow_sub-end
+overflow_sub-end c = (in_order (from_5 c.before.before.before)).end_of
 
-append-block-requires-4 : tie.Need-append-block-requires-4
-append-block-requires-4 c κs =
-    let m = c.before.before.before in (copied_up (after_5 m) (in_order (from_5 m)).end_of, next_fits (after_5 m))
+append_block-to-requires-4 : tie.Need-append_block-to-requires-4
+append_block-to-requires-4 c κs =
+    let m = c in (copied_up (after_5 m.before.before.before) (in_order (from_5 m.before.before.before)).end_of, next_fits (after_5 m.before.before.before))
 
-get3-requires : tie.Need-get3-requires
-get3-requires c κs = let m = c.before.before.before in omega (arith, in_order (from_6 m), (after_6 m).same)
+get3-systems-requires : tie.Need-get3-systems-requires
+get3-systems-requires c κs = let m = c in omega (arith, in_order (from_6 m.before.before), (after_6 m.before.before).same)
 
-cast-write-3 : tie.Need-overflow-cast-write-3
-cast-write-3 c = omega (arith, in_order (from_6 c.before.before.before.before.before))
+overflow_cast-end-2 : tie.Need-overflow_cast-end-2
+overflow_cast-end-2 c = omega (arith, in_order (from_6 c.before.before.before.before))
 
-cast-write-4 : tie.Need-overflow-cast-write-4
-cast-write-4 c =
-    let m = c.before.before.before.before.before in
-    omega (arith, m.append-block4.ensures.0, next_small (after_5 m.before.before.before.before) (in_order (from_6 m)).most_of)
+overflow_cast-to : tie.Need-overflow_cast-to
+overflow_cast-to c =
+    let m = c in
+    omega (arith, m.append_block-to-4.ensures.0, next_small (after_5 m.before.before.before.before.before.before.before.before) (in_order (from_6 m.before.before.before.before)).most_of)
 
-cast-write-5 : tie.Need-overflow-cast-write-5
-cast-write-5 c = omega (arith, in_order (from_6 c.before.before.before.before.before))
+overflow_cast-top-2 : tie.Need-overflow_cast-top-2
+overflow_cast-top-2 c = omega (arith, in_order (from_6 c.before.before.before.before))
 
 write-requires-2 : tie.Need-write-requires-2
-write-requires-2 c κs = let m = c.before.before.before.before.before in omega (arith, in_order (from_6 m), (after_6 m).same)
+write-requires-2 c κs = let m = c in omega (arith, in_order (from_6 m.before.before.before.before), (after_6 m.before.before.before.before).same)
 
-same-length-2 : tie.Need-same-length-2
-same-length-2 c = let k = c.before.before in k.write2.auto.0 ∙ (after_6 k.before.before.before.before.before.before).same
+shape_of-w : tie.Need-shape_of-w
+shape_of-w c = let k = c in k.write-2.auto.w ∙ (after_6 k.before.before.before.before.before.before.before).same
 
-returns-2 : tie.Need-returns-2
-returns-2 c =
-    let k = c.before.before in
-    let m₆ = k.before.before.before.before.before.before in
-    let m₅ = m₆.before.before.before.before in
-    let m₄ = m₅.before.before.before.before in
-    let m₃ = m₄.before.before.before.before in
-    let m₂ = m₃.before.before.before.before in
-    let m₁ = m₂.before.before.before.before in
-    let o = m₁.before.before.before.before in
-    let p = from_own o in
+returns : tie.Need-returns
+returns c =
+    let k = c in
+    let m₆ = k in
+    let m₅ = m₆ in
+    let m₄ = m₅ in
+    let m₃ = m₄ in
+    let m₂ = m₃ in
+    let m₁ = m₂ in
+    let o = m₁ in
+    let p = from_own o.before.before.before.before.before.before.before.before.before.before.before.before.before.before.before.before.before.before.before.before.before.before.before.before.before.before.before.before.before.before.before in
     let r = words p in (
-      λ b bs ss H. kept H (i r) (n r) (members r H) (f r) (initial r) (placed p H) o.before.before.if1.false (start r).pre.1.1.0 (start r).pre.1.1.1
+      λ b bs ss H. kept H (i r) (n r) (members r H) (f r) (initial r) (placed p H) o.if-top-end.false (start r).requires.1.1.0 (start r).requires.1.1.1
           (record {
-            v₁ = view o.write.new.0;
+            v₁ = view o.write.new.w;
             own_put = o.write.ensures.0.0;
-            a₁ = m₁.append-block.result;
-            v₂ = view m₁.append-block.new.0;
-            front_copied = (m₁.append-block.ensures.0, m₁.append-block.ensures.1.0);
-            a₂ = m₂.append.result;
-            v₃ = view m₂.append.new.0;
-            f_put = (m₂.append.ensures.0, m₂.append.ensures.1.0);
-            a₃ = m₃.append-block2.result;
-            v₄ = view m₃.append-block2.new.0;
-            back_copied = (m₃.append-block2.ensures.0, m₃.append-block2.ensures.1.0);
-            a₄ = m₄.append-block3.result;
-            v₅ = view m₄.append-block3.new.0;
-            q_copied = (m₄.append-block3.ensures.0, m₄.append-block3.ensures.1.0);
-            a₅ = m₅.append2.result;
-            v₆ = view m₅.append2.new.0;
-            initial_put = (m₅.append2.ensures.0, m₅.append2.ensures.1.0);
-            a₆ = m₆.append-block4.result;
-            v₇ = view m₆.append-block4.new.0;
-            t_copied = (m₆.append-block4.ensures.0, m₆.append-block4.ensures.1.0);
-            systems = k.before.before.get3.result;
-            systems_word = k.before.before.get3.ensures;
-            control_put = k.write2.ensures.0.0;
+            a₁ = m₁.append_block-to.result;
+            v₂ = view m₁.append_block-to.new.w;
+            front_copied = (m₁.append_block-to.ensures.0, m₁.append_block-to.ensures.1.0);
+            a₂ = m₂.append-to.result;
+            v₃ = view m₂.append-to.new.w;
+            f_put = (m₂.append-to.ensures.0, m₂.append-to.ensures.1.0);
+            a₃ = m₃.append_block-to-2.result;
+            v₄ = view m₃.append_block-to-2.new.w;
+            back_copied = (m₃.append_block-to-2.ensures.0, m₃.append_block-to-2.ensures.1.0);
+            a₄ = m₄.append_block-to-3.result;
+            v₅ = view m₄.append_block-to-3.new.w;
+            q_copied = (m₄.append_block-to-3.ensures.0, m₄.append_block-to-3.ensures.1.0);
+            a₅ = m₅.append-to-2.result;
+            v₆ = view m₅.append-to-2.new.w;
+            initial_put = (m₅.append-to-2.ensures.0, m₅.append-to-2.ensures.1.0);
+            a₆ = m₆.append_block-to-4.result;
+            v₇ = view m₆.append_block-to-4.new.w;
+            t_copied = (m₆.append_block-to-4.ensures.0, m₆.append_block-to-4.ensures.1.0);
+            systems = k.get3-systems.result;
+            systems_word = k.get3-systems.ensures;
+            control_put = k.write-2.ensures.0.0;
           }),
-      outside_set _ _ k.write2.auto.0 0 _ (omega (arith, (in_order p).top_of, (after_6 m₆).inside, (after_6 m₆).same, o.before.before.if1.false))
-          k.write2.ensures.0
-          ∙ (after_6 m₆).stays,
+      outside_set _ _ k.write-2.auto.w 0 _ (omega (arith, (in_order p).top_of, (after_6 m₆.before.before.before.before.before.before.before).inside, (after_6 m₆.before.before.before.before.before.before.before).same, o.if-top-end.false))
+          k.write-2.ensures.0
+          ∙ (after_6 m₆.before.before.before.before.before.before.before).stays,
     )
 
 pub keep_open_spec : {M : Type 1} → statement M
 keep_open_spec =
     tie.close
     (tie.spec
-    get0-requires
-    cast-at
-    get1-requires
-    cast-end
-    get2-requires
-    cast-top
-    get0-requires-2
-    cast-p
-    get1-requires-2
-    get2-requires-2
-    add-skip
-    skip-requires
-    sub-skip
-    skip-requires-2
-    sub-skip-2
-    skip-requires-3
-    cast-skip
-    skip-requires-4
-    add-size
-    sub-size
-    add-size-2
-    add-size-3
-    add-size-4
-    sub-size-2
-    add-size-5
-    add-size-6
-    add-size-7
-    sub-size-3
-    add-size-8
-    sub-if1
-    same_length
-    returns
-    add-write
-    cast-write
-    add-write-2
-    cast-write-2
+    get0-at-requires
+    overflow_cast-at
+    get1-end-requires
+    overflow_cast-end
+    get2-top-requires
+    overflow_cast-top
+    get0-p-requires
+    overflow_cast-p
+    get1-q-requires
+    get2-t-requires
+    overflow_add-at
+    skip-front-requires
+    overflow_sub-n
+    skip-back-requires
+    overflow_sub-p
+    skip-from_q-requires
+    overflow_cast-q
+    skip-from_t-requires
+    overflow_add-size
+    overflow_sub-size
+    overflow_add-size-2
+    overflow_add-size-3
+    overflow_add-size-4
+    overflow_sub-size-2
+    overflow_add-size-5
+    overflow_add-size-6
+    overflow_add-size-7
+    overflow_sub-size-3
+    overflow_add-size-8
+    overflow_sub-top
+    shape_of-w-then-top-end
+    returns-then-top-end
+    overflow_add-n
+    overflow_cast-n
+    overflow_add-q
+    overflow_cast-at-2
     write-requires
-    add-append-block
-    add-append-block-2
-    sub-append-block
-    add-append-block-3
-    append-block-requires
-    append-requires
-    sub-append-block-2
-    append-block-requires-2
-    sub-append-block-3
-    append-block-requires-3
-    append-requires-2
-    sub-append-block-4
-    append-block-requires-4
-    get3-requires
-    cast-write-3
-    cast-write-4
-    cast-write-5
+    overflow_add-at-2
+    overflow_add-at-3
+    overflow_sub-front
+    overflow_add-end
+    append_block-to-requires
+    append-to-requires
+    overflow_sub-back
+    append_block-to-requires-2
+    overflow_sub-from_t
+    append_block-to-requires-3
+    append-to-requires-2
+    overflow_sub-end
+    append_block-to-requires-4
+    get3-systems-requires
+    overflow_cast-end-2
+    overflow_cast-to
+    overflow_cast-top-2
     write-requires-2
-    same-length-2
-    returns-2)
+    shape_of-w
+    returns)

@@ -12,122 +12,122 @@ use Rattle.loading.proofs.LoadLaws.{LoadLeft, load_start, load_end, load_room, l
 use Rattle.loading.proofs.load_head.Statement.{statement}
 use Rattle.loading.proofs.load_head.Tie as tie
 
-abbrev invariant_loop : tie.invariant_loop
-invariant_loop table p n head out₀ k₀ i₀ out k i = (length out ≡ length out₀) × LoadLeft table p n head out k i
+abbrev invariant-loop-i : tie.invariant-loop-i
+invariant-loop-i table p n head out₀ k₀ i₀ out k i = (length out ≡ length out₀) × LoadLeft table p n head out k i
 
-abbrev decreases_loop : tie.decreases_loop
-decreases_loop table p n head out₀ k₀ i₀ out k i = left (records table) i
+abbrev decreases-loop-i : tie.decreases-loop-i
+decreases-loop-i table p n head out₀ k₀ i₀ out k i = left (records table) i
 
-word-requires : tie.Need-word-requires invariant_loop decreases_loop
-word-requires c κs = (c.before.before.requires.0.1, omega arith)
+word-i-requires : tie.Need-word-i-requires invariant-loop-i decreases-loop-i
+word-i-requires c κs = (c.requires.0.1, omega arith)
 
-cast-i : tie.Need-overflow-cast-i invariant_loop decreases_loop
-cast-i c = search rules
+overflow_cast-i : tie.Need-overflow_cast-i invariant-loop-i decreases-loop-i
+overflow_cast-i c = search rules
 
-loop-holds : tie.Need-loop-init invariant_loop decreases_loop
-loop-holds c =
-    let s = c.before.before.before in
+loop-i-init : tie.Need-loop-i-init invariant-loop-i decreases-loop-i
+loop-i-init c =
+    let s = c in
     let a = s.args in
-    (omega arith, rw c.word.ensures (load_start a.table.now a.p a.n a.head a.out.now s.requires.0.2.0 s.requires.1 s.requires.0.1 s.requires.0.2.1))
+    (omega arith, rw c.word-i.ensures (load_start a.table.now a.p a.n a.head a.out.now s.requires.0.2.0 s.requires.1 s.requires.0.1 s.requires.0.2.1))
 
 -- In a turn: index i is that of a record, and two words are free.
-inside : (c : tie.In-loop invariant_loop decreases_loop) → let a = c.before.before.before.before.before.args in c.before.loop.i < records a.table.now
-inside c = (chain_next c.before.loop.invariant.1.chain c.loop-test.true).inside
+inside : (c : tie.In-loop-i invariant-loop-i decreases-loop-i) → let a = c.args in c.loop-i.i < records a.table.now
+inside c = (chain_next c.loop-i.invariant.1.chain c.loop-i-test.true).inside
 
-free : (c : tie.In-loop invariant_loop decreases_loop) → (c.before.loop.k + 2 ≤ 512) × (512 ≤ length c.before.loop.out)
+free : (c : tie.In-loop-i invariant-loop-i decreases-loop-i) → (c.loop-i.k + 2 ≤ 512) × (512 ≤ length c.loop-i.out)
 free c =
-    let a = c.before.before.before.before.before.args in
-    let l = c.before.loop in
-    (load_room a.table.now a.p a.n a.head l.out l.k l.i l.invariant.1 c.loop-test.true, l.invariant.1.room)
+    let a = c.args in
+    let l = c.loop-i in
+    (load_room a.table.now a.p a.n a.head l.out l.k l.i l.invariant.1 c.loop-i-test.true, l.invariant.1.room)
 
-word-requires-2 : tie.Need-word-requires-2 invariant_loop decreases_loop
-word-requires-2 c κs = (inside c, omega arith)
+word-requires : tie.Need-word-requires invariant-loop-i decreases-loop-i
+word-requires c κs = (inside c, omega arith)
 
-cast-out : tie.Need-overflow-cast-out invariant_loop decreases_loop
-cast-out c = search rules
+overflow_cast-out : tie.Need-overflow_cast-out invariant-loop-i decreases-loop-i
+overflow_cast-out c = search rules
 
-mul-out : tie.Need-overflow-mul-out invariant_loop decreases_loop
-mul-out c = omega (arith, free c.before)
+offset_bounds-out-k : tie.Need-offset_bounds-out-k invariant-loop-i decreases-loop-i
+offset_bounds-out-k c = omega (arith, free c.before)
 
-slice-write-out : tie.Need-slice-write-out invariant_loop decreases_loop
-slice-write-out c = omega (arith, free c.before)
+bounds-out-k : tie.Need-bounds-out-k invariant-loop-i decreases-loop-i
+bounds-out-k c = omega (arith, free c.before)
 
-word-requires-3 : tie.Need-word-requires-3 invariant_loop decreases_loop
-word-requires-3 c κs = (inside c.before, omega arith)
+word-requires-in-loop-i : tie.Need-word-requires-in-loop-i invariant-loop-i decreases-loop-i
+word-requires-in-loop-i c κs = (inside c.before, omega arith)
 
-word-requires-4 : tie.Need-word-requires-4 invariant_loop decreases_loop
-word-requires-4 c κs = (inside c.before.before, omega arith)
+word-requires-in-loop-i-2 : tie.Need-word-requires-in-loop-i-2 invariant-loop-i decreases-loop-i
+word-requires-in-loop-i-2 c κs = (inside c.before.before, omega arith)
 
-packed-requires : tie.Need-packed-requires invariant_loop decreases_loop
+packed-requires : tie.Need-packed-requires invariant-loop-i decreases-loop-i
 packed-requires c κs = tt
 
-add-out : tie.Need-overflow-add-out invariant_loop decreases_loop
-add-out c = omega (arith, free c.before.before.before.before)
+overflow_add-out : tie.Need-overflow_add-out invariant-loop-i decreases-loop-i
+overflow_add-out c = omega (arith, free c.before.before.before.before)
 
-mul-out-2 : tie.Need-overflow-mul-out-2 invariant_loop decreases_loop
-mul-out-2 c = omega (arith, free c.before.before.before.before)
+offset_bounds-out-k-in-loop-i : tie.Need-offset_bounds-out-k-in-loop-i invariant-loop-i decreases-loop-i
+offset_bounds-out-k-in-loop-i c = omega (arith, free c.before.before.before.before)
 
-slice-write-out-2 : tie.Need-slice-write-out-2 invariant_loop decreases_loop
-slice-write-out-2 c = simp length-set (omega (arith, free c.before.before.before.before))
+bounds-out-k-in-loop-i : tie.Need-bounds-out-k-in-loop-i invariant-loop-i decreases-loop-i
+bounds-out-k-in-loop-i c = simp length-set (omega (arith, free c.before.before.before.before))
 
-add-k : tie.Need-overflow-add-k invariant_loop decreases_loop
-add-k c = omega (arith, free c.before.before.before.before)
+overflow_add-k : tie.Need-overflow_add-k invariant-loop-i decreases-loop-i
+overflow_add-k c = omega (arith, free c.before.before.before.before)
 
-word-requires-5 : tie.Need-word-requires-5 invariant_loop decreases_loop
-word-requires-5 c κs = (inside c.before.before.before.before, omega arith)
+word-i-requires-in-loop-i : tie.Need-word-i-requires-in-loop-i invariant-loop-i decreases-loop-i
+word-i-requires-in-loop-i c κs = (inside c.before.before.before.before, omega arith)
 
-cast-i-2 : tie.Need-overflow-cast-i-2 invariant_loop decreases_loop
-cast-i-2 c = search rules
+overflow_cast-i-in-loop-i : tie.Need-overflow_cast-i-in-loop-i invariant-loop-i decreases-loop-i
+overflow_cast-i-in-loop-i c = search rules
 
-loop-less : tie.Need-loop-smaller invariant_loop decreases_loop
-loop-less c =
-    let d = c.before.before.before.before.before in
-    rw c.word5.ensures (chain_less d.before.loop.invariant.1.chain d.loop-test.true)
+loop-i-smaller : tie.Need-loop-i-smaller invariant-loop-i decreases-loop-i
+loop-i-smaller c =
+    let d = c in
+    rw c.word-i-in-loop-i.ensures (chain_less d.loop-i.invariant.1.chain d.loop-i-test.true)
 
-loop-again : tie.Need-loop-preserved invariant_loop decreases_loop
-loop-again c =
-    let a = c.before.before.before.before.before.before.before.before.before.before.args in
-    let l = c.before.before.before.before.before.before.loop in
-    let e : bytes 8 c.before.packed.result ≡ exponents (word a.table.now l.i 1) (word a.table.now l.i 2) =
-    c.before.packed.ensures.1 ∙ ap₂ exponents c.before.before.before.word3.ensures c.before.before.word4.ensures in (
+loop-i-preserved : tie.Need-loop-i-preserved invariant-loop-i decreases-loop-i
+loop-i-preserved c =
+    let a = c.args in
+    let l = c.loop-i in
+    let e : bytes 8 c.packed.result ≡ exponents (word a.table.now l.i 1) (word a.table.now l.i 2) =
+    c.packed.ensures.1 ∙ ap₂ exponents c.word-in-loop-i.ensures c.word-in-loop-i-2.ensures in (
       simp length-set l.invariant.0,
-      rw c.word5.ensures
-          (load_next a.table.now a.p a.n a.head l.out l.k l.i l.invariant.1 c.before.before.before.before.before.loop-test.true
-          c.before.before.before.before.word2.result c.before.packed.result c.before.before.before.before.word2.ensures e),
+      rw c.word-i-in-loop-i.ensures
+          (load_next a.table.now a.p a.n a.head l.out l.k l.i l.invariant.1 c.loop-i-test.true
+          c.word.result c.packed.result c.word.ensures e),
     )
 
-same_length : tie.Need-same-length invariant_loop decreases_loop
-same_length c = omega arith
+shape_of-out : tie.Need-shape_of-out invariant-loop-i decreases-loop-i
+shape_of-out c = omega arith
 
-returns : tie.Need-returns invariant_loop decreases_loop
+returns : tie.Need-returns invariant-loop-i decreases-loop-i
 returns c =
-    let a = c.before.before.before.before.before.args in
-    let l = c.before.loop in
-    load_end a.table.now a.p a.n a.head l.out l.k l.i l.invariant.1 c.before.before.before.before.before.requires.0.1 c.loop-test.false
+    let a = c.args in
+    let l = c.loop-i in
+    load_end a.table.now a.p a.n a.head l.out l.k l.i l.invariant.1 c.requires.0.1 c.loop-i-test.false
 
 pub load_head_spec : {M : Type 1} → statement M
 load_head_spec =
     tie.close
     (tie.spec
-    invariant_loop
-    decreases_loop
+    invariant-loop-i
+    decreases-loop-i
+    word-i-requires
+    overflow_cast-i
+    loop-i-init
     word-requires
-    cast-i
-    loop-holds
-    word-requires-2
-    cast-out
-    mul-out
-    slice-write-out
-    word-requires-3
-    word-requires-4
+    overflow_cast-out
+    offset_bounds-out-k
+    bounds-out-k
+    word-requires-in-loop-i
+    word-requires-in-loop-i-2
     packed-requires
-    add-out
-    mul-out-2
-    slice-write-out-2
-    add-k
-    word-requires-5
-    cast-i-2
-    loop-less
-    loop-again
-    same_length
+    overflow_add-out
+    offset_bounds-out-k-in-loop-i
+    bounds-out-k-in-loop-i
+    overflow_add-k
+    word-i-requires-in-loop-i
+    overflow_cast-i-in-loop-i
+    loop-i-smaller
+    loop-i-preserved
+    shape_of-out
     returns)

@@ -30,16 +30,16 @@ Left table p n first work₀ q work i =
     (fs : List Poly) (c : Branch) → read_heads table p n (records table) 0 first ≡ good fs → Alone p (capacity work₀) c (view work₀)
     → PutLeft table p n q (capacity work₀) fs c i (view work)
 
-abbrev invariant_loop : tie.invariant_loop
-invariant_loop table p n first work₀ r₀ in-q i₀ work r i =
+abbrev invariant-loop-i : tie.invariant-loop-i
+invariant-loop-i table p n first work₀ r₀ in-q i₀ work r i =
     (length work ≡ length work₀) × (length r ≡ length r₀) × Left table p n first work₀ in-q work i × (outside work ≡ outside work₀)
 
-abbrev decreases_loop : tie.decreases_loop
-decreases_loop table p n first work₀ r₀ in-q i₀ work r i = left (records table) i
+abbrev decreases-loop-i : tie.decreases-loop-i
+decreases-loop-i table p n first work₀ r₀ in-q i₀ work r i = left (records table) i
 
-loop-holds : tie.Need-loop-init invariant_loop decreases_loop
-loop-holds c =
-    let s = c.before.before.before in
+loop-i-init : tie.Need-loop-i-init invariant-loop-i decreases-loop-i
+loop-i-init c =
+    let s = c in
     let a = s.args in
     let some = some_record s.requires.0.0 in (
       omega arith,
@@ -49,112 +49,112 @@ loop-holds c =
     )
 
 -- In a turn: the start, and what is left to put, for the chain and the branch that the contract's `requires` tells of.
-abbrev start : tie.In-loop invariant_loop decreases_loop → tie.Start invariant_loop decreases_loop
+abbrev start : tie.In-loop-i invariant-loop-i decreases-loop-i → tie.Start invariant-loop-i decreases-loop-i
 start c = c.before.before.before.before.before
 
-here : (c : tie.In-loop invariant_loop decreases_loop) → let s = start c in let a = s.args in let l = c.before.loop in
-    PutLeft a.table.now a.p a.n a.in-q (capacity a.work.now) s.pre.0.1.0 s.pre.1.0.0 l.i (view l.work)
-here c = let s = start c in c.before.loop.invariant.2 s.pre.0.1.0 s.pre.1.0.0 s.pre.0.1.1 s.pre.1.0.1
+here : (c : tie.In-loop-i invariant-loop-i decreases-loop-i) → let s = start c in let a = s.args in let l = c.loop-i in
+    PutLeft a.table.now a.p a.n a.in-q (capacity a.work.now) s.requires.0.1.0 s.requires.1.0.0 l.i (view l.work)
+here c = let s = start c in c.loop-i.invariant.2 s.requires.0.1.0 s.requires.1.0.0 s.requires.0.1.1 s.requires.1.0.1
 
-abbrev head : (c : tie.In-loop invariant_loop decreases_loop) → Member (here c).chain
-head c = chain_next (here c).chain c.loop-test.true
+abbrev head : (c : tie.In-loop-i invariant-loop-i decreases-loop-i) → Member (here c).chain
+head c = chain_next (here c).chain c.loop-i-test.true
 
-load-monic-requires : tie.Need-load-monic-requires invariant_loop decreases_loop
-load-monic-requires c κs =
-    let d = c.before in
-    let s = start d in
-    let h = head d in
-    ((s.pre.0.0, h.inside, (h.member, h.is_read)), omega (arith, d.before.loop.invariant.1, s.pre.1.1))
+load_monic-m-requires : tie.Need-load_monic-m-requires invariant-loop-i decreases-loop-i
+load_monic-m-requires c κs =
+    let d = c in
+    let s = start d.before in
+    let h = head d.before in
+    ((s.requires.0.0, h.inside, (h.member, h.is_read)), omega (arith, d.loop-i.invariant.1, s.requires.1.1))
 
 -- What was loaded.
-abbrev words : tie.After-load-monic invariant_loop decreases_loop → List ℕ
-words c = c.load-monic.new.1.1.1.1.0
+abbrev words : tie.After-load_monic-m invariant-loop-i decreases-loop-i → List ℕ
+words c = c.load_monic-m.new.out
 
-loaded : (c : tie.After-load-monic invariant_loop decreases_loop) → let d = c.before.before in Loaded (start d).args.p (head d).member c.load-monic.result (words c)
-loaded c = let h = head c.before.before in c.load-monic.ensures h.member h.is_read
+loaded : (c : tie.After-load_monic-m invariant-loop-i decreases-loop-i) → let d = c in Loaded (start d.before.before).args.p (head d.before.before).member c.load_monic-m.result (words c)
+loaded c = let h = head c.before.before in c.load_monic-m.ensures h.member h.is_read
 
-slice-reshare-prefix-put-one : tie.Need-slice-reshare-prefix-put-one invariant_loop decreases_loop
-slice-reshare-prefix-put-one c = (loaded c.before.before.before).within
+slice_bounds-put_one-end : tie.Need-slice_bounds-put_one-end invariant-loop-i decreases-loop-i
+slice_bounds-put_one-end c = (loaded c.before.before.before).within
 
-slice-aggregate-put-one : tie.Need-slice-aggregate-put-one invariant_loop decreases_loop
-slice-aggregate-put-one c = let d = c.before.before.before.before in sym (length-take-le d.load-monic.result (words d) (loaded d).within)
+slice_bounds-put_one-end-in-loop-i : tie.Need-slice_bounds-put_one-end-in-loop-i invariant-loop-i decreases-loop-i
+slice_bounds-put_one-end-in-loop-i c = let d = c in sym (length-take-le d.load_monic-m.result (words d.before.before.before) (loaded d.before.before.before).within)
 
-put-one-requires : tie.Need-put-one-requires invariant_loop decreases_loop
-put-one-requires c κs =
-    let d = c.before.before.before.before in
-    let s = start d.before.before in
+put_one-requires : tie.Need-put_one-requires invariant-loop-i decreases-loop-i
+put_one-requires c κs =
+    let d = c in
+    let s = start d.before.before.before.before.before in
     let a = s.args in
-    let l = d.before.before.before.loop in
-    let x = (here d.before.before).alone in
-    let M = readable_modulus s.pre.0.0 in (
+    let l = d.loop-i in
+    let x = (here d.before.before.before.before.before).alone in
+    let M = readable_modulus s.requires.0.0 in (
       (x.stored, [], [], subst (λ (m : ℕ). Held (view l.work) m (with_open x.stored [] [])) (same_capacity a.work.now l.work (sym l.invariant.0)) x.held),
-      sound_storable a.p (omega (arith, M.below)) (take d.load-monic.result (words d)) (loaded d).sound,
+      sound_storable a.p (omega (arith, M.below)) (take d.load_monic-m.result (words d.before.before.before)) (loaded d.before.before.before).sound,
     )
 
 -- What `put_one` says, in the room that there was at entry.
-puts : (c : tie.After-put-one invariant_loop decreases_loop) → let d = c.before.before.before.before.before in let a = (start d.before.before).args in let l = d.before.before.before.loop in
-    Puts (view l.work) (capacity a.work.now) a.in-q (take d.load-monic.result (words d)) c.put_one.result (view c.put_one.new.0)
+puts : (c : tie.After-put_one invariant-loop-i decreases-loop-i) → let d = c in let a = (start d.before.before.before.before.before.before).args in let l = d.loop-i in
+    Puts (view l.work) (capacity a.work.now) a.in-q (take d.load_monic-m.result (words d.before.before.before.before)) c.put_one.result (view c.put_one.new.work)
 puts c =
-    let d = c.before.before.before.before.before in
-    let a = (start d.before.before).args in
-    let l = d.before.before.before.loop in
-    subst (λ (m : ℕ). Puts (view l.work) m a.in-q (take d.load-monic.result (words d)) c.put_one.result (view c.put_one.new.0))
+    let d = c in
+    let a = (start d.before.before.before.before.before.before).args in
+    let l = d.loop-i in
+    subst (λ (m : ℕ). Puts (view l.work) m a.in-q (take d.load_monic-m.result (words d.before.before.before.before)) c.put_one.result (view c.put_one.new.work))
     (same_capacity l.work a.work.now l.invariant.0) c.put_one.ensures.0
 
-same_length : tie.Need-same-length invariant_loop decreases_loop
-same_length c = search rules
+shape_of-work-then-not-put_one : tie.Need-shape_of-work-then-not-put_one invariant-loop-i decreases-loop-i
+shape_of-work-then-not-put_one c = search rules
 
-same-length-2 : tie.Need-same-length-2 invariant_loop decreases_loop
-same-length-2 c = search rules
+shape_of-r-then-not-put_one : tie.Need-shape_of-r-then-not-put_one invariant-loop-i decreases-loop-i
+shape_of-r-then-not-put_one c = search rules
 
-returns : tie.Need-returns invariant_loop decreases_loop
-returns c =
-    let k = c.before.before.before in
-    let d = k.before.before.before.before.before in
-    let a = (start d.before.before).args in
-    let l = d.before.before.before.loop in (
-      λ fs b e x. put_fails a.table.now a.p a.n a.in-q (capacity a.work.now) fs b l.i (view l.work) (l.invariant.2 fs b e x) d.before.before.loop-test.true
-          d.load-monic.result (words d) d.load-monic.ensures k.put_one.result (view k.put_one.new.0) (puts k) (not-true k.put_one.result c.if1.true),
+returns-then-not-put_one : tie.Need-returns-then-not-put_one invariant-loop-i decreases-loop-i
+returns-then-not-put_one c =
+    let k = c in
+    let d = k in
+    let a = (start d.before.before.before.before.before.before.before.before.before).args in
+    let l = d.loop-i in (
+      λ fs b e x. put_fails a.table.now a.p a.n a.in-q (capacity a.work.now) fs b l.i (view l.work) (l.invariant.2 fs b e x) d.loop-i-test.true
+          d.load_monic-m.result (words d.before.before.before.before.before.before.before) d.load_monic-m.ensures k.put_one.result (view k.put_one.new.work) (puts k.before.before.before) (not-true k.put_one.result c.if-not-put_one.true),
       k.put_one.ensures.1 ∙ l.invariant.3,
     )
 
-word-requires : tie.Need-word-requires invariant_loop decreases_loop
-word-requires c κs = ((head c.before.before.before.before.before.before.before.before.before.before).inside, omega arith)
+word-i-requires : tie.Need-word-i-requires invariant-loop-i decreases-loop-i
+word-i-requires c κs = ((head c.before.before.before.before.before.before.before.before.before).inside, omega arith)
 
-cast-i : tie.Need-overflow-cast-i invariant_loop decreases_loop
-cast-i c = search rules
+overflow_cast-i-in-loop-i : tie.Need-overflow_cast-i-in-loop-i invariant-loop-i decreases-loop-i
+overflow_cast-i-in-loop-i c = search rules
 
-loop-less : tie.Need-loop-smaller invariant_loop decreases_loop
-loop-less c =
-    let d = c.before.before.before.before.before.before.before.before.before.before.before in
-    rw c.word.ensures (chain_less (here d).chain d.loop-test.true)
+loop-i-smaller : tie.Need-loop-i-smaller invariant-loop-i decreases-loop-i
+loop-i-smaller c =
+    let d = c in
+    rw c.word-i.ensures (chain_less (here d.before.before.before.before.before.before.before.before.before.before).chain d.loop-i-test.true)
 
-loop-again : tie.Need-loop-preserved invariant_loop decreases_loop
-loop-again c =
-    let k = c.before.before.before.before in
-    let d = k.before.before.before.before.before in
-    let a = (start d.before.before).args in
-    let l = d.before.before.before.loop in (
-      k.put_one.auto.0 ∙ l.invariant.0,
-      d.load-monic.auto.1.1.1.1.0 ∙ l.invariant.1,
-      λ fs b e x. rw c.word.ensures
+loop-i-preserved : tie.Need-loop-i-preserved invariant-loop-i decreases-loop-i
+loop-i-preserved c =
+    let k = c in
+    let d = k in
+    let a = (start d.before.before.before.before.before.before.before.before.before.before).args in
+    let l = d.loop-i in (
+      k.put_one.auto.work ∙ l.invariant.0,
+      d.load_monic-m.auto.out ∙ l.invariant.1,
+      λ fs b e x. rw c.word-i.ensures
           (put_next a.table.now a.p a.n a.in-q (capacity a.work.now) fs b
-          l.i (view l.work) (l.invariant.2 fs b e x) d.before.before.loop-test.true
-          d.load-monic.result (words d) d.load-monic.ensures k.put_one.result (view k.put_one.new.0) (puts k) (not-false k.put_one.result c.before.if1.false)),
+          l.i (view l.work) (l.invariant.2 fs b e x) d.loop-i-test.true
+          d.load_monic-m.result (words d.before.before.before.before.before.before.before.before) d.load_monic-m.ensures k.put_one.result (view k.put_one.new.work) (puts k.before.before.before.before) (not-false k.put_one.result c.if-not-put_one.false)),
       k.put_one.ensures.1 ∙ l.invariant.3,
     )
 
-same-length-3 : tie.Need-same-length-3 invariant_loop decreases_loop
-same-length-3 c = search rules
+shape_of-work : tie.Need-shape_of-work invariant-loop-i decreases-loop-i
+shape_of-work c = search rules
 
-same-length-4 : tie.Need-same-length-4 invariant_loop decreases_loop
-same-length-4 c = search rules
+shape_of-r : tie.Need-shape_of-r invariant-loop-i decreases-loop-i
+shape_of-r c = search rules
 
-returns-2 : tie.Need-returns-2 invariant_loop decreases_loop
-returns-2 c =
-    let a = c.before.before.before.before.before.args in
-    let l = c.before.loop in (
-      λ fs b e x. put_end a.table.now a.p a.n a.in-q (capacity a.work.now) fs b l.i (view l.work) (l.invariant.2 fs b e x) c.loop-test.false,
+returns : tie.Need-returns invariant-loop-i decreases-loop-i
+returns c =
+    let a = c.args in
+    let l = c.loop-i in (
+      λ fs b e x. put_end a.table.now a.p a.n a.in-q (capacity a.work.now) fs b l.i (view l.work) (l.invariant.2 fs b e x) c.loop-i-test.false,
       l.invariant.3,
     )
 
@@ -162,20 +162,20 @@ pub put_heads_spec : {M : Type 1} → statement M
 put_heads_spec =
     tie.close
     (tie.spec
-    invariant_loop
-    decreases_loop
-    loop-holds
-    load-monic-requires
-    slice-reshare-prefix-put-one
-    slice-aggregate-put-one
-    put-one-requires
-    same_length
-    same-length-2
-    returns
-    word-requires
-    cast-i
-    loop-less
-    loop-again
-    same-length-3
-    same-length-4
-    returns-2)
+    invariant-loop-i
+    decreases-loop-i
+    loop-i-init
+    load_monic-m-requires
+    slice_bounds-put_one-end
+    slice_bounds-put_one-end-in-loop-i
+    put_one-requires
+    shape_of-work-then-not-put_one
+    shape_of-r-then-not-put_one
+    returns-then-not-put_one
+    word-i-requires
+    overflow_cast-i-in-loop-i
+    loop-i-smaller
+    loop-i-preserved
+    shape_of-work
+    shape_of-r
+    returns)

@@ -6,28 +6,28 @@ use Rattle.polynomials.specs.laws.Highest.{Behind, behind_next, behind_end}
 use Rattle.monomials.proofs.highest.Statement.{statement}
 use Rattle.monomials.proofs.highest.Tie as tie
 
-abbrev invariant_loop : tie.invariant_loop
-invariant_loop m left₀ k₀ left k = Behind m left k
+abbrev invariant-loop-left : tie.invariant-loop-left
+invariant-loop-left m left₀ k₀ left k = Behind m left k
 
-abbrev decreases_loop : tie.decreases_loop
-decreases_loop m left₀ k₀ left k = left
+abbrev decreases-loop-left : tie.decreases-loop-left
+decreases-loop-left m left₀ k₀ left k = left
 
-loop-holds : tie.Need-loop-init invariant_loop decreases_loop
-loop-holds c = record { more = 8; places = refl; small = omega arith; sum = omega arith }
+loop-left-init : tie.Need-loop-left-init invariant-loop-left decreases-loop-left
+loop-left-init c = record { more = 8; places = refl; small = omega arith; sum = omega arith }
 
-add-k : tie.Need-overflow-add-k invariant_loop decreases_loop
-add-k c = omega (arith, c.before.loop.invariant.places)
+overflow_add-k : tie.Need-overflow_add-k invariant-loop-left decreases-loop-left
+overflow_add-k c = omega (arith, c.loop-left.invariant.places)
 
-loop-less : tie.Need-loop-smaller invariant_loop decreases_loop
-loop-less c = omega arith
+loop-left-smaller : tie.Need-loop-left-smaller invariant-loop-left decreases-loop-left
+loop-left-smaller c = omega arith
 
-loop-again : tie.Need-loop-preserved invariant_loop decreases_loop
-loop-again c = behind_next _ _ _ (omega arith) c.before.loop.invariant
+loop-left-preserved : tie.Need-loop-left-preserved invariant-loop-left decreases-loop-left
+loop-left-preserved c = behind_next _ _ _ (omega arith) c.loop-left.invariant
 
-returns : tie.Need-returns invariant_loop decreases_loop
+returns : tie.Need-returns invariant-loop-left decreases-loop-left
 returns c =
-    let z : c.before.loop.left ≡ 0 = omega arith in
-    behind_end c.before.before.args.m c.before.loop.k (omega arith) (subst (λ (l : ℕ). Behind c.before.before.args.m l c.before.loop.k) z c.before.loop.invariant)
+    let z : c.loop-left.left ≡ 0 = omega arith in
+    behind_end c.args.m c.loop-left.k (omega arith) (subst (λ (l : ℕ). Behind c.args.m l c.loop-left.k) z c.loop-left.invariant)
 
 pub highest_spec : {M : Type 1} → statement M
-highest_spec = tie.close (tie.spec invariant_loop decreases_loop loop-holds add-k loop-less loop-again returns)
+highest_spec = tie.close (tie.spec invariant-loop-left decreases-loop-left loop-left-init overflow_add-k loop-left-smaller loop-left-preserved returns)

@@ -8,8 +8,8 @@ use Rattle.polynomials.specs.laws.Packed.{bytes_words}
 use Rattle.monomials.proofs.packed.Statement.{statement}
 use Rattle.monomials.proofs.packed.Tie as tie
 
-add-result : tie.Need-overflow-add-result
-add-result c = search rules
+overflow_add-result : tie.Need-overflow_add-result
+overflow_add-result c = search rules
 
 returns : tie.Need-returns
 returns c =
@@ -17,4 +17,4 @@ returns c =
     (whole, ap (bytes 8) whole ∙ bytes_words c.args.high c.args.low (omega arith))
 
 pub packed_spec : {M : Type 1} → statement M
-packed_spec = tie.close (tie.spec add-result returns)
+packed_spec = tie.close (tie.spec overflow_add-result returns)

@@ -14,59 +14,59 @@ use Rattle.monomials.proofs.ExponentLaws.{bytes_within}
 use Rattle.monomials.proofs.passes.Statement.{statement}
 use Rattle.monomials.proofs.passes.Tie as tie
 
-abbrev invariant_loop : tie.invariant_loop
-invariant_loop a b k₀ k = (j : ℕ) → j < k → get_or (bytes 8 a) j 0 + get_or (bytes 8 b) j 0 ≤ 255
+abbrev invariant-loop-k : tie.invariant-loop-k
+invariant-loop-k a b k₀ k = (j : ℕ) → j < k → get_or (bytes 8 a) j 0 + get_or (bytes 8 b) j 0 ≤ 255
 
-abbrev decreases_loop : tie.decreases_loop
-decreases_loop a b k₀ k = 8 - k
+abbrev decreases-loop-k : tie.decreases-loop-k
+decreases-loop-k a b k₀ k = 8 - k
 
-loop-holds : tie.Need-loop-init invariant_loop decreases_loop
-loop-holds c = search rules
+loop-k-init : tie.Need-loop-k-init invariant-loop-k decreases-loop-k
+loop-k-init c = search rules
 
-exponent-requires : tie.Need-exponent-requires invariant_loop decreases_loop
+exponent-requires : tie.Need-exponent-requires invariant-loop-k decreases-loop-k
 exponent-requires c κs = search rules
 
-exponent-requires-2 : tie.Need-exponent-requires-2 invariant_loop decreases_loop
-exponent-requires-2 c κs = search rules
+exponent-requires-in-loop-k : tie.Need-exponent-requires-in-loop-k invariant-loop-k decreases-loop-k
+exponent-requires-in-loop-k c κs = search rules
 
-add-if1 : tie.Need-overflow-add-if1 invariant_loop decreases_loop
-add-if1 c =
-    let start = c.before.before.before.before in
-    let k = c.before.before.before.loop.k in
+overflow_add-exponent : tie.Need-overflow_add-exponent invariant-loop-k decreases-loop-k
+overflow_add-exponent c =
+    let start = c in
+    let k = c.loop-k.k in
     record { fits = omega (arith, byte_small 8 start.args.a k, byte_small 8 start.args.b k) }
 
-returns : tie.Need-returns invariant_loop decreases_loop
-returns c =
-    let start = c.before.before.before.before.before in
-    let k = c.before.before.before.before.loop.k in
+returns-then-exponent-gt255 : tie.Need-returns-then-exponent-gt255 invariant-loop-k decreases-loop-k
+returns-then-exponent-gt255 c =
+    let start = c in
+    let k = c.loop-k.k in
     let a = bytes 8 start.args.a in
     let b = bytes 8 start.args.b in
     sym (over_at 255 k (join a b) (omega (arith, at_join k a b)))
 
-add-k : tie.Need-overflow-add-k invariant_loop decreases_loop
-add-k c = search rules
+overflow_add-k : tie.Need-overflow_add-k invariant-loop-k decreases-loop-k
+overflow_add-k c = search rules
 
-loop-less : tie.Need-loop-smaller invariant_loop decreases_loop
-loop-less c = search rules
+loop-k-smaller : tie.Need-loop-k-smaller invariant-loop-k decreases-loop-k
+loop-k-smaller c = search rules
 
-loop-again : tie.Need-loop-preserved invariant_loop decreases_loop
-loop-again c = below_more _ _ c.before.before.before.before.loop.invariant (omega arith)
+loop-k-preserved : tie.Need-loop-k-preserved invariant-loop-k decreases-loop-k
+loop-k-preserved c = below_more _ _ c.loop-k.invariant (omega arith)
 
-returns-2 : tie.Need-returns-2 invariant_loop decreases_loop
-returns-2 c = sym (bytes_within 8 255 c.before.before.args.a c.before.before.args.b (λ j l. c.before.loop.invariant j (omega arith)))
+returns : tie.Need-returns invariant-loop-k decreases-loop-k
+returns c = sym (bytes_within 8 255 c.args.a c.args.b (λ j l. c.loop-k.invariant j (omega arith)))
 
 pub passes_spec : {M : Type 1} → statement M
 passes_spec =
     tie.close
     (tie.spec
-    invariant_loop
-    decreases_loop
-    loop-holds
+    invariant-loop-k
+    decreases-loop-k
+    loop-k-init
     exponent-requires
-    exponent-requires-2
-    add-if1
-    returns
-    add-k
-    loop-less
-    loop-again
-    returns-2)
+    exponent-requires-in-loop-k
+    overflow_add-exponent
+    returns-then-exponent-gt255
+    overflow_add-k
+    loop-k-smaller
+    loop-k-preserved
+    returns)

@@ -7,8 +7,8 @@ use borrow.Author.Rules.{rules}
 use Rattle.montgomery.proofs.negated_inverse.Statement.{statement}
 use Rattle.montgomery.proofs.negated_inverse.Tie as tie
 
-add-newton : tie.Need-overflow-add-newton
-add-newton c = search rules
+overflow_add-p : tie.Need-overflow_add-p
+overflow_add-p c = search rules
 
 newton-requires : tie.Need-newton-requires
 newton-requires c κs = search rules
@@ -34,24 +34,17 @@ modulo_four p h = subst (λ z. 4 ∣ z) square (mul-dvd-mul 2 2 even even)
 
 returns : tie.Need-returns
 returns c =
-    let n3 = c.before in
-    let n2 = n3.before in
-    let n1 = n2.before in
-    let p = n1.before.args.p in (
-      c.newton4.ensures.0,
-      c.newton4.ensures.1 65536 (dvd_of_mod-eq-zero 4294967296 refl)
-          (n3.newton3.ensures.1 256 (dvd_of_mod-eq-zero 65536 refl)
-          (n2.newton2.ensures.1 16 (dvd_of_mod-eq-zero 256 refl)
-          (n1.newton.ensures.1 4 (dvd_of_mod-eq-zero 16 refl) (modulo_four p n1.before.requires.1)))),
+    let n3 = c in
+    let n2 = n3 in
+    let n1 = n2 in
+    let p = n1.args.p in (
+      c.newton-4.ensures.0,
+      c.newton-4.ensures.1 65536 (dvd_of_mod-eq-zero 4294967296 refl)
+          (n3.newton-3.ensures.1 256 (dvd_of_mod-eq-zero 65536 refl)
+          (n2.newton-2.ensures.1 16 (dvd_of_mod-eq-zero 256 refl)
+          (n1.newton.ensures.1 4 (dvd_of_mod-eq-zero 16 refl) (modulo_four p n1.requires.1)))),
     )
 
 pub negated_inverse_spec : {M : Type 1} → statement M
 negated_inverse_spec =
-    tie.close
-    (tie.spec
-    add-newton
-    newton-requires
-    newton-requires-2
-    newton-requires-3
-    newton-requires-4
-    returns)
+    tie.close (tie.spec overflow_add-p newton-requires newton-requires-2 newton-requires-3 newton-requires-4 returns)

@@ -13,18 +13,18 @@ use Rattle.places.proofs.put_at.Tie as tie
 
 -- ── the places: the end is read, and where the systems start; there is room; f is stored ──
 abbrev Reading : Type 0
-Reading = tie.After-get2
+Reading = tie.After-get2-top
 
-abbrev end_read : Reading → tie.After-get1
-end_read r = r.before.before
+abbrev end_read : Reading → tie.After-get1-end
+end_read r = r.before
 
 abbrev start : Reading → tie.Start
 start r = (end_read r).before.before.before.before
 
-abbrev room_of : tie.After-insert → tie.Else1
+abbrev room_of : tie.After-insert → tie.Else-top-end
 room_of c = c.before.before
 
-abbrev insert_of : tie.After-resize-arg → tie.After-insert
+abbrev insert_of : tie.After-resize-arg-1 → tie.After-insert
 insert_of c = c.before.before.before
 
 -- ── what is known ──
@@ -39,84 +39,84 @@ opened : (r : Reading) → Entry r (start r).requires.1.0 (start r).requires.1.1
 opened r = (start r).requires.1.3
 
 -- ── the needs ──
-get1-requires : tie.Need-get1-requires
-get1-requires c κs = search rules
+get1-end-requires : tie.Need-get1-end-requires
+get1-end-requires c κs = search rules
 
-cast-end : tie.Need-overflow-cast-end
-cast-end c = search rules
+overflow_cast-end : tie.Need-overflow_cast-end
+overflow_cast-end c = search rules
 
-get2-requires : tie.Need-get2-requires
-get2-requires c κs = search rules
+get2-top-requires : tie.Need-get2-top-requires
+get2-top-requires c κs = search rules
 
-cast-top : tie.Need-overflow-cast-top
-cast-top c = search rules
+overflow_cast-top : tie.Need-overflow_cast-top
+overflow_cast-top c = search rules
 
-add-n : tie.Need-overflow-add-n
-add-n c = search rules
+overflow_add-n : tie.Need-overflow_add-n
+overflow_add-n c = search rules
 
-sub-if1 : tie.Need-overflow-sub-if1
-sub-if1 c = end_inside (opened c).held (end_read c).get1.ensures c.get2.ensures
+overflow_sub-top : tie.Need-overflow_sub-top
+overflow_sub-top c = end_inside (opened c).held (end_read c).get1-end.ensures c.get2-top.ensures
 
-same_length : tie.Need-same-length
-same_length c = refl
+shape_of-w-then-top-end : tie.Need-shape_of-w-then-top-end
+shape_of-w-then-top-end c = refl
 
-returns : tie.Need-returns
-returns c = let r = c.before in (λ b bs ss A. no_room A.held (end_read r).get1.ensures r.get2.ensures A.adds c.if1.true, refl)
+returns-then-top-end : tie.Need-returns-then-top-end
+returns-then-top-end c = let r = c in (λ b bs ss A. no_room A.held (end_read r.before).get1-end.ensures r.get2-top.ensures A.adds c.if-top-end.true, refl)
 
 insert-requires : tie.Need-insert-requires
 insert-requires c κs =
-    let r = c.before.before in
-    let A = opened r in
-    let h = put_inside A.held (end_read r).get1.ensures A.adds A.there r.get2.ensures c.before.if1.false in
-    ((start r).requires.0, (h.0, inside_room (w r) h.1))
+    let r = c in
+    let A = opened r.before.before in
+    let h = put_inside A.held (end_read r.before.before).get1-end.ensures A.adds A.there r.get2-top.ensures c.if-top-end.false in
+    ((start r.before.before).requires.0, (h.0, inside_room (w r.before.before) h.1))
 
-add-resize : tie.Need-overflow-add-resize
-add-resize c = search rules
+overflow_add-end : tie.Need-overflow_add-end
+overflow_add-end c = search rules
 
-cast-resize : tie.Need-overflow-cast-resize
-cast-resize c = search rules
+overflow_cast-end-2 : tie.Need-overflow_cast-end-2
+overflow_cast-end-2 c = search rules
 
 resize-requires : tie.Need-resize-requires
 resize-requires c κs =
     let i = insert_of c in
     let s = room_of i in
-    let r = s.before in
-    let A = opened r in
-    let h = put_start A.held (end_read r).get1.ensures A.adds A.there r.get2.ensures s.if1.left i.insert.ensures.0 in
-    still_inside (w r) i.insert.last.0 h i.insert.kept.0
+    let r = s in
+    let A = opened r.before in
+    let h = put_start A.held (end_read r.before).get1-end.ensures A.adds A.there r.get2-top.ensures s.if-top-end.left i.insert.ensures.0 in
+    still_inside (w r.before) i.insert.new.w h i.insert.auto.w
 
-same-length-2 : tie.Need-same-length-2
-same-length-2 c = search rules
+shape_of-w : tie.Need-shape_of-w
+shape_of-w c = search rules
 
-returns-2 : tie.Need-returns-2
-returns-2 c =
-    let k = c.before.before in
-    let i = insert_of k.before in
+returns : tie.Need-returns
+returns c =
+    let k = c in
+    let i = insert_of k.before.before.before in
     let s = room_of i in
-    let r = s.before in
-    let some = opened r in (
+    let r = s in
+    let some = opened r.before in (
       λ b bs ss A. leaves_held
-          (held_put A.held (end_read r).get1.ensures A.adds A.there r.get2.ensures s.if1.left i.insert.ensures.0 (start r).pre.0 A.counts
+          (held_put A.held (end_read r.before).get1-end.ensures A.adds A.there r.get2-top.ensures s.if-top-end.left i.insert.ensures.0 (start r.before).requires.0 A.counts
           k.resize.ensures.0),
-      outside_stays (w r) k.resize.new.0 (k.resize.auto.0 ∙ i.insert.kept.0) (k.resize.ensures.0, k.resize.ensures.1 ∙ i.insert.ensures.1)
-          (beyond_put some.held (end_read r).get1.ensures some.adds some.there r.get2.ensures s.if1.left i.insert.ensures.0 _ _ _),
+      outside_stays (w r.before) k.resize.new.w (k.resize.auto.w ∙ i.insert.auto.w) (k.resize.ensures.0, k.resize.ensures.1 ∙ i.insert.ensures.1)
+          (beyond_put some.held (end_read r.before).get1-end.ensures some.adds some.there r.get2-top.ensures s.if-top-end.left i.insert.ensures.0 _ _ _),
     )
 
 pub put_at_spec : {M : Type 1} → statement M
 put_at_spec =
     tie.close
     (tie.spec
-    get1-requires
-    cast-end
-    get2-requires
-    cast-top
-    add-n
-    sub-if1
-    same_length
-    returns
+    get1-end-requires
+    overflow_cast-end
+    get2-top-requires
+    overflow_cast-top
+    overflow_add-n
+    overflow_sub-top
+    shape_of-w-then-top-end
+    returns-then-top-end
     insert-requires
-    add-resize
-    cast-resize
+    overflow_add-end
+    overflow_cast-end-2
     resize-requires
-    same-length-2
-    returns-2)
+    shape_of-w
+    returns)

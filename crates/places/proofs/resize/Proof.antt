@@ -7,23 +7,23 @@ use Rattle.places.proofs.resize.Statement.{statement}
 use Rattle.places.proofs.resize.Tie as tie
 
 -- ── the needs ──
-get0-requires : tie.Need-get0-requires
-get0-requires c κs = search rules
+get0-at-requires : tie.Need-get0-at-requires
+get0-at-requires c κs = search rules
 
-get2-requires : tie.Need-get2-requires
-get2-requires c κs = search rules
+get2-top-requires : tie.Need-get2-top-requires
+get2-top-requires c κs = search rules
 
-get3-requires : tie.Need-get3-requires
-get3-requires c κs = search rules
+get3-systems-requires : tie.Need-get3-systems-requires
+get3-systems-requires c κs = search rules
 
-cast-get3 : tie.Need-overflow-cast-get3
-cast-get3 c = search rules
+overflow_cast-at : tie.Need-overflow_cast-at
+overflow_cast-at c = search rules
 
-get3-requires-2 : tie.Need-get3-requires-2
-get3-requires-2 c κs = search rules
+get3-under-requires : tie.Need-get3-under-requires
+get3-under-requires c κs = search rules
 
-cast-write : tie.Need-overflow-cast-write
-cast-write c = search rules
+overflow_cast-at-2 : tie.Need-overflow_cast-at-2
+overflow_cast-at-2 c = search rules
 
 write-requires : tie.Need-write-requires
 write-requires c κs = search rules
@@ -31,22 +31,22 @@ write-requires c κs = search rules
 write-requires-2 : tie.Need-write-requires-2
 write-requires-2 c κs = search rules
 
-same_length : tie.Need-same-length
-same_length c = search rules
+shape_of-w : tie.Need-shape_of-w
+shape_of-w c = search rules
 
 returns : tie.Need-returns
 returns c =
-    let s = c.before.before in
-    let o = s.before.before.before.before in
-    let under = o.before.before in
-    let systems = under.before.before in
-    let top = systems.before.before in
-    let at = top.before.before in
-    let a = at.before.before.before.args in
+    let s = c in
+    let o = s in
+    let under = o in
+    let systems = under in
+    let top = systems in
+    let at = top in
+    let a = at.args in
     let own = o.write.ensures.0 in
-    let control = s.write2.ensures.0 in (
+    let control = s.write-2.ensures.0 in (
       rewritten (view a.w.now) a.end a.p a.q a.t
-          at.get0.ensures top.get2.ensures systems.get3.ensures under.get32.ensures own.0 control.0,
+          at.get0-at.ensures top.get2-top.ensures systems.get3-systems.ensures under.get3-under.ensures own.0 control.0,
       control.1 ∙ own.1,
     )
 
@@ -54,13 +54,13 @@ pub resize_spec : {M : Type 1} → statement M
 resize_spec =
     tie.close
     (tie.spec
-    get0-requires
-    get2-requires
-    get3-requires
-    cast-get3
-    get3-requires-2
-    cast-write
+    get0-at-requires
+    get2-top-requires
+    get3-systems-requires
+    overflow_cast-at
+    get3-under-requires
+    overflow_cast-at-2
     write-requires
     write-requires-2
-    same_length
+    shape_of-w
     returns)

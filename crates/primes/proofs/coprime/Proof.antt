@@ -12,24 +12,24 @@ use Rattle.primes.specs.Divisors.{Common}
 use Rattle.primes.proofs.coprime.Statement.{statement}
 use Rattle.primes.proofs.coprime.Tie as tie
 
-abbrev invariant_loop : tie.invariant_loop
-invariant_loop a b x₀ y₀ x y = (1 ≤ x) × ((e : ℕ) → ((e ∣ x) × (e ∣ y)) ↔ ((e ∣ a) × (e ∣ b)))
+abbrev invariant-loop-y : tie.invariant-loop-y
+invariant-loop-y a b x₀ y₀ x y = (1 ≤ x) × ((e : ℕ) → ((e ∣ x) × (e ∣ y)) ↔ ((e ∣ a) × (e ∣ b)))
 
-abbrev decreases_loop : tie.decreases_loop
-decreases_loop a b x₀ y₀ x y = y
+abbrev decreases-loop-y : tie.decreases-loop-y
+decreases-loop-y a b x₀ y₀ x y = y
 
-loop-holds : tie.Need-loop-init invariant_loop decreases_loop
-loop-holds c = (c.requires, λ e. (λ h. h, λ h. h))
+loop-y-init : tie.Need-loop-y-init invariant-loop-y decreases-loop-y
+loop-y-init c = (c.requires, λ e. (λ h. h, λ h. h))
 
-rem-r : tie.Need-nonzero-rem-r invariant_loop decreases_loop
-rem-r c = search rules
+nonzero_rem-r : tie.Need-nonzero_rem-r invariant-loop-y decreases-loop-y
+nonzero_rem-r c = search rules
 
-loop-less : tie.Need-loop-smaller invariant_loop decreases_loop
-loop-less c = mod-lt _ (search rules)
+loop-y-smaller : tie.Need-loop-y-smaller invariant-loop-y decreases-loop-y
+loop-y-smaller c = mod-lt _ (search rules)
 
-loop-again : tie.Need-loop-preserved invariant_loop decreases_loop
-loop-again c =
-    let inv = c.before.loop.invariant.1 in
+loop-y-preserved : tie.Need-loop-y-preserved invariant-loop-y decreases-loop-y
+loop-y-preserved c =
+    let inv = c.loop-y.invariant.1 in
     (search rules, λ e. (λ h. (inv e).0 ((dvd-mod_iff e h.0).0 h.1, h.0), λ h. let k = (inv e).1 h in (k.1, (dvd-mod_iff e k.1).1 k.0)))
 
 -- what the last divisor tells
@@ -39,10 +39,10 @@ told a b x y h z inv = elim (ℕ_discrete x 1) [
   | no n ↦ rw (ne_eqb x 1 n) (let k = (inv x).0 (dvd_refl x, rw z (dvd-zero x)) in (x, omega arith, k.0, k.1))
 ]
 
-returns : tie.Need-returns invariant_loop decreases_loop
+returns : tie.Need-returns invariant-loop-y decreases-loop-y
 returns c =
-    let n = c.before in
-    told n.before.args.a n.before.args.b n.loop.x n.loop.y n.loop.invariant.0 (omega arith) n.loop.invariant.1
+    let n = c in
+    told n.args.a n.args.b n.loop-y.x n.loop-y.y n.loop-y.invariant.0 (omega arith) n.loop-y.invariant.1
 
 pub coprime_spec : {M : Type 1} → statement M
-coprime_spec = tie.close (tie.spec invariant_loop decreases_loop loop-holds rem-r loop-less loop-again returns)
+coprime_spec = tie.close (tie.spec invariant-loop-y decreases-loop-y loop-y-init nonzero_rem-r loop-y-smaller loop-y-preserved returns)

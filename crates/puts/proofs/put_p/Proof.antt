@@ -19,18 +19,18 @@ use Rattle.puts.proofs.put_p.Tie as tie
 -- ── the places, and the ways back from one to another ──
 -- The open branch is read; f was looked for; it was not found, and its place is known.
 abbrev Reading : Type 0
-Reading = tie.After-open-branch
+Reading = tie.After-open_branch-b
 
 abbrev start : Reading → tie.Start
-start r = r.before.before.before.before.before
+start r = r.before.before.before.before
 
 abbrev from_contains : tie.After-contains → Reading
-from_contains c = c.before.before.before
+from_contains c = c.before.before
 
-abbrev else_of : tie.After-skip → tie.Else2
-else_of c = c.before.before.before
+abbrev else_of : tie.After-skip-to → tie.Else-contains
+else_of c = c.before.before
 
-abbrev from_place : tie.After-skip → Reading
+abbrev from_place : tie.After-skip-to → Reading
 from_place c = from_contains (else_of c).before
 
 -- ── what is read ──
@@ -41,7 +41,7 @@ abbrev f : Reading → List ℕ
 f r = (start r).args.f.now
 
 abbrev o : Reading → Open
-o r = r.open-branch.result
+o r = r.open_branch-b.result
 
 -- ── what is known ──
 abbrev Entry : Reading → Stored → List Stored → List Stored → Type 0
@@ -49,24 +49,24 @@ Entry r b bs ss = HeldIn (w r) (with_open b bs ss)
 
 module _ {b : Stored} {bs ss : List Stored} where
   open_is : (r : Reading) → Entry r b bs ss → o r ≡ open_of b bs
-  open_is r H = r.open-branch.ensures b bs ss H
+  open_is r H = r.open_branch-b.ensures b bs ss H
 
-  found_is : (c : tie.After-contains) → Entry (from_contains c) b bs ss → member (f (from_contains c)) b.P ≡ c.contains.result
-  found_is c H = let r = from_contains c in sym (c.contains.ensures ∙ ap (member (f r)) (all_p H (open_is r H)))
+  found_is : (c : tie.After-contains) → Entry (from_contains c.before.before.before) b bs ss → member (f (from_contains c.before.before.before)) b.P ≡ c.contains.result
+  found_is c H = let r = from_contains c.before.before.before in sym (c.contains.ensures ∙ ap (member (f r)) (all_p H (open_is r H)))
 
   -- f goes in behind P.
-  put : (c : tie.After-skip) → let r = from_place c in
-      Entry r b bs ss → PutAt (w r) c.skip.result (f r) ((o r).p + 1) (o r).q (o r).t (put_into_p (f r) b) bs ss
+  put : (c : tie.After-skip-to) → let r = from_place c in
+      Entry r b bs ss → PutAt (w r) c.skip-to.result (f r) ((o r).p + 1) (o r).q (o r).t (put_into_p (f r) b) bs ss
   put c H =
       let r = from_place c in
-      let new : put_p (f r) b.P ≡ b.P ++ (f r ∷ []) = put_p_new _ _ r.before.before.if1.left (found_is (else_of c).before H ∙ (else_of c).if2.false) in
+      let new : put_p (f r) b.P ≡ b.P ++ (f r ∷ []) = put_p_new _ _ r.if-f-eq0.left (found_is (else_of c).before H ∙ (else_of c).if-contains.false) in
       record {
         b = b;
         held = H;
         xs = b.P;
         ys = b.Q ++ b.T;
         adds = more_p (f r) b new;
-        there = c.skip.ensures ∙ end_p H (open_is r H);
+        there = c.skip-to.ensures ∙ end_p H (open_is r H);
         counts = counts_p (f r) b new (counts_are H (open_is r H));
       }
 
@@ -75,56 +75,56 @@ opened : (r : Reading) → Entry r (start r).requires.0.0 (start r).requires.0.1
 opened r = (start r).requires.0.3
 
 -- ── the needs ──
-returns : tie.Need-returns
-returns c = let s = c.before.before.before in (λ b bs ss H. leaves_same H _ (kept_p s.args.f.now b (put_p_zero _ _ c.if1.true)), refl)
+returns-then-f-eq0 : tie.Need-returns-then-f-eq0
+returns-then-f-eq0 c = let s = c in (λ b bs ss H. leaves_same H _ (kept_p s.args.f.now b (put_p_zero _ _ c.if-f-eq0.true)), refl)
 
-open-branch-requires : tie.Need-open-branch-requires
-open-branch-requires c κs = search rules
+open_branch-b-requires : tie.Need-open_branch-b-requires
+open_branch-b-requires c κs = search rules
 
-cast-contains : tie.Need-overflow-cast-contains
-cast-contains c = search rules
+overflow_cast-b : tie.Need-overflow_cast-b
+overflow_cast-b c = search rules
 
 contains-requires : tie.Need-contains-requires
-contains-requires c κs = let r = c.before.before in (inside_room (w r) (end_p_inside (opened r) (open_is r (opened r))), (start r).requires.1)
+contains-requires c κs = let r = c in (inside_room (w r.before) (end_p_inside (opened r.before) (open_is r (opened r.before))), (start r.before).requires.1)
 
-same_length : tie.Need-same-length
-same_length c = search rules
+shape_of-w-then-contains : tie.Need-shape_of-w-then-contains
+shape_of-w-then-contains c = search rules
 
-returns-2 : tie.Need-returns-2
-returns-2 c = let r = from_contains c.before in (λ b bs ss H. leaves_same H _ (kept_p (f r) b (put_p_found (f r) _ (found_is c.before H ∙ c.if2.true))), refl)
+returns-then-contains : tie.Need-returns-then-contains
+returns-then-contains c = let r = from_contains c.before in (λ b bs ss H. leaves_same H _ (kept_p (f r) b (put_p_found (f r) _ (found_is c.before H ∙ c.if-contains.true))), refl)
 
-cast-skip : tie.Need-overflow-cast-skip
-cast-skip c = search rules
+overflow_cast-b-2 : tie.Need-overflow_cast-b-2
+overflow_cast-b-2 c = search rules
 
-skip-requires : tie.Need-skip-requires
-skip-requires c κs = let r = from_contains c.before.before.before in inside_room (w r) (end_p_inside (opened r) (open_is r (opened r)))
+skip-to-requires : tie.Need-skip-to-requires
+skip-to-requires c κs = let r = from_contains c.before.before in inside_room (w r) (end_p_inside (opened r) (open_is r (opened r)))
 
-add-put-at : tie.Need-overflow-add-put-at
-add-put-at c = let r = from_place c.before.before in (counts_fit (opened r) (counts_are (opened r) (open_is r (opened r)))).0
+overflow_add-b : tie.Need-overflow_add-b
+overflow_add-b c = let r = from_place c.before.before in (counts_fit (opened r) (counts_are (opened r) (open_is r (opened r)))).0
 
-put-at-requires : tie.Need-put-at-requires
-put-at-requires c κs = let k = c.before.before in let r = from_place k in ((start r).pre.1, (_, _, _, put k (opened r)))
+put_at-requires : tie.Need-put_at-requires
+put_at-requires c κs = let k = c in let r = from_place k.before.before in ((start r).requires.1, (_, _, _, put k (opened r)))
 
-same-length-2 : tie.Need-same-length-2
-same-length-2 c = search rules
+shape_of-w : tie.Need-shape_of-w
+shape_of-w c = search rules
 
-returns-3 : tie.Need-returns-3
+returns : tie.Need-returns
 unfolding put
-returns-3 c = let k = c.before.before in (λ b bs ss H. k.put-at.ensures.0 _ _ _ (put k.before.before.before H), k.put-at.ensures.1)
+returns c = let k = c in (λ b bs ss H. k.put_at.ensures.0 _ _ _ (put k.before.before.before H), k.put_at.ensures.1)
 
 pub put_p_spec : {M : Type 1} → statement M
 put_p_spec =
     tie.close
     (tie.spec
-    returns
-    open-branch-requires
-    cast-contains
+    returns-then-f-eq0
+    open_branch-b-requires
+    overflow_cast-b
     contains-requires
-    same_length
-    returns-2
-    cast-skip
-    skip-requires
-    add-put-at
-    put-at-requires
-    same-length-2
-    returns-3)
+    shape_of-w-then-contains
+    returns-then-contains
+    overflow_cast-b-2
+    skip-to-requires
+    overflow_add-b
+    put_at-requires
+    shape_of-w
+    returns)

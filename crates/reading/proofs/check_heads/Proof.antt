@@ -13,127 +13,127 @@ use Rattle.checking.proofs.CheckLaws.{fits_word}
 use Rattle.reading.proofs.check_heads.Statement.{statement}
 use Rattle.reading.proofs.check_heads.Tie as tie
 
-abbrev invariant_loop : tie.invariant_loop
-invariant_loop table p n from first at₀ i₀ at i = Reached (heads_chain table p n) tt at i (checked (read_heads table p n (records table) from first))
+abbrev invariant-loop-j : tie.invariant-loop-j
+invariant-loop-j table p n from first at₀ i₀ at i = Reached (heads_chain table p n) tt at i (checked (read_heads table p n (records table) from first))
 
-abbrev decreases_loop : tie.decreases_loop
-decreases_loop table p n from first at₀ i₀ at i = records table - at
+abbrev decreases-loop-j : tie.decreases-loop-j
+decreases-loop-j table p n from first at₀ i₀ at i = records table - at
 
 -- ── the places, and the ways back from one to another ──
 -- The index at the loop's head is followed.
 abbrev Followed : Type 0
-Followed = tie.After-follow invariant_loop decreases_loop
+Followed = tie.After-follow invariant-loop-j decreases-loop-j
 
-abbrev entry : Followed → tie.Start invariant_loop decreases_loop
+abbrev entry : Followed → tie.Start invariant-loop-j decreases-loop-j
 entry c = c.before.before.before
 
 -- It leads to record j, and the head there is checked.
 abbrev Found : Type 0
-Found = tie.After-j invariant_loop decreases_loop
+Found = tie.In-To-2 invariant-loop-j decreases-loop-j
 
 abbrev followed : Found → Followed
 followed c = c.before.before
 
-abbrev found : tie.After-check-head invariant_loop decreases_loop → Found
+abbrev found : tie.After-check_head invariant-loop-j decreases-loop-j → Found
 found c = c.before.before
 
 -- It is accepted.
-abbrev found_of : tie.After-enum-told3 invariant_loop decreases_loop → Found
+abbrev found_of : tie.In_default invariant-loop-j decreases-loop-j → Found
 found_of c = found c.before.before
 
 -- ── what is known there ──
 abbrev j : Found → ℕ
-j c = c.j.given.0.0
+j c = c.j-1.given.0.0
 
 -- The index leads to record j.
-leads_on : (c : Found) → let f = followed c in next (follow (entry f).args.table.now f.before.loop.at f.before.loop.i) ≡ To (j c)
-leads_on c = sym (followed c).follow.ensures ∙ c.j.given.1
+leads_on : (c : Found) → let f = followed c in next (follow (entry f).args.table.now f.loop-j.at f.loop-j.i) ≡ To (j c)
+leads_on c = sym (followed c).follow.ensures ∙ c.j-1.given.1
 
-inside : (c : Found) → ((followed c).before.loop.at < j c) × (j c < records (entry (followed c)).args.table.now)
+inside : (c : Found) → ((followed c).loop-j.at < j c) × (j c < records (entry (followed c)).args.table.now)
 inside c = next_inside _ _ _ _ (leads_on c)
 
 -- ── the needs ──
-loop-holds : tie.Need-loop-init invariant_loop decreases_loop
-loop-holds c =
-    let a = c.before.args in
-    reached_first (heads_chain a.table.now a.p a.n) tt a.from a.first c.before.requires.1
+loop-j-init : tie.Need-loop-j-init invariant-loop-j decreases-loop-j
+loop-j-init c =
+    let a = c.args in
+    reached_first (heads_chain a.table.now a.p a.n) tt a.from a.first c.requires.1
 
-follow-requires : tie.Need-follow-requires invariant_loop decreases_loop
+follow-requires : tie.Need-follow-requires invariant-loop-j decreases-loop-j
 follow-requires c κs = search rules
 
-enum_told : tie.Need-enum-told invariant_loop decreases_loop
-enum_told c = search rules
+enum_told-1 : tie.Need-enum_told-1 invariant-loop-j decreases-loop-j
+enum_told-1 c = search rules
 
-returns : tie.Need-returns invariant_loop decreases_loop
-returns c =
-    let f = c.before.before in
+returns-in-End : tie.Need-returns-in-End invariant-loop-j decreases-loop-j
+returns-in-End c =
+    let f = c in
+    let a = (entry f.before.before).args in
+    reached_end (heads_chain a.table.now a.p a.n) f.loop-j.invariant (sym f.follow.ensures ∙ c.enum_told-1.given.1)
+
+enum_told-in-Astray : tie.Need-enum_told-in-Astray invariant-loop-j decreases-loop-j
+enum_told-in-Astray c = search rules
+
+overflow_cast-result : tie.Need-overflow_cast-result invariant-loop-j decreases-loop-j
+overflow_cast-result c = let f = c in fits_word (entry f.before.before).requires.0 f.loop-j.invariant.enough.inside
+
+returns-in-Astray : tie.Need-returns-in-Astray invariant-loop-j decreases-loop-j
+returns-in-Astray c =
+    let f = c in
+    let a = (entry f.before.before).args in
+    reached_astray (heads_chain a.table.now a.p a.n) f.loop-j.invariant (sym f.follow.ensures ∙ c.enum_told-in-Astray-1.given.1)
+
+enum_known-j : tie.Need-enum_known-j invariant-loop-j decreases-loop-j
+enum_known-j c = search rules
+
+check_head-requires : tie.Need-check_head-requires invariant-loop-j decreases-loop-j
+check_head-requires c κs = ((entry (followed c.before)).requires.0, (inside c.before).1)
+
+enum_known-why : tie.Need-enum_known-why invariant-loop-j decreases-loop-j
+enum_known-why c = search rules
+
+returns-in-Refused : tie.Need-returns-in-Refused invariant-loop-j decreases-loop-j
+returns-in-Refused c =
+    let k = c in
+    let f = followed (found k.before.before.before) in
     let a = (entry f).args in
-    reached_end (heads_chain a.table.now a.p a.n) f.before.loop.invariant (sym f.follow.ensures ∙ c.enum_told.given.1)
+    reached_refused (heads_chain a.table.now a.p a.n) f.loop-j.invariant (leads_on (found k.before.before.before))
+    (sym k.check_head.ensures ∙ c.why-1.given.1)
 
-enum-told-2 : tie.Need-enum-told-2 invariant_loop decreases_loop
-enum-told-2 c = search rules
+enum_told-in_default : tie.Need-enum_told-in_default invariant-loop-j decreases-loop-j
+enum_told-in_default c = search rules
 
-cast-t13 : tie.Need-overflow-cast-t13 invariant_loop decreases_loop
-cast-t13 c = let f = c.before.before in fits_word (entry f).requires.0 f.before.loop.invariant.enough.inside
+word-i-requires : tie.Need-word-i-requires invariant-loop-j decreases-loop-j
+word-i-requires c κs = ((inside (found_of c)).1, omega arith)
 
-returns-2 : tie.Need-returns-2 invariant_loop decreases_loop
-returns-2 c =
-    let f = c.before.before in
+loop-j-smaller : tie.Need-loop-j-smaller invariant-loop-j decreases-loop-j
+loop-j-smaller c = let h = inside (found_of c.before) in omega (arith, h.0, h.1)
+
+loop-j-preserved : tie.Need-loop-j-preserved invariant-loop-j decreases-loop-j
+loop-j-preserved c =
+    let k = c in
+    let f = followed (found k.before.before.before) in
     let a = (entry f).args in
-    reached_astray (heads_chain a.table.now a.p a.n) f.before.loop.invariant (sym f.follow.ensures ∙ c.enum-told2.given.1)
-
-enum-known-j : tie.Need-enum-known-j invariant_loop decreases_loop
-enum-known-j c = search rules
-
-check-head-requires : tie.Need-check-head-requires invariant_loop decreases_loop
-check-head-requires c κs = ((entry (followed c.before)).pre.0, (inside c.before).1)
-
-enum-known-why : tie.Need-enum-known-why invariant_loop decreases_loop
-enum-known-why c = search rules
-
-returns-3 : tie.Need-returns-3 invariant_loop decreases_loop
-returns-3 c =
-    let k = c.before.before.before in
-    let f = followed (found k) in
-    let a = (entry f).args in
-    reached_refused (heads_chain a.table.now a.p a.n) f.before.loop.inv (leads_on (found k))
-    (sym k.check-head.ensures ∙ c.before.why.given.1)
-
-enum-told-3 : tie.Need-enum-told-3 invariant_loop decreases_loop
-enum-told-3 c = search rules
-
-word-requires : tie.Need-word-requires invariant_loop decreases_loop
-word-requires c κs = ((inside (found_of c)).1, omega arith)
-
-loop-less : tie.Need-loop-smaller invariant_loop decreases_loop
-loop-less c = let h = inside (found_of c.before) in omega (arith, h.0, h.1)
-
-loop-again : tie.Need-loop-preserved invariant_loop decreases_loop
-loop-again c =
-    let k = c.before.before.before in
-    let f = followed (found k) in
-    let a = (entry f).args in
-    let g = checked_good _ (sym k.check-head.ensures ∙ c.before.enum-told3.given.1) in
-    rw c.word.ensures (reached_on (heads_chain a.table.now a.p a.n) f.before.loop.inv (leads_on (found k)) g.1)
+    let g = checked_good _ (sym k.check_head.ensures ∙ c.enum_told-in_default-1.given.1) in
+    rw c.word-i.ensures (reached_on (heads_chain a.table.now a.p a.n) f.loop-j.invariant (leads_on (found k.before.before.before)) g.1)
 
 pub check_heads_spec : {M : Type 1} → statement M
 check_heads_spec =
     tie.close
     (tie.spec
-    invariant_loop
-    decreases_loop
-    loop-holds
+    invariant-loop-j
+    decreases-loop-j
+    loop-j-init
     follow-requires
-    enum_told
-    returns
-    enum-told-2
-    cast-t13
-    returns-2
-    enum-known-j
-    check-head-requires
-    enum-known-why
-    returns-3
-    enum-told-3
-    word-requires
-    loop-less
-    loop-again)
+    enum_told-1
+    returns-in-End
+    enum_told-in-Astray
+    overflow_cast-result
+    returns-in-Astray
+    enum_known-j
+    check_head-requires
+    enum_known-why
+    returns-in-Refused
+    enum_told-in_default
+    word-i-requires
+    loop-j-smaller
+    loop-j-preserved)

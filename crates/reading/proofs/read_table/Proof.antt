@@ -15,115 +15,115 @@ use Rattle.reading.proofs.read_table.Statement.{statement}
 use Rattle.reading.proofs.read_table.Tie as tie
 
 -- ── the places, and the ways back from one to another ──
-abbrev entry : tie.After-check-header → tie.Start
+abbrev entry : tie.After-check_header → tie.Start
 entry c = c.before.before
 
 -- The header is accepted, and P's chain is checked; that is accepted, and Q's is checked.
-abbrev header_checked : tie.After-enum-told → tie.After-check-header
+abbrev header_checked : tie.In_default → tie.After-check_header
 header_checked c = c.before.before
 
-abbrev header_good : tie.After-check-heads → tie.After-enum-told
+abbrev header_good : tie.After-check_heads → tie.In_default
 header_good c = c.before.before.before.before
 
-abbrev PGood : tie.After-check-heads2 → tie.After-enum-told2
+abbrev PGood : tie.After-check_heads-2 → tie.In_default-check_heads
 PGood c = c.before.before
 
-abbrev PChecked : tie.After-enum-told2 → tie.After-check-heads
+abbrev PChecked : tie.In_default-check_heads → tie.After-check_heads
 PChecked c = c.before.before
 
 -- ── what is known there ──
-abbrev table : tie.After-enum-told → List ℕ
+abbrev table : tie.In_default → List ℕ
 table c = (entry (header_checked c)).args.table.now
 
-header : (c : tie.After-enum-told) → checked (read_header (table c) accepted) ≡ Good
-header c = sym (header_checked c).check-header.ensures ∙ c.enum_told.given.1
+header : (c : tie.In_default) → checked (read_header (table c) accepted) ≡ Good
+header c = sym (header_checked c).check_header.ensures ∙ c.enum_told-1.given.1
 
-readable : (c : tie.After-enum-told) → Readable (table c) (word (table c) 0 0) (word (table c) 0 1)
+readable : (c : tie.In_default) → Readable (table c) (word (table c) 0 0) (word (table c) 0 1)
 readable c = header_readable (table c) (header c)
 
 -- ── the needs ──
-check-header-requires : tie.Need-check-header-requires
-check-header-requires c κs = search rules
+check_header-requires : tie.Need-check_header-requires
+check_header-requires c κs = search rules
 
-enum-known-why : tie.Need-enum-known-why
-enum-known-why c = search rules
+enum_known-why : tie.Need-enum_known-why
+enum_known-why c = search rules
+
+returns-in-Refused : tie.Need-returns-in-Refused
+returns-in-Refused c = let h = c in table_refused (entry h.before.before.before).args.table.now (sym h.check_header.ensures ∙ c.why-1.given.1)
+
+enum_told-1 : tie.Need-enum_told-1
+enum_told-1 c = search rules
+
+bounds-table-0 : tie.Need-bounds-table-0
+bounds-table-0 c = omega (arith, readable_words (readable c.before))
+
+bounds-table-1 : tie.Need-bounds-table-1
+bounds-table-1 c = omega (arith, readable_words (readable c.before.before))
+
+bounds-table-2 : tie.Need-bounds-table-2
+bounds-table-2 c = omega (arith, readable_words (readable c.before.before.before))
+
+check_heads-requires : tie.Need-check_heads-requires
+check_heads-requires c κs = let r = readable c.before.before.before in (r, omega (arith, readable_words r))
+
+enum_known-why-in-Refused-check_heads : tie.Need-enum_known-why-in-Refused-check_heads
+enum_known-why-in-Refused-check_heads c = search rules
+
+returns-in-Refused-check_heads : tie.Need-returns-in-Refused-check_heads
+returns-in-Refused-check_heads c =
+    let k = c in
+    let h = header_good k.before.before.before in
+    table_refused_p (table h) (header h) (sym k.check_heads.ensures ∙ c.why-in-Refused-check_heads-1.given.1)
+
+enum_told-in_default-check_heads : tie.Need-enum_told-in_default-check_heads
+enum_told-in_default-check_heads c = search rules
+
+bounds-table-3 : tie.Need-bounds-table-3
+bounds-table-3 c = omega (arith, readable_words (readable (header_good (PChecked c.before))))
+
+check_heads-requires-2 : tie.Need-check_heads-requires-2
+check_heads-requires-2 c κs = let r = readable (header_good (PChecked c.before)) in (r, omega (arith, readable_words r))
+
+enum_known-why-in-Refused-check_heads-2 : tie.Need-enum_known-why-in-Refused-check_heads-2
+enum_known-why-in-Refused-check_heads-2 c = search rules
+
+returns-in-Refused-check_heads-2 : tie.Need-returns-in-Refused-check_heads-2
+returns-in-Refused-check_heads-2 c =
+    let q = c in
+    let g = PGood q.before.before.before in
+    let k = PChecked g in
+    let h = header_good k in
+    table_refused_q (table h) (header h) (sym k.check_heads.ensures ∙ g.enum_told-in_default-check_heads-1.given.1) (sym q.check_heads-2.ensures ∙ c.why-in-Refused-check_heads-2-1.given.1)
+
+enum_told-in_default-check_heads-2 : tie.Need-enum_told-in_default-check_heads-2
+enum_told-in_default-check_heads-2 c = search rules
 
 returns : tie.Need-returns
-returns c = let h = c.before.before.before in table_refused (entry h).args.table.now (sym h.check-header.ensures ∙ c.before.why.given.1)
-
-enum_told : tie.Need-enum-told
-enum_told c = search rules
-
-shared-slice-read-p : tie.Need-shared-slice-read-p
-shared-slice-read-p c = omega (arith, readable_words (readable c.before))
-
-shared-slice-read-n : tie.Need-shared-slice-read-n
-shared-slice-read-n c = omega (arith, readable_words (readable c.before.before))
-
-shared-slice-read-check-heads : tie.Need-shared-slice-read-check-heads
-shared-slice-read-check-heads c = omega (arith, readable_words (readable c.before.before.before))
-
-check-heads-requires : tie.Need-check-heads-requires
-check-heads-requires c κs = let r = readable c.before.before.before in (r, omega (arith, readable_words r))
-
-enum-known-why-2 : tie.Need-enum-known-why-2
-enum-known-why-2 c = search rules
-
-returns-2 : tie.Need-returns-2
-returns-2 c =
-    let k = c.before.before.before in
-    let h = header_good k in
-    table_refused_p (table h) (header h) (sym k.check-heads.ensures ∙ c.before.why2.given.1)
-
-enum-told-2 : tie.Need-enum-told-2
-enum-told-2 c = search rules
-
-shared-slice-read-check-heads-2 : tie.Need-shared-slice-read-check-heads-2
-shared-slice-read-check-heads-2 c = omega (arith, readable_words (readable (header_good (PChecked c.before))))
-
-check-heads-requires-2 : tie.Need-check-heads-requires-2
-check-heads-requires-2 c κs = let r = readable (header_good (PChecked c.before)) in (r, omega (arith, readable_words r))
-
-enum-known-why-3 : tie.Need-enum-known-why-3
-enum-known-why-3 c = search rules
-
-returns-3 : tie.Need-returns-3
-returns-3 c =
-    let q = c.before.before.before in
-    let g = PGood q in
+returns c =
+    let q = c in
+    let g = PGood q.before.before in
     let k = PChecked g in
     let h = header_good k in
-    table_refused_q (table h) (header h) (sym k.check-heads.ensures ∙ g.enum-told2.given.1) (sym q.check-heads2.ensures ∙ c.before.why3.given.1)
-
-enum-told-3 : tie.Need-enum-told-3
-enum-told-3 c = search rules
-
-returns-4 : tie.Need-returns-4
-returns-4 c =
-    let q = c.before.before in
-    let g = PGood q in
-    let k = PChecked g in
-    let h = header_good k in
-    table_accepted (table h) (header h) (sym k.check-heads.ensures ∙ g.enum-told2.given.1) (sym q.check-heads2.ensures ∙ c.enum-told3.given.1)
+    table_accepted (table h) (header h) (sym k.check_heads.ensures ∙ g.enum_told-in_default-check_heads-1.given.1) (sym q.check_heads-2.ensures ∙ c.enum_told-in_default-check_heads-2-1.given.1)
 
 pub read_table_spec : {M : Type 1} → statement M
 read_table_spec =
     tie.close
     (tie.spec
-    check-header-requires
-    enum-known-why
-    returns
-    enum_told
-    shared-slice-read-p
-    shared-slice-read-n
-    shared-slice-read-check-heads
-    check-heads-requires
-    enum-known-why-2
-    returns-2
-    enum-told-2
-    shared-slice-read-check-heads-2
-    check-heads-requires-2
-    enum-known-why-3
-    returns-3
-    enum-told-3
-    returns-4)
+    check_header-requires
+    enum_known-why
+    returns-in-Refused
+    enum_told-1
+    bounds-table-0
+    bounds-table-1
+    bounds-table-2
+    check_heads-requires
+    enum_known-why-in-Refused-check_heads
+    returns-in-Refused-check_heads
+    enum_told-in_default-check_heads
+    bounds-table-3
+    check_heads-requires-2
+    enum_known-why-in-Refused-check_heads-2
+    returns-in-Refused-check_heads-2
+    enum_told-in_default-check_heads-2
+    returns)

@@ -6,17 +6,17 @@ use Rattle.records.proofs.Rows.{getD_view}
 use Rattle.records.proofs.get0.Statement.{statement}
 use Rattle.records.proofs.get0.Tie as tie
 
-mul-result : tie.Need-overflow-mul-result
-mul-result c = search rules
+overflow_mul-result : tie.Need-overflow_mul-result
+overflow_mul-result c = search rules
 
-mul-result-2 : tie.Need-overflow-mul-result-2
-mul-result-2 c = search rules
+offset_bounds-w-i : tie.Need-offset_bounds-w-i
+offset_bounds-w-i c = search rules
 
-shared-slice-read-result : tie.Need-shared-slice-read-result
-shared-slice-read-result c = search rules
+bounds-w-i : tie.Need-bounds-w-i
+bounds-w-i c = search rules
 
 returns : tie.Need-returns
-returns c = sym (ap (λ (r : Rec). r.w0) (getD_view c.before.args.w.now c.before.args.i c.before.requires))
+returns c = sym (ap (λ (r : Rec). r.w0) (getD_view c.args.w.now c.args.i c.requires))
 
 pub get0_spec : {M : Type 1} → statement M
-get0_spec = tie.close (tie.spec mul-result mul-result-2 shared-slice-read-result returns)
+get0_spec = tie.close (tie.spec overflow_mul-result offset_bounds-w-i bounds-w-i returns)

@@ -6,21 +6,21 @@ use Rattle.records.proofs.Rows.{getD_view}
 use Rattle.records.proofs.get3.Statement.{statement}
 use Rattle.records.proofs.get3.Tie as tie
 
-mul-result : tie.Need-overflow-mul-result
-mul-result c = search rules
+overflow_mul-result : tie.Need-overflow_mul-result
+overflow_mul-result c = search rules
 
-add-result : tie.Need-overflow-add-result
-add-result c = search rules
+overflow_add-result : tie.Need-overflow_add-result
+overflow_add-result c = search rules
 
-mul-result-2 : tie.Need-overflow-mul-result-2
-mul-result-2 c = search rules
+offset_bounds-w-i : tie.Need-offset_bounds-w-i
+offset_bounds-w-i c = search rules
 
-shared-slice-read-result : tie.Need-shared-slice-read-result
-shared-slice-read-result c = search rules
+bounds-w-i : tie.Need-bounds-w-i
+bounds-w-i c = search rules
 
 returns : tie.Need-returns
-returns c = sym (ap (λ (r : Rec). r.w3) (getD_view c.before.args.w.now c.before.args.i c.before.requires))
+returns c = sym (ap (λ (r : Rec). r.w3) (getD_view c.args.w.now c.args.i c.requires))
 
 pub get3_spec : {M : Type 1} → statement M
 get3_spec =
-    tie.close (tie.spec mul-result add-result mul-result-2 shared-slice-read-result returns)
+    tie.close (tie.spec overflow_mul-result overflow_add-result offset_bounds-w-i bounds-w-i returns)

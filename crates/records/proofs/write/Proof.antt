@@ -6,44 +6,44 @@ use borrow.Author.Rules.{rules}
 use Rattle.records.proofs.write.Statement.{statement}
 use Rattle.records.proofs.write.Tie as tie
 
-mul-k : tie.Need-overflow-mul-k
-mul-k c = search rules
+overflow_mul-k : tie.Need-overflow_mul-k
+overflow_mul-k c = search rules
 
-mul-w : tie.Need-overflow-mul-w
-mul-w c = search rules
+offset_bounds-w-k : tie.Need-offset_bounds-w-k
+offset_bounds-w-k c = search rules
 
-slice-write-w : tie.Need-slice-write-w
-slice-write-w c = search rules
+bounds-w-k : tie.Need-bounds-w-k
+bounds-w-k c = search rules
 
-add-w : tie.Need-overflow-add-w
-add-w c = search rules
+overflow_add-w : tie.Need-overflow_add-w
+overflow_add-w c = search rules
 
-mul-w-2 : tie.Need-overflow-mul-w-2
-mul-w-2 c = search rules
+offset_bounds-w-k-2 : tie.Need-offset_bounds-w-k-2
+offset_bounds-w-k-2 c = search rules
 
-slice-write-w-2 : tie.Need-slice-write-w-2
-slice-write-w-2 c = simp length-set (omega arith)
+bounds-w-k-2 : tie.Need-bounds-w-k-2
+bounds-w-k-2 c = simp length-set (omega arith)
 
-add-w-2 : tie.Need-overflow-add-w-2
-add-w-2 c = search rules
+overflow_add-w-2 : tie.Need-overflow_add-w-2
+overflow_add-w-2 c = search rules
 
-mul-w-3 : tie.Need-overflow-mul-w-3
-mul-w-3 c = search rules
+offset_bounds-w-k-3 : tie.Need-offset_bounds-w-k-3
+offset_bounds-w-k-3 c = search rules
 
-slice-write-w-3 : tie.Need-slice-write-w-3
-slice-write-w-3 c = simp length-set (omega arith)
+bounds-w-k-3 : tie.Need-bounds-w-k-3
+bounds-w-k-3 c = simp length-set (omega arith)
 
-add-w-3 : tie.Need-overflow-add-w-3
-add-w-3 c = search rules
+overflow_add-w-3 : tie.Need-overflow_add-w-3
+overflow_add-w-3 c = search rules
 
-mul-w-4 : tie.Need-overflow-mul-w-4
-mul-w-4 c = search rules
+offset_bounds-w-k-4 : tie.Need-offset_bounds-w-k-4
+offset_bounds-w-k-4 c = search rules
 
-slice-write-w-4 : tie.Need-slice-write-w-4
-slice-write-w-4 c = simp length-set (omega arith)
+bounds-w-k-4 : tie.Need-bounds-w-k-4
+bounds-w-k-4 c = simp length-set (omega arith)
 
-same_length : tie.Need-same-length
-same_length c = simp length-set
+shape_of-w : tie.Need-shape_of-w
+shape_of-w c = simp length-set
 
 returns : tie.Need-returns
 returns c = record_written_store c.args.w.now c.args.i c.args.a c.args.b c.args.c c.args.d c.requires
@@ -52,17 +52,17 @@ pub write_spec : {M : Type 1} → statement M
 write_spec =
     tie.close
     (tie.spec
-    mul-k
-    mul-w
-    slice-write-w
-    add-w
-    mul-w-2
-    slice-write-w-2
-    add-w-2
-    mul-w-3
-    slice-write-w-3
-    add-w-3
-    mul-w-4
-    slice-write-w-4
-    same_length
+    overflow_mul-k
+    offset_bounds-w-k
+    bounds-w-k
+    overflow_add-w
+    offset_bounds-w-k-2
+    bounds-w-k-2
+    overflow_add-w-2
+    offset_bounds-w-k-3
+    bounds-w-k-3
+    overflow_add-w-3
+    offset_bounds-w-k-4
+    bounds-w-k-4
+    shape_of-w
     returns)

@@ -7,16 +7,16 @@ use Rattle.residues.specs.Residue.{sum}
 use Rattle.residues.proofs.add.Statement.{statement}
 use Rattle.residues.proofs.add.Tie as tie
 
-add-s : tie.Need-overflow-add-s
-add-s c = search rules
+overflow_add-s : tie.Need-overflow_add-s
+overflow_add-s c = search rules
 
-returns : tie.Need-returns
+returns-then-s-p : tie.Need-returns-then-s-p
 unfolding sum
-returns c = sym (mod-eq_of_lt c.if1.true)
+returns-then-s-p c = sym (mod-eq_of_lt c.if-s-p.true)
 
-returns-2 : tie.Need-returns-2
+returns-else-s-p : tie.Need-returns-else-s-p
 unfolding sum
-returns-2 c = sym (mod-eq-sub-mod c.if1.false ∙ mod-eq_of_lt (omega arith))
+returns-else-s-p c = sym (mod-eq-sub-mod c.if-s-p.false ∙ mod-eq_of_lt (omega arith))
 
 pub add_spec : {M : Type 1} → statement M
-add_spec = tie.close (tie.spec add-s returns returns-2)
+add_spec = tie.close (tie.spec overflow_add-s returns-then-s-p returns-else-s-p)

@@ -10,69 +10,69 @@ use Rattle.residues.specs.laws.Power.{pow_one, Halved, halved_even, halved_odd}
 use Rattle.residues.proofs.power.Statement.{statement}
 use Rattle.residues.proofs.power.Tie as tie
 
-abbrev invariant_loop : tie.invariant_loop
-invariant_loop p x e r₀ b₀ k₀ r b k = (1 ≤ k) × (r < p) × (b < p) × (r * b ^ k % p ≡ x ^ e % p)
+abbrev invariant-loop-k : tie.invariant-loop-k
+invariant-loop-k p x e r₀ b₀ k₀ r b k = (1 ≤ k) × (r < p) × (b < p) × (r * b ^ k % p ≡ x ^ e % p)
 
-abbrev decreases_loop : tie.decreases_loop
-decreases_loop p x e r₀ b₀ k₀ r b k = k
+abbrev decreases-loop-k : tie.decreases-loop-k
+decreases-loop-k p x e r₀ b₀ k₀ r b k = k
 
-returns : tie.Need-returns invariant_loop decreases_loop
-returns c =
+returns-then-e-eq0 : tie.Need-returns-then-e-eq0 invariant-loop-k decreases-loop-k
+returns-then-e-eq0 c =
     let p = c.before.args.p in
     let x = c.before.args.x in
-    sym (ap (λ z. x ^ z % p) c.if1.true ∙ ap (λ z. z % p) (pow-zero x) ∙ mod-eq_of_lt (omega arith))
+    sym (ap (λ z. x ^ z % p) c.if-e-eq0.true ∙ ap (λ z. z % p) (pow-zero x) ∙ mod-eq_of_lt (omega arith))
 
-loop-holds : tie.Need-loop-init invariant_loop decreases_loop
-loop-holds c = (omega arith, omega arith, omega arith, ap (λ z. z % c.before.args.p) (one-mul _))
+loop-k-init : tie.Need-loop-k-init invariant-loop-k decreases-loop-k
+loop-k-init c = (omega arith, omega arith, omega arith, ap (λ z. z % c.before.args.p) (one-mul _))
 
-multiply-requires : tie.Need-multiply-requires invariant_loop decreases_loop
-multiply-requires c κs = search rules
+multiply-r-requires : tie.Need-multiply-r-requires invariant-loop-k decreases-loop-k
+multiply-r-requires c κs = search rules
 
-multiply-requires-2 : tie.Need-multiply-requires-2 invariant_loop decreases_loop
-multiply-requires-2 c κs = search rules
+multiply-b-requires : tie.Need-multiply-b-requires invariant-loop-k decreases-loop-k
+multiply-b-requires c κs = search rules
 
 -- where the arms meet
-halved : (c : tie.Joined2 invariant_loop decreases_loop) → let n = c.before.before in Halved n.before.before.args.p n.loop.r n.loop.b n.loop.k c.if2.r
+halved : (c : tie.Joined-k-eq1 invariant-loop-k decreases-loop-k) → let n = c.before.before in Halved n.before.before.args.p n.loop-k.r n.loop-k.b n.loop-k.k c.if-k-eq1.r
 unfolding product
 halved c =
     let n = c.before.before in
     let p = n.before.before.args.p in
     ⊎_elim
-    (λ w. halved_odd p n.loop.r n.loop.b n.loop.k c.if2.r w.0.taken (omega arith) (w.2 ∙ w.1.ensures))
-    (λ w. halved_even p n.loop.r n.loop.b n.loop.k c.if2.r w.0.left n.loop.invariant.1 w.1)
-    c.if2.branch
+    (λ w. halved_odd p n.loop-k.r n.loop-k.b n.loop-k.k c.if-k-eq1.r w.if-k-eq1.true (omega arith) (w.r-is ∙ w.multiply-r.ensures))
+    (λ w. halved_even p n.loop-k.r n.loop-k.b n.loop-k.k c.if-k-eq1.r w.if-k-eq1.false n.loop-k.invariant.1 w.r-is)
+    c.if-k-eq1.branch-raw
 
-loop-less : tie.Need-loop-smaller invariant_loop decreases_loop
-loop-less c = omega arith
+loop-k-smaller : tie.Need-loop-k-smaller invariant-loop-k decreases-loop-k
+loop-k-smaller c = omega arith
 
-loop-again : tie.Need-loop-preserved invariant_loop decreases_loop
+loop-k-preserved : tie.Need-loop-k-preserved invariant-loop-k decreases-loop-k
 unfolding product
-loop-again c =
+loop-k-preserved c =
     let n = c.before.before.before in
     let p = n.before.before.args.p in
-    (omega arith, (halved c.before).0, rw c.multiply2.ensures (mod-lt _ (omega arith)), rw c.multiply2.ensures ((halved c.before).1 ∙ n.loop.invariant.3))
+    (omega arith, (halved c.before).0, rw c.multiply-b.ensures (mod-lt _ (omega arith)), rw c.multiply-b.ensures ((halved c.before).1 ∙ n.loop-k.invariant.3))
 
-multiply-requires-3 : tie.Need-multiply-requires-3 invariant_loop decreases_loop
-multiply-requires-3 c κs = search rules
+multiply-requires : tie.Need-multiply-requires invariant-loop-k decreases-loop-k
+multiply-requires c κs = search rules
 
-returns-2 : tie.Need-returns-2 invariant_loop decreases_loop
+returns : tie.Need-returns invariant-loop-k decreases-loop-k
 unfolding product
-returns-2 c =
-    let loop = c.before.before.loop in
+returns c =
+    let loop = c.before.before.loop-k in
     let k : loop.k ≡ 1 = omega arith in
-    c.multiply3.ensures ∙ ap (λ z. loop.r * z % c.before.before.before.before.args.p) (sym (ap (λ z. loop.b ^ z) k ∙ pow_one loop.b)) ∙ loop.invariant.3
+    c.multiply.ensures ∙ ap (λ z. loop.r * z % c.before.before.before.before.args.p) (sym (ap (λ z. loop.b ^ z) k ∙ pow_one loop.b)) ∙ loop.invariant.3
 
 pub power_spec : {M : Type 1} → statement M
 power_spec =
     tie.close
     (tie.spec
-    invariant_loop
-    decreases_loop
-    returns
-    loop-holds
+    invariant-loop-k
+    decreases-loop-k
+    returns-then-e-eq0
+    loop-k-init
+    multiply-r-requires
+    multiply-b-requires
+    loop-k-smaller
+    loop-k-preserved
     multiply-requires
-    multiply-requires-2
-    loop-less
-    loop-again
-    multiply-requires-3
-    returns-2)
+    returns)

@@ -8,24 +8,24 @@ use Rattle.residues.specs.Residue.{difference}
 use Rattle.residues.proofs.subtract.Statement.{statement}
 use Rattle.residues.proofs.subtract.Tie as tie
 
-returns : tie.Need-returns
+returns-then-b-a : tie.Need-returns-then-b-a
 unfolding difference
-returns c =
+returns-then-b-a c =
     let p = c.before.args.p in
     let a = c.before.args.a in
     let b = c.before.args.b in
     let e : a + (p - b) ≡ a - b + p = omega arith in
     sym (ap (λ z. z % p) e ∙ add-mod_right (a - b) p ∙ mod-eq_of_lt (omega arith))
 
-sub-result : tie.Need-overflow-sub-result
-sub-result c = search rules
+overflow_sub-result-else-b-a : tie.Need-overflow_sub-result-else-b-a
+overflow_sub-result-else-b-a c = search rules
 
-add-result : tie.Need-overflow-add-result
-add-result c = search rules
+overflow_add-result : tie.Need-overflow_add-result
+overflow_add-result c = search rules
 
-returns-2 : tie.Need-returns-2
+returns-else-b-a : tie.Need-returns-else-b-a
 unfolding difference
-returns-2 c = sym (mod-eq_of_lt (omega arith))
+returns-else-b-a c = sym (mod-eq_of_lt (omega arith))
 
 pub subtract_spec : {M : Type 1} → statement M
-subtract_spec = tie.close (tie.spec sub-result add-result returns returns-2)
+subtract_spec = tie.close (tie.spec overflow_sub-result-else-b-a overflow_add-result returns-then-b-a returns-else-b-a)

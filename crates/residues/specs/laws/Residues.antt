@@ -32,8 +32,8 @@ module _ (p : ℕ) (h : 1 ≤ p) where
     add_neg = λ a. native.Mathlib.Fin.val_path (simp residues (ap (λ z. z % p) (add-sub_of_le (le_of_lt a.1)) ∙ mod_self p ∙ sym (zero-mod p)));
     mul_assoc = λ a b c. native.Mathlib.Fin.val_path (simp (residues, mul_assoc));
     mul_comm = λ a b. native.Mathlib.Fin.val_path (ap (λ z. z % p) (mul_comm a.0 b.0));
-    mul-one = λ a. native.Mathlib.Fin.val_path (simp (residues, mul-one) (mod-eq_of_lt a.1));
-    mul-add = λ a b c. native.Mathlib.Fin.val_path (simp (residues, mul-add));
+    mul_one = λ a. native.Mathlib.Fin.val_path (simp (residues, mul-one) (mod-eq_of_lt a.1));
+    mul_add = λ a b c. native.Mathlib.Fin.val_path (simp (residues, mul-add));
   }
 
   pub cast_residue : (n : ℕ) → cast Residues n ≡ residue n

@@ -19,14 +19,14 @@ use Rattle.rounds.proofs.round_apart.Statement.{statement}
 use Rattle.rounds.proofs.round_apart.Tie as tie
 
 abbrev start : tie.After-copy → tie.Start
-start c = c.before.before.before.before.before.before
+start c = c.before.before.before.before.before
 
 -- R, its copy, and what a round leaves of either.
 abbrev R : tie.Start → List ℕ
 R s = take s.args.n s.args.r.now
 
 abbrev A : tie.After-copy → List ℕ
-A c = c.copy.new.1.1.0
+A c = c.copy.new.out
 
 abbrev left : tie.Start → Poly → Bounded
 left s f = bounded_round standard s.args.p s.args.k s.args.d (terms s.args.t.now) f
@@ -34,139 +34,139 @@ left s f = bounded_round standard s.args.p s.args.k s.args.d (terms s.args.t.now
 copy : (c : tie.After-copy) → Written (terms (R (start c))) (start c).args.n (A c)
 copy c =
     let s = start c in
-    copied _ _ s.args.r.now _ (first_written s.args.p s.args.n s.args.r.now s.pre.1.1.1.0.0 s.pre.1.1.1.0.1) (omega arith) _ c.copy.ensures
+    copied _ _ s.args.r.now _ (first_written s.args.p s.args.n s.args.r.now s.requires.1.1.1.0.0 s.requires.1.1.1.0.1) (omega arith) _ c.copy.ensures
 
 -- What `round` formed.
 abbrev formed_from : tie.After-round → tie.After-copy
 formed_from c = c.before.before.before.before.before.before
 
 abbrev Z : tie.After-round → List ℕ
-Z c = c.round.new.1.1.1.1.1.1.0
+Z c = c.round.new.r
 
 answered : (c : tie.After-round) → Forms (left (start (formed_from c)) (terms (R (start (formed_from c))))) c.round.result (Z c)
 answered c = let s = start (formed_from c) in subst (λ f. Forms (left s f) c.round.result (Z c)) (copy (formed_from c)).holds c.round.ensures
 
-abbrev called : tie.After-m → tie.After-round
+abbrev called : tie.In-Words-2 → tie.After-round
 called c = c.before.before.before.before.before.before
 
-answer : (c : tie.After-m) → let s = start (formed_from (called c)) in Answered s.args.p (left s (terms (R s))) c.m.given.0.0 (Z (called c))
+answer : (c : tie.In-Words-2) → let s = start (formed_from (called c)) in Answered s.args.p (left s (terms (R s))) c.m-1.given.0.0 (Z (called c))
 answer c =
     let s = start (formed_from (called c)) in
-    round_answered s.args.p s.pre.0.0 _ _ _ c.m.given.1 s.args.k s.args.d (terms s.args.t.now) (terms (R s)) (answered (called c))
+    round_answered s.args.p s.requires.0.0 _ _ _ c.m-1.given.1 s.args.k s.args.d (terms s.args.t.now) (terms (R s)) (answered (called c))
 
-slice-reshare-prefix-copy : tie.Need-slice-reshare-prefix-copy
-slice-reshare-prefix-copy c = search rules
+slice_bounds-copy-end : tie.Need-slice_bounds-copy-end
+slice_bounds-copy-end c = search rules
 
-slice-aggregate-copy : tie.Need-slice-aggregate-copy
-slice-aggregate-copy c = let s = c.before.before.before.before in sym (length-take-le s.args.n s.args.r.now s.requires.1.1.1.0.0)
+slice_bounds-copy-end-2 : tie.Need-slice_bounds-copy-end-2
+slice_bounds-copy-end-2 c = let s = c in sym (length-take-le s.args.n s.args.r.now s.requires.1.1.1.0.0)
 
-slice-aggregate-copy-2 : tie.Need-slice-aggregate-copy-2
-slice-aggregate-copy-2 c = search rules
+slice_bounds-copy-end-3 : tie.Need-slice_bounds-copy-end-3
+slice_bounds-copy-end-3 c = search rules
 
 copy-requires : tie.Need-copy-requires
 copy-requires c κs = search rules
 
-slice-aggregate-round : tie.Need-slice-aggregate-round
-slice-aggregate-round c = search rules
+slice_bounds-round-end : tie.Need-slice_bounds-round-end
+slice_bounds-round-end c = search rules
 
-slice-aggregate-round-2 : tie.Need-slice-aggregate-round-2
-slice-aggregate-round-2 c = search rules
+slice_bounds-round-end-2 : tie.Need-slice_bounds-round-end-2
+slice_bounds-round-end-2 c = search rules
 
-slice-aggregate-round-3 : tie.Need-slice-aggregate-round-3
-slice-aggregate-round-3 c = search rules
+slice_bounds-round-end-3 : tie.Need-slice_bounds-round-end-3
+slice_bounds-round-end-3 c = search rules
 
-slice-aggregate-round-4 : tie.Need-slice-aggregate-round-4
-slice-aggregate-round-4 c = search rules
+slice_bounds-round-end-4 : tie.Need-slice_bounds-round-end-4
+slice_bounds-round-end-4 c = search rules
 
 round-requires : tie.Need-round-requires
 round-requires c κs =
-    let a = c.before.before.before.before.before in
-    let s = start a in
-    let r = s.pre.1.1.1.0 in
+    let a = c in
+    let s = start a.before.before.before.before.before in
+    let r = s.requires.1.1.1.0 in
     let few = (first_written s.args.p s.args.n s.args.r.now r.0 r.1).1 in (
-      s.pre.0,
+      s.requires.0,
       (
-        s.pre.1.0,
+        s.requires.1.0,
         (
-          s.pre.1.1.0,
+          s.requires.1.1.0,
           (
-            ((copy a).within, written_holds s.args.p _ _ _ (copy a) few r.1.canonical, ap (degree s.args.k) (copy a).holds ∙ r.2),
+            ((copy a.before.before.before.before.before).within, written_holds s.args.p _ _ _ (copy a.before.before.before.before.before) few r.1.canonical, ap (degree s.args.k) (copy a.before.before.before.before.before).holds ∙ r.2),
             (omega (arith, a.copy.auto), omega arith, omega arith, omega arith),
           ),
         ),
       ),
     )
 
-enum-known-m : tie.Need-enum-known-m
-enum-known-m c = c.match.keys1
+enum_known-m : tie.Need-enum_known-m
+enum_known-m c = c.in-Words-1.keys1
 
-array-share-prefix-a : tie.Need-array-share-prefix-a
-array-share-prefix-a c = (answer c.before).inside
+slice_bounds-a-end : tie.Need-slice_bounds-a-end
+slice_bounds-a-end c = (answer c.before).inside
 
-slice-aggregate-copy-3 : tie.Need-slice-aggregate-copy-3
-slice-aggregate-copy-3 c = let m = c.before.before in sym (length-take-le m.m.given.0.0 (Z (called m)) (answer m).inside)
+slice_bounds-copy-end-in-Words : tie.Need-slice_bounds-copy-end-in-Words
+slice_bounds-copy-end-in-Words c = let m = c in sym (length-take-le m.m-1.given.0.0 (Z (called m.before.before)) (answer m.before.before).inside)
 
-copy-requires-2 : tie.Need-copy-requires-2
-copy-requires-2 c κs =
-    let m = c.before.before.before in
-    let s = start (formed_from (called m)) in
-    omega (arith, length-take-le m.m.given.0.0 (Z (called m)) (answer m).inside, (answer m).holds.few, s.pre.1.1.1.1)
+copy-requires-in-Words : tie.Need-copy-requires-in-Words
+copy-requires-in-Words c κs =
+    let m = c in
+    let s = start (formed_from (called m.before.before.before)) in
+    omega (arith, length-take-le m.m-1.given.0.0 (Z (called m.before.before.before)) (answer m.before.before.before).inside, (answer m.before.before.before).holds.few, s.requires.1.1.1.1)
 
-enum_told : tie.Need-enum-told
-enum_told c = c.match.keys2
+enum_told-1 : tie.Need-enum_told-1
+enum_told-1 c = c.in-OverDegree-1.keys2
 
-enum-told-2 : tie.Need-enum-told-2
-enum-told-2 c = c.match.keys3
+enum_told-in-OverTerms : tie.Need-enum_told-in-OverTerms
+enum_told-in-OverTerms c = c.in-OverTerms-1.keys3
 
-same_length : tie.Need-same-length
-same_length c = search rules
+shape_of-r-in-Words : tie.Need-shape_of-r-in-Words
+shape_of-r-in-Words c = search rules
 
-returns : tie.Need-returns
-returns c =
-    let m = c.before.before.before.before.before.before in
-    let s = start (formed_from (called m)) in
-    copied_back s.args.p (left s (terms (R s))) _ (Z (called m)) s.args.r.now _ (answer m) s.pre.1.1.1.1 c.before.before.copy2.ensures
+returns-in-Words : tie.Need-returns-in-Words
+returns-in-Words c =
+    let m = c in
+    let s = start (formed_from (called m.before.before.before.before.before.before)) in
+    copied_back s.args.p (left s (terms (R s))) _ (Z (called m.before.before.before.before.before.before)) s.args.r.now _ (answer m.before.before.before.before.before.before) s.requires.1.1.1.1 c.copy-in-Words.ensures
 
-same-length-2 : tie.Need-same-length-2
-same-length-2 c = search rules
+shape_of-r-in-OverDegree : tie.Need-shape_of-r-in-OverDegree
+shape_of-r-in-OverDegree c = search rules
 
-returns-2 : tie.Need-returns-2
-returns-2 c =
-    let u = c.before.before.before.before.before.before in
-    let s = start (formed_from u) in
-    degree_refused (left s (terms (R s))) u.round.result (Z u) s.args.r.now c.enum_told.given.1 (answered u)
+returns-in-OverDegree : tie.Need-returns-in-OverDegree
+returns-in-OverDegree c =
+    let u = c in
+    let s = start (formed_from u.before.before.before.before.before.before) in
+    degree_refused (left s (terms (R s))) u.round.result (Z u.before.before.before.before.before.before) s.args.r.now c.enum_told-1.given.1 (answered u.before.before.before.before.before.before)
 
-same-length-3 : tie.Need-same-length-3
-same-length-3 c = search rules
+shape_of-r-in-OverTerms : tie.Need-shape_of-r-in-OverTerms
+shape_of-r-in-OverTerms c = search rules
 
-returns-3 : tie.Need-returns-3
-returns-3 c =
-    let u = c.before.before.before.before.before.before in
-    let s = start (formed_from u) in
-    terms_refused (left s (terms (R s))) u.round.result (Z u) s.args.r.now c.enum-told2.given.1 (answered u)
+returns-in-OverTerms : tie.Need-returns-in-OverTerms
+returns-in-OverTerms c =
+    let u = c in
+    let s = start (formed_from u.before.before.before.before.before.before) in
+    terms_refused (left s (terms (R s))) u.round.result (Z u.before.before.before.before.before.before) s.args.r.now c.enum_told-in-OverTerms-1.given.1 (answered u.before.before.before.before.before.before)
 
 pub round_apart_spec : {M : Type 1} → statement M
 round_apart_spec =
     tie.close
     (tie.spec
-    slice-reshare-prefix-copy
-    slice-aggregate-copy
-    slice-aggregate-copy-2
+    slice_bounds-copy-end
+    slice_bounds-copy-end-2
+    slice_bounds-copy-end-3
     copy-requires
-    slice-aggregate-round
-    slice-aggregate-round-2
-    slice-aggregate-round-3
-    slice-aggregate-round-4
+    slice_bounds-round-end
+    slice_bounds-round-end-2
+    slice_bounds-round-end-3
+    slice_bounds-round-end-4
     round-requires
-    enum-known-m
-    array-share-prefix-a
-    slice-aggregate-copy-3
-    copy-requires-2
-    enum_told
-    enum-told-2
-    same_length
-    returns
-    same-length-2
-    returns-2
-    same-length-3
-    returns-3)
+    enum_known-m
+    slice_bounds-a-end
+    slice_bounds-copy-end-in-Words
+    copy-requires-in-Words
+    enum_told-1
+    enum_told-in-OverTerms
+    shape_of-r-in-Words
+    returns-in-Words
+    shape_of-r-in-OverDegree
+    returns-in-OverDegree
+    shape_of-r-in-OverTerms
+    returns-in-OverTerms)

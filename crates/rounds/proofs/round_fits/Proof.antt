@@ -18,17 +18,17 @@ short_test need words short = go (leb need words) (leb-true need words) (leb-fal
     go true below above = sym (le-leb (min 1024 need) words (omega (arith, below refl)))
     go false below above = sym (lt-leb (min 1024 need) words (omega (arith, above refl)))
 
+returns-then-words-ge1024 : tie.Need-returns-then-words-ge1024
+returns-then-words-ge1024 c = let s = c.args in sym (le-leb (lent_for_round s.n s.c s.m) s.words (omega (arith, c.if-words-ge1024.true)))
+
+overflow_add-result : tie.Need-overflow_add-result
+overflow_add-result c = search rules
+
+overflow_mul-result : tie.Need-overflow_mul-result
+overflow_mul-result c = let s = c in omega (arith, mul-le-mul s.requires.0 (add-le-add s.requires.1 s.requires.2))
+
 returns : tie.Need-returns
-returns c = let s = c.before.args in sym (le-leb (lent_for_round s.n s.c s.m) s.words (omega (arith, c.if1.true)))
-
-add-result : tie.Need-overflow-add-result
-add-result c = search rules
-
-mul-result : tie.Need-overflow-mul-result
-mul-result c = let s = c.before in omega (arith, mul-le-mul s.requires.0 (add-le-add s.requires.1 s.requires.2))
-
-returns-2 : tie.Need-returns-2
-returns-2 c = let s = c.before.args in short_test (s.n * (s.c + s.m) / 2) s.words (omega (arith, c.if1.false))
+returns c = let s = c.args in short_test (s.n * (s.c + s.m) / 2) s.words (omega (arith, c.if-words-ge1024.false))
 
 pub round_fits_spec : {M : Type 1} → statement M
-round_fits_spec = tie.close (tie.spec returns add-result mul-result returns-2)
+round_fits_spec = tie.close (tie.spec returns-then-words-ge1024 overflow_add-result overflow_mul-result returns)

@@ -108,7 +108,7 @@ module _ {ℓ} {K : Type ℓ} (F : Field K) (x : List K) where
         put_apart = put_q_nonzero F x p prime char (initial k G) b.Q (canonical_coefficient p k d G cG)
 
         there : SolvesBranch b → SolvesBranch (split_open l p k f b) ⊎ SolvesBranch (split_aside l p k f b)
-        there s = elim (F.zero-or_not (value F.ring (coefficient k d G) x)) [
+        there s = elim (F.zero_or_not (value F.ring (coefficient k d G) x)) [
           | inl z ↦ inr (put_rest.1 (sym (split_zero F p char (one≤ prime) x k d G z) ∙ (apart.0 s.0).0, put_initial.1 (z, (apart.0 s.0).1)), s.1, s.2)
           | inr n ↦ inl (s.0, put_apart.1 (n, s.1), s.2)
         ]

@@ -11,90 +11,90 @@ use Rattle.scaling.proofs.ScaledLaws.{Scaled, scaled_none, scaled_next, scaled_t
 use Rattle.scaling.proofs.monic.Statement.{statement}
 use Rattle.scaling.proofs.monic.Tie as tie
 
-abbrev invariant_loop : tie.invariant_loop
-invariant_loop p f₀ c i₀ f i = Scaled p c f₀ f i
+abbrev invariant-loop-i : tie.invariant-loop-i
+invariant-loop-i p f₀ c i₀ f i = Scaled p c f₀ f i
 
-abbrev decreases_loop : tie.decreases_loop
-decreases_loop p f₀ c i₀ f i = length f₀ - i
+abbrev decreases-loop-i : tie.decreases-loop-i
+decreases-loop-i p f₀ c i₀ f i = length f₀ - i
 
-returns : tie.Need-returns invariant_loop decreases_loop
-returns c = monic_none c.before.before.args.p c.before.before.args.f.now c.if1.true
+returns-then-f-eq0 : tie.Need-returns-then-f-eq0 invariant-loop-i decreases-loop-i
+returns-then-f-eq0 c = monic_none c.args.p c.args.f.now c.if-f-eq0.true
 
-slice-read-invert : tie.Need-slice-read-invert invariant_loop decreases_loop
-slice-read-invert c = omega arith
+bounds-f-0 : tie.Need-bounds-f-0 invariant-loop-i decreases-loop-i
+bounds-f-0 c = omega arith
 
-invert-requires : tie.Need-invert-requires invariant_loop decreases_loop
-invert-requires c κs =
-    let P = c.before.before.before.requires in
-    let a = c.before.before.before.args in
+invert-c-requires : tie.Need-invert-c-requires invariant-loop-i decreases-loop-i
+invert-c-requires c κs =
+    let P = c.requires in
+    let a = c.args in
     let n = scaled_next (scaled_none a.p 0 a.f.now P.1.1) P.1.0 (omega arith) in
     (P.0.0, n.0, n.1, P.0.1)
 
-loop-holds : tie.Need-loop-init invariant_loop decreases_loop
-loop-holds c = scaled_none c.before.before.before.before.args.p c.invert.result c.before.before.before.before.args.f.now c.before.before.before.before.requires.1.1
+loop-i-init : tie.Need-loop-i-init invariant-loop-i decreases-loop-i
+loop-i-init c = scaled_none c.args.p c.invert-c.result c.args.f.now c.requires.1.1
 
-mul-multiply : tie.Need-overflow-mul-multiply invariant_loop decreases_loop
-mul-multiply c = omega arith
+offset_bounds-f-i : tie.Need-offset_bounds-f-i invariant-loop-i decreases-loop-i
+offset_bounds-f-i c = omega arith
 
-slice-read-multiply : tie.Need-slice-read-multiply invariant_loop decreases_loop
-slice-read-multiply c = omega arith
+bounds-f-i : tie.Need-bounds-f-i invariant-loop-i decreases-loop-i
+bounds-f-i c = omega arith
 
-multiply-requires : tie.Need-multiply-requires invariant_loop decreases_loop
+multiply-requires : tie.Need-multiply-requires invariant-loop-i decreases-loop-i
 multiply-requires c κs =
-    let s = c.before.before.before.before.before.before.before in (
-      subst (λ z. z < s.args.p) (sym c.before.before.before.invert.ensures) (inverse_lt s.args.p (get_or s.args.f.now 0 0) s.requires.0.0),
-      (scaled_next c.before.before.loop.invariant s.requires.1.0 c.before.loop-test.true).1,
+    let s = c in (
+      subst (λ z. z < s.args.p) (sym c.invert-c.ensures) (inverse_lt s.args.p (get_or s.args.f.now 0 0) s.requires.0.0),
+      (scaled_next c.loop-i.invariant s.requires.1.0 c.loop-i-test.true).1,
       s.requires.0.1,
     )
 
-mul-f : tie.Need-overflow-mul-f invariant_loop decreases_loop
-mul-f c = omega arith
+offset_bounds-f-i-in-loop-i : tie.Need-offset_bounds-f-i-in-loop-i invariant-loop-i decreases-loop-i
+offset_bounds-f-i-in-loop-i c = omega arith
 
-slice-write-f : tie.Need-slice-write-f invariant_loop decreases_loop
-slice-write-f c = omega arith
+bounds-f-i-in-loop-i : tie.Need-bounds-f-i-in-loop-i invariant-loop-i decreases-loop-i
+bounds-f-i-in-loop-i c = omega arith
 
-add-i : tie.Need-overflow-add-i invariant_loop decreases_loop
-add-i c = omega arith
+overflow_add-i : tie.Need-overflow_add-i invariant-loop-i decreases-loop-i
+overflow_add-i c = omega arith
 
-loop-less : tie.Need-loop-smaller invariant_loop decreases_loop
-loop-less c = omega arith
+loop-i-smaller : tie.Need-loop-i-smaller invariant-loop-i decreases-loop-i
+loop-i-smaller c = omega arith
 
-loop-again : tie.Need-loop-preserved invariant_loop decreases_loop
+loop-i-preserved : tie.Need-loop-i-preserved invariant-loop-i decreases-loop-i
 unfolding product
-loop-again c =
-    let s = c.before.before.before.before.before.before.before.before in
-    let L = c.before.before.before.loop in
-    subst (λ x. Scaled s.args.p c.before.before.before.before.invert.result s.args.f.now (set L.f L.i x) (L.i + 2)) (sym c.multiply.ensures)
-    (scaled_turn L.invariant s.requires.1.0 c.before.before.loop-test.true)
+loop-i-preserved c =
+    let s = c in
+    let L = c.loop-i in
+    subst (λ x. Scaled s.args.p c.invert-c.result s.args.f.now (set L.f L.i x) (L.i + 2)) (sym c.multiply.ensures)
+    (scaled_turn L.invariant s.requires.1.0 c.loop-i-test.true)
 
-same_length : tie.Need-same-length invariant_loop decreases_loop
-same_length c = omega arith
+shape_of-f : tie.Need-shape_of-f invariant-loop-i decreases-loop-i
+shape_of-f c = omega arith
 
-returns-2 : tie.Need-returns-2 invariant_loop decreases_loop
-returns-2 c =
-    let P = c.before.before.before.before.before.before.requires in
-    let a = c.before.before.before.before.before.before.args in
-    scaled_all c.before.loop.invariant P.1.0 c.loop-test.false
-    ∙ ap (λ z. scaled a.p z (terms a.f.now)) c.before.before.invert.ensures
+returns : tie.Need-returns invariant-loop-i decreases-loop-i
+returns c =
+    let P = c.requires in
+    let a = c.args in
+    scaled_all c.loop-i.invariant P.1.0 c.loop-i-test.false
+    ∙ ap (λ z. scaled a.p z (terms a.f.now)) c.invert-c.ensures
     ∙ sym (monic_of a.p a.f.now P.0.0 P.1.1 (omega arith))
 
 pub monic_spec : {M : Type 1} → statement M
 monic_spec =
     tie.close
     (tie.spec
-    invariant_loop
-    decreases_loop
-    returns
-    slice-read-invert
-    invert-requires
-    loop-holds
-    mul-multiply
-    slice-read-multiply
+    invariant-loop-i
+    decreases-loop-i
+    returns-then-f-eq0
+    bounds-f-0
+    invert-c-requires
+    loop-i-init
+    offset_bounds-f-i
+    bounds-f-i
     multiply-requires
-    mul-f
-    slice-write-f
-    add-i
-    loop-less
-    loop-again
-    same_length
-    returns-2)
+    offset_bounds-f-i-in-loop-i
+    bounds-f-i-in-loop-i
+    overflow_add-i
+    loop-i-smaller
+    loop-i-preserved
+    shape_of-f
+    returns)

@@ -6,103 +6,103 @@ use Rattle.scratch.proofs.StretchLaws.{Told, runs_from_0, stretch_ends, pause_wi
 use Rattle.scratch.proofs.run_short.Statement.{statement}
 use Rattle.scratch.proofs.run_short.Tie as tie
 
-slice-aggregate-run : tie.Need-slice-aggregate-run
-slice-aggregate-run c = search rules
+slice_bounds-run-end : tie.Need-slice_bounds-run-end
+slice_bounds-run-end c = search rules
 
-slice-aggregate-run-2 : tie.Need-slice-aggregate-run-2
-slice-aggregate-run-2 c = search rules
+slice_bounds-run-end-2 : tie.Need-slice_bounds-run-end-2
+slice_bounds-run-end-2 c = search rules
 
-slice-aggregate-run-3 : tie.Need-slice-aggregate-run-3
-slice-aggregate-run-3 c = search rules
+slice_bounds-run-end-3 : tie.Need-slice_bounds-run-end-3
+slice_bounds-run-end-3 c = search rules
 
-slice-aggregate-run-4 : tie.Need-slice-aggregate-run-4
-slice-aggregate-run-4 c = search rules
+slice_bounds-run-end-4 : tie.Need-slice_bounds-run-end-4
+slice_bounds-run-end-4 c = search rules
 
-slice-aggregate-run-5 : tie.Need-slice-aggregate-run-5
-slice-aggregate-run-5 c = search rules
+slice_bounds-run-end-5 : tie.Need-slice_bounds-run-end-5
+slice_bounds-run-end-5 c = search rules
 
 -- The run is called.
-abbrev called : tie.After-z → tie.Start
+abbrev called : tie.After-z-1 → tie.Start
 called m = m.before.before.before.before.before.before.before.before.before
 
-run-requires : tie.Need-run-requires
-run-requires c κs =
+run-first-requires : tie.Need-run-first-requires
+run-first-requires c κs =
     let h = (called c).requires in
     ((h.0, omega arith, h.1), (omega arith, h.2, omega (arith, h.2), omega arith, omega arith))
 
-enum-known-ending : tie.Need-enum-known-ending
-enum-known-ending c = search rules
+enum_known-ending : tie.Need-enum_known-ending
+enum_known-ending c = search rules
 
-enum_told : tie.Need-enum-told
-enum_told c = search rules
+enum_told-1 : tie.Need-enum_told-1
+enum_told-1 c = search rules
 
 -- It has answered.
-abbrev answered : tie.After-z2 → tie.After-run
+abbrev answered : tie.After-z-2-1 → tie.After-run-first
 answered m = m.before.before.before.before.before.before.before.before.before
 
-module _ (m : tie.After-run) where
+module _ (m : tie.After-run-first) where
   abbrev entry : tie.Start
   entry = called m.before
 
-  stretch : Told entry.args.p entry.args.limit 0 entry.args.work.now m.run.result m.run.last.0
-  stretch = record { same = m.run.kept.0; answers = m.run.ensures.0 }
+  stretch : Told entry.args.p entry.args.limit 0 entry.args.work.now m.run-first.result m.run-first.new.w
+  stretch = record { same = m.run-first.auto.w; answers = m.run-first.ensures.0 }
 
-same_length : tie.Need-same-length
-same_length c = search rules
+shape_of-work-in-Final : tie.Need-shape_of-work-in-Final
+shape_of-work-in-Final c = search rules
 
-same-length-2 : tie.Need-same-length-2
-same-length-2 c = search rules
+shape_of-divided-in-Final : tie.Need-shape_of-divided-in-Final
+shape_of-divided-in-Final c = search rules
 
-returns : tie.Need-returns
-returns c =
+returns-in-Final : tie.Need-returns-in-Final
+returns-in-Final c =
     let m = answered c.before.before.before in
     let a = (entry m).args in
-    (runs_from_0 a.p a.limit a.work.now _ m.run.last.0 (stretch_ends (stretch m) c.before.ending.given.1), m.run.ensures.1.1)
+    (runs_from_0 a.p a.limit a.work.now _ m.run-first.new.w (stretch_ends (stretch m) c.ending-1.given.1), m.run-first.ensures.1.1)
 
 -- It has paused, and `run_long` is called.
-abbrev paused : tie.After-run-long-arg → tie.After-run
+abbrev paused : tie.After-run_long-arg-1 → tie.After-run-first
 paused m = answered m.before.before.before
 
-run-long-requires : tie.Need-run-long-requires
-run-long-requires c κs =
+run_long-requires : tie.Need-run_long-requires
+run_long-requires c κs =
     let m = paused c in
-    let s = (entry m).pre in
-    let e = c.before.enum_told.given.1 in
+    let s = (entry m).requires in
+    let e = c.enum_told-1.given.1 in
     (s.0, omega (arith, pause_within (stretch m) e s.1), pause_holds (stretch m) e s.1)
 
-same-length-3 : tie.Need-same-length-3
-same-length-3 c = search rules
+shape_of-work-in-Paused : tie.Need-shape_of-work-in-Paused
+shape_of-work-in-Paused c = search rules
 
-same-length-4 : tie.Need-same-length-4
-same-length-4 c = search rules
+shape_of-divided-in-Paused : tie.Need-shape_of-divided-in-Paused
+shape_of-divided-in-Paused c = search rules
 
-returns-2 : tie.Need-returns-2
-returns-2 c =
-    let l = c.before.before in
-    let m = paused l.before in
+returns-in-Paused : tie.Need-returns-in-Paused
+returns-in-Paused c =
+    let l = c in
+    let m = paused l.before.before.before in
     let a = (entry m).args in
     let r = l.run_long in (
       runs_from_0 a.p a.limit a.work.now r.result r.new.0
-          (stretch_goes_on (stretch m) l.before.before.enum_told.given.1 r.result r.new.0 r.ensures.0),
-      r.ensures.1 ∙ m.run.ensures.1.1,
+          (stretch_goes_on (stretch m) l.enum_told-1.given.1 r.result r.new.0 r.ensures.0),
+      r.ensures.1 ∙ m.run-first.ensures.1.1,
     )
 
 pub run_short_spec : {M : Type 1} → statement M
 run_short_spec =
     tie.close
     (tie.spec
-    slice-aggregate-run
-    slice-aggregate-run-2
-    slice-aggregate-run-3
-    slice-aggregate-run-4
-    slice-aggregate-run-5
-    run-requires
-    enum-known-ending
-    enum_told
-    run-long-requires
-    same_length
-    same-length-2
-    returns
-    same-length-3
-    same-length-4
-    returns-2)
+    slice_bounds-run-end
+    slice_bounds-run-end-2
+    slice_bounds-run-end-3
+    slice_bounds-run-end-4
+    slice_bounds-run-end-5
+    run-first-requires
+    enum_known-ending
+    enum_told-1
+    run_long-requires
+    shape_of-work-in-Final
+    shape_of-divided-in-Final
+    returns-in-Final
+    shape_of-work-in-Paused
+    shape_of-divided-in-Paused
+    returns-in-Paused)

@@ -17,28 +17,28 @@ use Rattle.search.proofs.Others.{scan, scan_pivot, scan_led, scan_unled, scan_al
 use Rattle.search.proofs.other_from.Statement.{statement}
 use Rattle.search.proofs.other_from.Tie as tie
 
-abbrev invariant_loop : tie.invariant_loop
-invariant_loop w at k v place i₀ j₀ i j =
+abbrev invariant-loop-j : tie.invariant-loop-j
+invariant-loop-j w at k v place i₀ j₀ i j =
     (skip_to (view w) i (k - j) ≡ skip_to (view w) at k)
     × (scan v place j (all_at (view w) i (k - j)) ≡ scan v place 0 (all_at (view w) at k))
     × ((p : ℕ) × AllHold p (polys_at (view w) i (k - j)))
 
-abbrev decreases_loop : tie.decreases_loop
-decreases_loop w at k v place i₀ j₀ i j = k - j
+abbrev decreases-loop-j : tie.decreases-loop-j
+decreases-loop-j w at k v place i₀ j₀ i j = k - j
 
-some : (c : tie.In-loop invariant_loop decreases_loop) → 0 < c.before.before.before.args.k - c.before.loop.j
-some c = omega (arith, c.loop-test.true)
+some : (c : tie.In-loop-j invariant-loop-j decreases-loop-j) → 0 < c.args.k - c.loop-j.j
+some c = omega (arith, c.loop-j-test.true)
 
 -- In a turn the polynomial at i lies in the records.
-within : (c : tie.In-loop invariant_loop decreases_loop)
-    → c.before.loop.i + 1 + size_at (view c.before.before.before.args.w.now) c.before.loop.i ≤ room c.before.before.before.args.w.now
+within : (c : tie.In-loop-j invariant-loop-j decreases-loop-j)
+    → c.loop-j.i + 1 + size_at (view c.args.w.now) c.loop-j.i ≤ room c.args.w.now
 within c =
-    let s = c.before.before.before in
-    omega (arith, s.requires.0.0, c.before.loop.invariant.0, skip_in (view s.args.w.now) c.before.loop.i (s.args.k - c.before.loop.j) (some c))
+    let s = c in
+    omega (arith, s.requires.0.0, c.loop-j.invariant.0, skip_in (view s.args.w.now) c.loop-j.i (s.args.k - c.loop-j.j) (some c))
 
-loop-holds : tie.Need-loop-init invariant_loop decreases_loop
-loop-holds c =
-    let s = c.before in
+loop-j-init : tie.Need-loop-j-init invariant-loop-j decreases-loop-j
+loop-j-init c =
+    let s = c in
     let all : s.args.k - 0 ≡ s.args.k = omega arith in
     let u = view s.args.w.now in (
       ap (skip_to u s.args.at) all,
@@ -46,52 +46,52 @@ loop-holds c =
       (s.requires.1.0, subst (λ (n : ℕ). AllHold s.requires.1.0 (polys_at u s.args.at n)) (sym all) s.requires.1.1),
     )
 
-leader-at-requires : tie.Need-leader-at-requires invariant_loop decreases_loop
-leader-at-requires c κs =
-    let turn = c.before in
-    let s = turn.before.before.before in
-    let l = turn.before.loop in
-    (omega (arith, within turn), within turn, (l.invariant.2.0, (all_hold_turn l.invariant.2.0 (view s.args.w.now) l.i (s.args.k - l.j) (some turn) l.invariant.2.1).0))
+leader_at-requires : tie.Need-leader_at-requires invariant-loop-j decreases-loop-j
+leader_at-requires c κs =
+    let turn = c in
+    let s = turn in
+    let l = turn.loop-j in
+    (omega (arith, within turn.before), within turn.before, (l.invariant.2.0, (all_hold_turn l.invariant.2.0 (view s.args.w.now) l.i (s.args.k - l.j) (some turn.before) l.invariant.2.1).0))
 
-add-if2 : tie.Need-overflow-add-if2 invariant_loop decreases_loop
-add-if2 c = omega (arith, c.before.before.before.before.before.requires.0.1)
+overflow_add-v : tie.Need-overflow_add-v invariant-loop-j decreases-loop-j
+overflow_add-v c = omega (arith, c.requires.0.1)
 
-returns : tie.Need-returns invariant_loop decreases_loop
-returns c =
-    let turn = c.before.before.before in
-    let s = turn.before.before.before in
-    let l = turn.before.loop in
+returns-then-leader_at-v : tie.Need-returns-then-leader_at-v invariant-loop-j decreases-loop-j
+returns-then-leader_at-v c =
+    let turn = c in
+    let s = turn in
+    let l = turn.loop-j in
     let u = view s.args.w.now in
     let f = terms (words_at u l.i) in
     let led : leader f ≡ suc s.args.v =
-    omega (arith, c.before.leader-at.ensures, eqb-true c.before.leader-at.result (s.args.v + 1) c.if2.true) in
-    sym (ap (scan s.args.v s.args.place l.j) (all_turn u l.i (s.args.k - l.j) (some turn))
-    ∙ scan_led s.args.v s.args.place l.j f (all_at u (l.i + 1 + size_at u l.i) (s.args.k - l.j - 1)) c.before.before.if1.true led)
+    omega (arith, c.leader_at.ensures, eqb-true c.leader_at.result (s.args.v + 1) c.if-leader_at-v.true) in
+    sym (ap (scan s.args.v s.args.place l.j) (all_turn u l.i (s.args.k - l.j) (some turn.before.before.before))
+    ∙ scan_led s.args.v s.args.place l.j f (all_at u (l.i + 1 + size_at u l.i) (s.args.k - l.j - 1)) c.if-j-place.true led)
     ∙ l.invariant.1 ∙ scan_all s.args.v s.args.place (all_at u s.args.at s.args.k)
 
-get0-requires : tie.Need-get0-requires invariant_loop decreases_loop
-get0-requires c κs = omega (arith, within c.before)
+get0-n-requires : tie.Need-get0-n-requires invariant-loop-j decreases-loop-j
+get0-n-requires c κs = omega (arith, within c.before)
 
-cast-n : tie.Need-overflow-cast-n invariant_loop decreases_loop
-cast-n c = omega arith
+overflow_cast-n : tie.Need-overflow_cast-n invariant-loop-j decreases-loop-j
+overflow_cast-n c = omega arith
 
-add-i : tie.Need-overflow-add-i invariant_loop decreases_loop
-add-i c = omega (arith, c.get0.ensures, within c.before.before)
+overflow_add-i : tie.Need-overflow_add-i invariant-loop-j decreases-loop-j
+overflow_add-i c = omega (arith, c.get0-n.ensures, within c.before.before)
 
-add-i-2 : tie.Need-overflow-add-i-2 invariant_loop decreases_loop
-add-i-2 c = omega (arith, c.get0.ensures, within c.before.before)
+overflow_add-i-in-loop-j : tie.Need-overflow_add-i-in-loop-j invariant-loop-j decreases-loop-j
+overflow_add-i-in-loop-j c = omega (arith, c.get0-n.ensures, within c.before.before)
 
-add-j : tie.Need-overflow-add-j invariant_loop decreases_loop
-add-j c = omega (arith, c.before.before.loop-test.true)
+overflow_add-j : tie.Need-overflow_add-j invariant-loop-j decreases-loop-j
+overflow_add-j c = omega (arith, c.loop-j-test.true)
 
-loop-less : tie.Need-loop-smaller invariant_loop decreases_loop
-loop-less c = omega (arith, c.before.before.loop-test.true)
+loop-j-smaller : tie.Need-loop-j-smaller invariant-loop-j decreases-loop-j
+loop-j-smaller c = omega (arith, c.loop-j-test.true)
 
-loop-again : tie.Need-loop-preserved invariant_loop decreases_loop
-loop-again c =
-    let turn = c.before.before in
-    let s = turn.before.before.before in
-    let l = turn.before.loop in
+loop-j-preserved : tie.Need-loop-j-preserved invariant-loop-j decreases-loop-j
+loop-j-preserved c =
+    let turn = c in
+    let s = turn in
+    let l = turn.loop-j in
     let u = view s.args.w.now in
     let i = l.i in
     let j = l.j in
@@ -103,22 +103,22 @@ loop-again c =
     let f = terms (words_at u i) in
     let fs = all_at u (i + 1 + size_at u i) (k - j - 1) in
     let step : scan v place j (all_at u i (k - j)) ≡ scan v place (j + 1) fs =
-    ap (scan v place j) (all_turn u i (k - j) (some turn))
+    ap (scan v place j) (all_turn u i (k - j) (some turn.before.before))
     ∙ ⊎_elim
-    (λ w. scan_unled v place j f fs w.0.taken (λ (e : leader f ≡ suc v). eqb-false w.1.result (v + 1) w.2.left (omega (arith, w.1.ensures))))
-    (λ w. scan_pivot v place j f fs w.left) c.before.if1.branch in (
-      (λ t. skip_to u (i + 1 + c.get0.ensures t) (less t)) ∙ sym (skip_turn u i (k - j) (some turn)) ∙ l.invariant.0,
-      (λ t. scan v place (j + 1) (all_at u (i + 1 + c.get0.ensures t) (less t))) ∙ sym step ∙ l.invariant.1,
-      (p, subst (λ (ss : List (List ℕ)). AllHold p ss) (sym (λ t. polys_at u (i + 1 + c.get0.ensures t) (less t))) (all_hold_turn p u i (k - j) (some turn) l.invariant.2.1).1),
+    (λ w. scan_unled v place j f fs w.if-j-place.true (λ (e : leader f ≡ suc v). eqb-false w.leader_at.result (v + 1) w.if-leader_at-v.false (omega (arith, w.leader_at.ensures))))
+    (λ w.if-j-place. scan_pivot v place j f fs w.if-j-place.false) c.else-j-place.branch-raw in (
+      (λ t. skip_to u (i + 1 + c.get0-n.ensures t) (less t)) ∙ sym (skip_turn u i (k - j) (some turn.before.before)) ∙ l.invariant.0,
+      (λ t. scan v place (j + 1) (all_at u (i + 1 + c.get0-n.ensures t) (less t))) ∙ sym step ∙ l.invariant.1,
+      (p, subst (λ (ss : List (List ℕ)). AllHold p ss) (sym (λ t. polys_at u (i + 1 + c.get0-n.ensures t) (less t))) (all_hold_turn p u i (k - j) (some turn.before.before) l.invariant.2.1).1),
     )
 
-returns-2 : tie.Need-returns-2 invariant_loop decreases_loop
+returns : tie.Need-returns invariant-loop-j decreases-loop-j
 unfolding scan
-returns-2 c =
-    let s = c.before.before.before in
-    let l = c.before.loop in
+returns c =
+    let s = c in
+    let l = c.loop-j in
     let u = view s.args.w.now in
-    let done : s.args.k - l.j ≡ 0 = omega (arith, c.loop-test.false) in
+    let done : s.args.k - l.j ≡ 0 = omega (arith, c.loop-j-test.false) in
     sym (ap (scan s.args.v s.args.place l.j) (all_end u l.i (s.args.k - l.j) done))
     ∙ l.invariant.1 ∙ scan_all s.args.v s.args.place (all_at u s.args.at s.args.k)
 
@@ -126,17 +126,17 @@ pub other_from_spec : {M : Type 1} → statement M
 other_from_spec =
     tie.close
     (tie.spec
-    invariant_loop
-    decreases_loop
-    loop-holds
-    leader-at-requires
-    add-if2
-    returns
-    get0-requires
-    cast-n
-    add-i
-    add-i-2
-    add-j
-    loop-less
-    loop-again
-    returns-2)
+    invariant-loop-j
+    decreases-loop-j
+    loop-j-init
+    leader_at-requires
+    overflow_add-v
+    returns-then-leader_at-v
+    get0-n-requires
+    overflow_cast-n
+    overflow_add-i
+    overflow_add-i-in-loop-j
+    overflow_add-j
+    loop-j-smaller
+    loop-j-preserved
+    returns)

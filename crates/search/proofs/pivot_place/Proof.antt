@@ -15,28 +15,28 @@ use Rattle.search.proofs.Pass.{passed, passed_turn, passed_all, all_hold_bounded
 use Rattle.search.proofs.pivot_place.Statement.{statement}
 use Rattle.search.proofs.pivot_place.Tie as tie
 
-abbrev invariant_loop : tie.invariant_loop
-invariant_loop w at k v i₀ j₀ place₀ least₀ i j place least =
+abbrev invariant-loop-j : tie.invariant-loop-j
+invariant-loop-j w at k v i₀ j₀ place₀ least₀ i j place least =
     (skip_to (view w) i (k - j) ≡ skip_to (view w) at k)
     × (passed v place least j (all_at (view w) i (k - j)) ≡ passed v 0 131072 0 (all_at (view w) at k))
     × ((p : ℕ) × AllHold p (polys_at (view w) i (k - j)))
 
-abbrev decreases_loop : tie.decreases_loop
-decreases_loop w at k v i₀ j₀ place₀ least₀ i j place least = k - j
+abbrev decreases-loop-j : tie.decreases-loop-j
+decreases-loop-j w at k v i₀ j₀ place₀ least₀ i j place least = k - j
 
-some : (c : tie.In-loop invariant_loop decreases_loop) → 0 < c.before.before.before.args.k - c.before.loop.j
-some c = omega (arith, c.loop-test.true)
+some : (c : tie.In-loop-j invariant-loop-j decreases-loop-j) → 0 < c.args.k - c.loop-j.j
+some c = omega (arith, c.loop-j-test.true)
 
 -- In a turn the polynomial at i lies in the records.
-within : (c : tie.In-loop invariant_loop decreases_loop)
-    → c.before.loop.i + 1 + size_at (view c.before.before.before.args.w.now) c.before.loop.i ≤ room c.before.before.before.args.w.now
+within : (c : tie.In-loop-j invariant-loop-j decreases-loop-j)
+    → c.loop-j.i + 1 + size_at (view c.args.w.now) c.loop-j.i ≤ room c.args.w.now
 within c =
-    let s = c.before.before.before in
-    omega (arith, s.requires.0.0, c.before.loop.invariant.0, skip_in (view s.args.w.now) c.before.loop.i (s.args.k - c.before.loop.j) (some c))
+    let s = c in
+    omega (arith, s.requires.0.0, c.loop-j.invariant.0, skip_in (view s.args.w.now) c.loop-j.i (s.args.k - c.loop-j.j) (some c))
 
-loop-holds : tie.Need-loop-init invariant_loop decreases_loop
-loop-holds c =
-    let s = c.before in
+loop-j-init : tie.Need-loop-j-init invariant-loop-j decreases-loop-j
+loop-j-init c =
+    let s = c in
     let all : s.args.k - 0 ≡ s.args.k = omega arith in
     let u = view s.args.w.now in (
       ap (skip_to u s.args.at) all,
@@ -44,64 +44,64 @@ loop-holds c =
       (s.requires.1.0, subst (λ (n : ℕ). AllHold s.requires.1.0 (polys_at u s.args.at n)) (sym all) s.requires.1.1),
     )
 
-rank-at-requires : tie.Need-rank-at-requires invariant_loop decreases_loop
-rank-at-requires c κs =
-    let s = c.before.before.before in
-    let l = c.before.loop in (
+rank_at-r-requires : tie.Need-rank_at-r-requires invariant-loop-j decreases-loop-j
+rank_at-r-requires c κs =
+    let s = c in
+    let l = c.loop-j in (
       (omega (arith, within c), within c, s.requires.0.1),
       (l.invariant.2.0, (all_hold_turn l.invariant.2.0 (view s.args.w.now) l.i (s.args.k - l.j) (some c) l.invariant.2.1).0),
     )
 
-get0-requires : tie.Need-get0-requires invariant_loop decreases_loop
-get0-requires c κs = omega (arith, within c.before.before)
+get0-n-requires : tie.Need-get0-n-requires invariant-loop-j decreases-loop-j
+get0-n-requires c κs = omega (arith, within c.before.before)
 
-cast-n : tie.Need-overflow-cast-n invariant_loop decreases_loop
-cast-n c = omega arith
+overflow_cast-n : tie.Need-overflow_cast-n invariant-loop-j decreases-loop-j
+overflow_cast-n c = omega arith
 
-add-i : tie.Need-overflow-add-i invariant_loop decreases_loop
-add-i c = omega (arith, c.get0.ensures, within c.before.before.before)
+overflow_add-i : tie.Need-overflow_add-i invariant-loop-j decreases-loop-j
+overflow_add-i c = omega (arith, c.get0-n.ensures, within c.before.before.before)
 
-add-i-2 : tie.Need-overflow-add-i-2 invariant_loop decreases_loop
-add-i-2 c = omega (arith, c.get0.ensures, within c.before.before.before)
+overflow_add-i-in-loop-j : tie.Need-overflow_add-i-in-loop-j invariant-loop-j decreases-loop-j
+overflow_add-i-in-loop-j c = omega (arith, c.get0-n.ensures, within c.before.before.before)
 
-add-j : tie.Need-overflow-add-j invariant_loop decreases_loop
-add-j c = omega (arith, c.before.before.before.loop-test.true)
+overflow_add-j : tie.Need-overflow_add-j invariant-loop-j decreases-loop-j
+overflow_add-j c = omega (arith, c.loop-j-test.true)
 
-loop-less : tie.Need-loop-smaller invariant_loop decreases_loop
-loop-less c = omega (arith, c.before.before.before.loop-test.true)
+loop-j-smaller : tie.Need-loop-j-smaller invariant-loop-j decreases-loop-j
+loop-j-smaller c = omega (arith, c.loop-j-test.true)
 
-loop-again : tie.Need-loop-preserved invariant_loop decreases_loop
-loop-again c =
-    let turn = c.before.before.before in
-    let s = turn.before.before.before in
-    let l = turn.before.loop in
+loop-j-preserved : tie.Need-loop-j-preserved invariant-loop-j decreases-loop-j
+loop-j-preserved c =
+    let turn = c in
+    let s = turn in
+    let l = turn.loop-j in
     let u = view s.args.w.now in
     let i = l.i in
     let j = l.j in
     let k = s.args.k in
     let v = s.args.v in
     let p = l.invariant.2.0 in
-    let best = c.before.if1 in
+    let best = c.if-r-least in
     let less : k - (j + 1) ≡ k - j - 1 = omega arith in
     let f = terms (words_at u i) in
     let fs = all_at u (i + 1 + size_at u i) (k - j - 1) in
     let step : passed v l.place l.least j (all_at u i (k - j)) ≡ passed v best.place best.least (j + 1) fs =
-    ap (passed v l.place l.least j) (all_turn u i (k - j) (some turn))
-    ∙ passed_turn v l.place l.least j f fs c.before.before.rank-at.result best.place best.least c.before.before.rank-at.ensures
-    (⊎_elim (λ w. inl (w.0.taken, w.1, w.2)) (λ w. inr (w.0.left, w.1, w.2)) best.branch) in (
-      (λ t. skip_to u (i + 1 + c.get0.ensures t) (less t)) ∙ sym (skip_turn u i (k - j) (some turn)) ∙ l.invariant.0,
-      (λ t. passed v best.place best.least (j + 1) (all_at u (i + 1 + c.get0.ensures t) (less t))) ∙ sym step ∙ l.invariant.1,
-      (p, subst (λ (ss : List (List ℕ)). AllHold p ss) (sym (λ t. polys_at u (i + 1 + c.get0.ensures t) (less t))) (all_hold_turn p u i (k - j) (some turn) l.invariant.2.1).1),
+    ap (passed v l.place l.least j) (all_turn u i (k - j) (some turn.before.before.before))
+    ∙ passed_turn v l.place l.least j f fs c.rank_at-r.result best.place best.least c.rank_at-r.ensures
+    (⊎_elim (λ w. inl (w.if-r-least.true, w.place-is, w.least-is)) (λ w. inr (w.if-r-least.false, w.place-is, w.least-is)) best.branch-raw) in (
+      (λ t. skip_to u (i + 1 + c.get0-n.ensures t) (less t)) ∙ sym (skip_turn u i (k - j) (some turn.before.before.before)) ∙ l.invariant.0,
+      (λ t. passed v best.place best.least (j + 1) (all_at u (i + 1 + c.get0-n.ensures t) (less t))) ∙ sym step ∙ l.invariant.1,
+      (p, subst (λ (ss : List (List ℕ)). AllHold p ss) (sym (λ t. polys_at u (i + 1 + c.get0-n.ensures t) (less t))) (all_hold_turn p u i (k - j) (some turn.before.before.before) l.invariant.2.1).1),
     )
 
-returns : tie.Need-returns invariant_loop decreases_loop
+returns : tie.Need-returns invariant-loop-j decreases-loop-j
 unfolding passed
 returns c =
-    let s = c.before.before.before in
-    let l = c.before.loop in
+    let s = c in
+    let l = c.loop-j in
     let u = view s.args.w.now in
     let v = s.args.v in
-    let done : s.args.k - l.j ≡ 0 = omega (arith, c.loop-test.false) in
+    let done : s.args.k - l.j ≡ 0 = omega (arith, c.loop-j-test.false) in
     sym (ap (passed v l.place l.least l.j) (all_end u l.i (s.args.k - l.j) done))
     ∙ l.invariant.1 ∙ passed_all v (all_at u s.args.at s.args.k) (all_hold_bounded v s.requires.1.0 (polys_at u s.args.at s.args.k) s.requires.1.1)
 
@@ -109,15 +109,15 @@ pub pivot_place_spec : {M : Type 1} → statement M
 pivot_place_spec =
     tie.close
     (tie.spec
-    invariant_loop
-    decreases_loop
-    loop-holds
-    rank-at-requires
-    get0-requires
-    cast-n
-    add-i
-    add-i-2
-    add-j
-    loop-less
-    loop-again
+    invariant-loop-j
+    decreases-loop-j
+    loop-j-init
+    rank_at-r-requires
+    get0-n-requires
+    overflow_cast-n
+    overflow_add-i
+    overflow_add-i-in-loop-j
+    overflow_add-j
+    loop-j-smaller
+    loop-j-preserved
     returns)

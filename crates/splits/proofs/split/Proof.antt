@@ -18,28 +18,28 @@ use Rattle.splits.proofs.split.Tie as tie
 -- ── the places, and the ways back from one to another ──
 -- The open branch is read.
 abbrev Reading : Type 0
-Reading = tie.After-open-branch
+Reading = tie.After-open_branch-b
 
 abbrev start : Reading → tie.Start
-start r = r.before.before.before.before.before.before
+start r = r.before.before.before.before.before
 
 -- The member is out of P; the initial is put in, if there was room; the rest is, if there was room; the branch that stays open is built.
-abbrev from_remove : tie.After-remove-p → Reading
+abbrev from_remove : tie.After-remove_p → Reading
 from_remove c = c.before.before
 
-abbrev remove_of : tie.After-put-p → tie.After-remove-p
+abbrev remove_of : tie.After-put_p → tie.After-remove_p
 remove_of c = c.before.before.before.before
 
-abbrev from_initial : tie.After-put-p → Reading
+abbrev from_initial : tie.After-put_p → Reading
 from_initial c = from_remove (remove_of c)
 
-abbrev initial_of : tie.After-put-p2 → tie.After-put-p
+abbrev initial_of : tie.After-put_p-2 → tie.After-put_p
 initial_of c = c.before.before.before.before.before
 
-abbrev from_rest : tie.After-put-p2 → Reading
+abbrev from_rest : tie.After-put_p-2 → Reading
 from_rest c = from_initial (initial_of c)
 
-abbrev rest_of : tie.After-keep-open → tie.After-put-p2
+abbrev rest_of : tie.After-keep_open → tie.After-put_p-2
 rest_of c = c.before.before.before.before.before.before
 
 -- ── what is read ──
@@ -72,150 +72,150 @@ abbrev Holds : List ℕ → Stored → List Stored → List Stored → Type 0
 Holds u b bs ss = HeldIn u (with_open b bs ss)
 
 -- The words are as many as at the start.
-same_initial : (c : tie.After-put-p) → length c.put-p.new.0 ≡ length (w (from_initial c))
-same_initial c = c.put-p.auto.0 ∙ (remove_of c).remove-p.auto.0
+same_initial : (c : tie.After-put_p) → length c.put_p.new.w ≡ length (w (from_initial c))
+same_initial c = c.put_p.auto.w ∙ (remove_of c).remove_p.auto.w
 
-same_rest : (c : tie.After-put-p2) → length c.put-p2.new.0 ≡ length (w (from_rest c))
-same_rest c = c.put-p2.auto.0 ∙ same_initial (initial_of c)
+same_rest : (c : tie.After-put_p-2) → length c.put_p-2.new.w ≡ length (w (from_rest c))
+same_rest c = c.put_p-2.auto.w ∙ same_initial (initial_of c)
 
 -- What lies outside is as at the start.
-outside_initial : (c : tie.After-put-p) → outside c.put-p.new.0 ≡ outside (w (from_initial c))
-outside_initial c = c.put-p.ensures.1 ∙ (remove_of c).remove-p.ensures.1
+outside_initial : (c : tie.After-put_p) → outside c.put_p.new.w ≡ outside (w (from_initial c))
+outside_initial c = c.put_p.ensures.1 ∙ (remove_of c).remove_p.ensures.1
 
-outside_rest : (c : tie.After-put-p2) → outside c.put-p2.new.0 ≡ outside (w (from_rest c))
-outside_rest c = c.put-p2.ensures.1 ∙ outside_initial (initial_of c)
+outside_rest : (c : tie.After-put_p-2) → outside c.put_p-2.new.w ≡ outside (w (from_rest c))
+outside_rest c = c.put_p-2.ensures.1 ∙ outside_initial (initial_of c)
 
 module _ {b : Stored} {bs ss : List Stored} where
-  count_is : (r : Reading) → Holds (w r) b bs ss → r.open-branch.result.p ≡ length b.P
-  count_is r H = p_is H (r.open-branch.ensures b bs ss H)
+  count_is : (r : Reading) → Holds (w r) b bs ss → r.open_branch-b.result.p ≡ length b.P
+  count_is r H = p_is H (r.open_branch-b.ensures b bs ss H)
 
-  removed : (c : tie.After-remove-p) → Holds (w (from_remove c)) b bs ss → Holds c.remove-p.new.0 (without (from_remove c) b) bs ss
-  removed c H = held_by _ _ (w (from_remove c)) c.remove-p.new.0 (sym c.remove-p.auto.0) (c.remove-p.ensures.0 b bs ss H)
+  removed : (c : tie.After-remove_p) → Holds (w (from_remove c.before.before.before.before.before.before.before.before.before.before.before.before)) b bs ss → Holds c.remove_p.new.w (without (from_remove c.before.before.before.before.before.before.before.before.before.before.before.before) b) bs ss
+  removed c H = held_by _ _ (w (from_remove c.before.before.before.before.before.before.before.before.before.before.before.before)) c.remove_p.new.w (sym c.remove_p.auto.w) (c.remove_p.ensures.0 b bs ss H)
 
-  initial_leaves : (c : tie.After-put-p) → Holds (w (from_initial c)) b bs ss
-      → let r = from_initial c in
-      Leaves (capacity (w r)) (with_open (without r b) bs ss) (with_open (with_initial r b) bs ss) c.put-p.result (view c.put-p.new.0)
+  initial_leaves : (c : tie.After-put_p) → Holds (w (from_initial c.before.before.before.before.before.before.before.before)) b bs ss
+      → let r = from_initial c.before.before.before.before.before.before.before.before in
+      Leaves (capacity (w r)) (with_open (without r b) bs ss) (with_open (with_initial r b) bs ss) c.put_p.result (view c.put_p.new.w)
   initial_leaves c H =
-      let m = remove_of c in
-      left_by _ _ m.remove-p.last.0 (w (from_remove m)) m.remove-p.kept.0 refl refl (c.put-p.ensures.0 _ bs ss (removed m H))
+      let m = remove_of c.before.before.before.before.before.before.before.before in
+      left_by _ _ m.remove_p.new.w (w (from_remove m)) m.remove_p.auto.w refl refl (c.put_p.ensures.0 _ bs ss (removed m H))
 
-  initial_put : (c : tie.Else1)
-      → let m = c.before.before.before in Holds (w (from_initial m)) b bs ss → Holds m.put-p.new.0 (with_initial (from_initial m) b) bs ss
+  initial_put : (c : tie.Else-not-put_p)
+      → let m = c in Holds (w (from_initial m.before.before.before.before.before.before.before.before)) b bs ss → Holds m.put_p.new.w (with_initial (from_initial m.before.before.before.before.before.before.before.before) b) bs ss
   initial_put c H =
-      let m = c.before.before.before in
-      held_by _ _ (w (from_initial m)) m.put-p.new.0 (sym (same_initial m)) ((initial_leaves m H).held (not-false _ c.if1.false))
+      let m = c in
+      held_by _ _ (w (from_initial m.before.before.before.before.before.before.before.before)) m.put_p.new.w (sym (same_initial m.before.before.before.before.before.before.before.before)) ((initial_leaves m H).held (not-false _ c.if-not-put_p.false))
 
-  rest_leaves : (c : tie.After-put-p2) → Holds (w (from_rest c)) b bs ss
-      → let r = from_rest c in
-      Leaves (capacity (w r)) (with_open (with_initial r b) bs ss) (with_open (with_rest r b) bs ss) c.put-p2.result (view c.put-p2.new.0)
+  rest_leaves : (c : tie.After-put_p-2) → Holds (w (from_rest c.before.before.before)) b bs ss
+      → let r = from_rest c.before.before.before in
+      Leaves (capacity (w r)) (with_open (with_initial r b) bs ss) (with_open (with_rest r b) bs ss) c.put_p-2.result (view c.put_p-2.new.w)
   rest_leaves c H =
-      let m = initial_of c in
-      left_by _ _ m.put-p.last.0 (w (from_initial m)) (same_initial m) refl refl (c.put-p2.ensures.0 _ bs ss (initial_put c.before.before H))
+      let m = initial_of c.before.before.before in
+      left_by _ _ m.put_p.new.w (w (from_initial m)) (same_initial m) refl refl (c.put_p-2.ensures.0 _ bs ss (initial_put c.before.before H))
 
-  rest_put : (c : tie.Else2)
-      → let m = c.before.before.before in Holds (w (from_rest m)) b bs ss → Holds m.put-p2.new.0 (with_rest (from_rest m) b) bs ss
+  rest_put : (c : tie.Else-not-put_p-2)
+      → let m = c in Holds (w (from_rest m.before.before.before)) b bs ss → Holds m.put_p-2.new.w (with_rest (from_rest m.before.before.before) b) bs ss
   rest_put c H =
-      let m = c.before.before.before in
-      held_by _ _ (w (from_rest m)) m.put-p2.new.0 (sym (same_rest m)) ((rest_leaves m H).held (not-false _ c.if2.false))
+      let m = c in
+      held_by _ _ (w (from_rest m.before.before.before)) m.put_p-2.new.w (sym (same_rest m.before.before.before)) ((rest_leaves m H).held (not-false _ c.if-not-put_p-2.false))
 
 -- ── the branch of which the contract speaks ──
 abbrev b₀ : Reading → Stored
-b₀ r = (start r).pre.0.0
+b₀ r = (start r).requires.0.0
 
 opened : (r : Reading) → Holds (w r) (b₀ r) (start r).requires.0.1 (start r).requires.0.2
 opened r = (start r).requires.0.3
 
 -- ── the needs ──
-open-branch-requires : tie.Need-open-branch-requires
-open-branch-requires c κs = search rules
+open_branch-b-requires : tie.Need-open_branch-b-requires
+open_branch-b-requires c κs = search rules
 
-remove-p-requires : tie.Need-remove-p-requires
-remove-p-requires c κs = let s = start c.before in (s.pre.0, λ b bs ss H. (s.pre.1.0 b bs ss H).0)
+remove_p-requires : tie.Need-remove_p-requires
+remove_p-requires c κs = let s = start c.before in (s.requires.0, λ b bs ss H. (s.requires.1.0 b bs ss H).0)
 
-put-p-requires : tie.Need-put-p-requires
-put-p-requires c κs =
-    let m = c.before.before.before in
-    let r = from_remove m in
-    ((_, _, _, removed m (opened r)), (start r).pre.1.1.1.0)
+put_p-requires : tie.Need-put_p-requires
+put_p-requires c κs =
+    let m = c in
+    let r = from_remove m.before.before.before in
+    ((_, _, _, removed m (opened r)), (start r).requires.1.1.1.0)
 
-same_length : tie.Need-same-length
-same_length c = same_initial c.before.before.before
+shape_of-w-then-not-put_p : tie.Need-shape_of-w-then-not-put_p
+shape_of-w-then-not-put_p c = same_initial c.before.before.before
 
-returns : tie.Need-returns
-returns c =
-    let m = c.before.before.before in
-    let r = from_initial m in
-    (λ b bs ss H. no_initial (capacity (w r)) (i r) (initial r) (rest r) b bs ss (initial_leaves m H) (not-true _ c.if1.true), outside_initial m)
+returns-then-not-put_p : tie.Need-returns-then-not-put_p
+returns-then-not-put_p c =
+    let m = c in
+    let r = from_initial m.before.before.before in
+    (λ b bs ss H. no_initial (capacity (w r)) (i r) (initial r) (rest r) b bs ss (initial_leaves m H) (not-true _ c.if-not-put_p.true), outside_initial m.before.before.before)
 
-put-p-requires-2 : tie.Need-put-p-requires-2
-put-p-requires-2 c κs =
+put_p-requires-2 : tie.Need-put_p-requires-2
+put_p-requires-2 c κs =
     let r = from_initial c.before.before.before.before in
-    ((_, _, _, initial_put c.before (opened r)), (start r).pre.1.1.1.1)
+    ((_, _, _, initial_put c.before (opened r)), (start r).requires.1.1.1.1)
 
-same-length-2 : tie.Need-same-length-2
-same-length-2 c = same_rest c.before.before.before
+shape_of-w-then-not-put_p-2 : tie.Need-shape_of-w-then-not-put_p-2
+shape_of-w-then-not-put_p-2 c = same_rest c.before.before.before
 
-returns-2 : tie.Need-returns-2
-returns-2 c =
-    let m = c.before.before.before in
-    let r = from_rest m in (
-      λ b bs ss H. no_rest (capacity (w r)) (i r) (initial r) (rest r) b bs ss (initial_leaves (initial_of m) H) (not-false _ m.before.before.if1.false)
-          (rest_leaves m H) (not-true _ c.if2.true),
-      outside_rest m,
+returns-then-not-put_p-2 : tie.Need-returns-then-not-put_p-2
+returns-then-not-put_p-2 c =
+    let m = c in
+    let r = from_rest m.before.before.before in (
+      λ b bs ss H. no_rest (capacity (w r)) (i r) (initial r) (rest r) b bs ss (initial_leaves (initial_of m.before.before.before) H) (not-false _ m.if-not-put_p.false)
+          (rest_leaves m H) (not-true _ c.if-not-put_p-2.true),
+      outside_rest m.before.before.before,
     )
 
-cast-keep-open : tie.Need-overflow-cast-keep-open
-cast-keep-open c = search rules
+overflow_cast-b : tie.Need-overflow_cast-b
+overflow_cast-b c = search rules
 
-sub-keep-open : tie.Need-overflow-sub-keep-open
-sub-keep-open c =
+overflow_sub-b : tie.Need-overflow_sub-b
+overflow_sub-b c =
     let r = from_rest c.before.before.before.before.before in
-    omega (arith, count_is r (opened r), ((start r).pre.1.0 _ _ _ (opened r)).0)
+    omega (arith, count_is r (opened r), ((start r).requires.1.0 _ _ _ (opened r)).0)
 
-keep-open-requires : tie.Need-keep-open-requires
-keep-open-requires c κs =
+keep_open-requires : tie.Need-keep_open-requires
+keep_open-requires c κs =
     let r = from_rest c.before.before.before.before.before in
     let H = rest_put c.before.before (opened r) in
-    let h = ((start r).pre.1.0 _ _ _ (opened r)).0 in
+    let h = ((start r).requires.1.0 _ _ _ (opened r)).0 in
     let p = count_is r (opened r) in (
       (_, _, _, H),
       (
         λ b' bs ss H'. (omega (arith, h, p), omega (arith, p, of_every (λ P Q. length (with_rest r (b₀ r)).P ≡ length P) H refl b' bs ss H', length_aside (i r) (initial r) (rest r) (b₀ r) h)),
-        ((start r).pre.1.1.0, (start r).pre.1.1.1.0),
+        ((start r).requires.1.1.0, (start r).requires.1.1.1.0),
       ),
     )
 
-same-length-3 : tie.Need-same-length-3
-same-length-3 c = let k = c.before.before in k.keep-open.auto.0 ∙ same_rest (rest_of k)
+shape_of-w : tie.Need-shape_of-w
+shape_of-w c = let k = c in k.keep_open.auto.w ∙ same_rest (rest_of k.before.before)
 
-returns-3 : tie.Need-returns-3
-returns-3 c =
-    let k = c.before.before in
-    let m = rest_of k in
+returns : tie.Need-returns
+returns c =
+    let k = c in
+    let m = rest_of k.before.before in
     let r = from_rest m in (
-      λ b bs ss H. let h = (start r).pre.1.0 b bs ss H in
-          let n : r.open-branch.result.p - 1 + 1 ≡ length b.P = omega (arith, count_is r H, h.0) in
-          left_by _ _ m.put-p2.last.0 (w r) (same_rest m)
-          (stops_aside (capacity (w r)) (i r) (initial r) (rest r) b bs ss (rest_leaves m H) (not-false _ k.before.before.before.if2.false))
+      λ b bs ss H. let h = (start r).requires.1.0 b bs ss H in
+          let n : r.open_branch-b.result.p - 1 + 1 ≡ length b.P = omega (arith, count_is r H, h.0) in
+          left_by _ _ m.put_p-2.new.w (w r) (same_rest m)
+          (stops_aside (capacity (w r)) (i r) (initial r) (rest r) b bs ss (rest_leaves m H) (not-false _ k.if-not-put_p-2.false))
           (ap (λ (x : Stored). with_open x (with_rest r b ∷ bs) ss) (kept_aside (i r) _ (f r) (initial r) (rest r) b h.0 n h.1 h.2 h.3))
-          (k.keep-open.ensures.0 _ bs ss (rest_put k.before.before.before H)),
-      k.keep-open.ensures.1 ∙ outside_rest m,
+          (k.keep_open.ensures.0 _ bs ss (rest_put k.before.before.before H)),
+      k.keep_open.ensures.1 ∙ outside_rest m,
     )
 
 pub split_spec : {M : Type 1} → statement M
 split_spec =
     tie.close
     (tie.spec
-    open-branch-requires
-    remove-p-requires
-    put-p-requires
-    same_length
-    returns
-    put-p-requires-2
-    same-length-2
-    returns-2
-    cast-keep-open
-    sub-keep-open
-    keep-open-requires
-    same-length-3
-    returns-3)
+    open_branch-b-requires
+    remove_p-requires
+    put_p-requires
+    shape_of-w-then-not-put_p
+    returns-then-not-put_p
+    put_p-requires-2
+    shape_of-w-then-not-put_p-2
+    returns-then-not-put_p-2
+    overflow_cast-b
+    overflow_sub-b
+    keep_open-requires
+    shape_of-w
+    returns)

@@ -21,9 +21,9 @@ use Rattle.steps.proofs.prepare.Tie as tie
 
 -- ── the places, and the ways back from one to another ──
 abbrev entry : tie.After-choose → tie.Start
-entry c = c.before.before.before.before.before.before
+entry c = c.before.before.before.before.before
 
-abbrev pivot_chosen : tie.After-with-pivot → tie.After-k
+abbrev pivot_chosen : tie.After-with_pivot → tie.In-Pivot-2
 pivot_chosen c = c.before.before.before.before.before.before
 
 -- ── what is known ──
@@ -33,22 +33,22 @@ Entry s b bs ss = HeldIn s.args.w.now (with_open b bs ss)
 abbrev limits : tie.Start → Limits
 limits s = limits_in (capacity s.args.w.now)
 
-abbrev Led : tie.After-k → Stored → Type 0
+abbrev Led : tie.In-Pivot-2 → Stored → Type 0
 Led c b =
-    let g = c.k.given.0 in
+    let g = c.k-1.given.0 in
     (rule_of (branch_of b) ≡ rule_with g.0 (chosen b g.1.0) (branch_of b)) × Leads g.0 g.1.0 b
 
-is_pivot : (c : tie.After-k) (b : Stored) (bs ss : List Stored) → Entry (entry c.before.before) b bs ss
+is_pivot : (c : tie.In-Pivot-2) (b : Stored) (bs ss : List Stored) → Entry (entry c.before.before) b bs ss
     → Ready (entry c.before.before).args.p (with_open b bs ss) → Led c b
 is_pivot c b bs ss H R =
-    let m = c.before.before in
-    chosen_pivot (entry m).args.p _ _ b.P b.Q b.T R.sound.branches.0.in_p R.monic.0 R.nonzero.0
-    (sym (m.choose.ensures b bs ss H) ∙ c.k.given.1)
+    let m = c in
+    chosen_pivot (entry m.before.before).args.p _ _ b.P b.Q b.T R.sound.branches.0.in_p R.monic.0 R.nonzero.0
+    (sym (m.choose.ensures b bs ss H) ∙ c.k-1.given.1)
 
 -- ── the needs ──
 choose-requires : tie.Need-choose-requires
 choose-requires c κs =
-    let s = c.before.before.before.before.before in
+    let s = c in
     let p = s.args.p in
     let o = s.requires.0.1 in
     let h = o.4.sound.branches.0 in
@@ -56,79 +56,79 @@ choose-requires c κs =
     let in_q = all_hold p o.0.Q h.in_q in
     ((o.0, o.1, o.2, o.3), of_every (λ P Q. (p : ℕ) × AllHold p P × AllHold p Q) o.3 (p, in_p, in_q))
 
-enum_told : tie.Need-enum-told
-enum_told c = search rules
+enum_told-1 : tie.Need-enum_told-1
+enum_told-1 c = search rules
 
 drop-requires : tie.Need-drop-requires
 drop-requires c κs = search rules
 
-same_length : tie.Need-same-length
-same_length c = search rules
+shape_of-w-in-Drop : tie.Need-shape_of-w-in-Drop
+shape_of-w-in-Drop c = search rules
 
-returns : tie.Need-returns
-returns c = (
+returns-in-Drop : tie.Need-returns-in-Drop
+returns-in-Drop c = (
   (λ b bs ss H R.
-      let d = c.before.before in
-      let t = d.before.before in
-      let m = t.before.before in
-      let p = (entry m).args.p in
-      let l = limits (entry m) in
-      let e = chosen_drop (branch_of b) (sym (m.choose.ensures b bs ss H) ∙ t.enum_told.given.1) in
+      let d = c in
+      let t = d in
+      let m = t in
+      let p = (entry m.before.before.before.before.before.before).args.p in
+      let l = limits (entry m.before.before.before.before.before.before) in
+      let e = chosen_drop (branch_of b) (sym (m.choose.ensures b bs ss H) ∙ t.enum_told-1.given.1) in
       (record { branches = bs; systems = ss }, step_by l p b bs ss _ e ∙ drop_state l p b bs ss, d.drop.ensures.0 b bs ss H, ready_dropped l p b bs ss R)),
-  (begun _ tt, c.before.before.drop.ensures.1),
+  (begun _ tt, c.drop.ensures.1),
 )
 
-enum-told-2 : tie.Need-enum-told-2
-enum-told-2 c = search rules
+enum_told-in-List : tie.Need-enum_told-in-List
+enum_told-in-List c = search rules
 
 list-requires : tie.Need-list-requires
 list-requires c κs = search rules
 
-same-length-2 : tie.Need-same-length-2
-same-length-2 c = search rules
+shape_of-w-in-List : tie.Need-shape_of-w-in-List
+shape_of-w-in-List c = search rules
 
-returns-2 : tie.Need-returns-2
-returns-2 c = (
+returns-in-List : tie.Need-returns-in-List
+returns-in-List c = (
   (λ b bs ss H R.
-      let d = c.before.before in
-      let t = d.before.before in
-      let m = t.before.before in
-      let p = (entry m).args.p in
-      let l = limits (entry m) in
-      let e = chosen_list (branch_of b) (sym (m.choose.ensures b bs ss H) ∙ t.enum-told2.given.1) in
+      let d = c in
+      let t = d in
+      let m = t in
+      let p = (entry m.before.before.before.before.before.before).args.p in
+      let l = limits (entry m.before.before.before.before.before.before) in
+      let e = chosen_list (branch_of b) (sym (m.choose.ensures b bs ss H) ∙ t.enum_told-in-List-1.given.1) in
       let ready = ready_listed l p b bs ss R (map_none b.P e.1) in
       (record { branches = bs; systems = b ∷ ss }, step_by l p b bs ss _ e.0 ∙ list_state l p b bs ss, d.list.ensures.0 b bs ss H, ready)),
-  (begun _ tt, c.before.before.list.ensures.1),
+  (begun _ tt, c.list.ensures.1),
 )
 
-enum-known-k : tie.Need-enum-known-k
-enum-known-k c = search rules
+enum_known-k : tie.Need-enum_known-k
+enum_known-k c = search rules
 
-with-pivot-requires : tie.Need-with-pivot-requires
-with-pivot-requires c κs =
-    let k = c.before.before.before.before.before in
-    let s = entry k.before.before in
-    let o = s.pre.0.1 in
-    ((s.pre.0.0, (o.0, o.1, o.2, o.3, o.4, (is_pivot k o.0 o.1 o.2 o.3 o.4).1)), s.pre.1)
+with_pivot-requires : tie.Need-with_pivot-requires
+with_pivot-requires c κs =
+    let k = c in
+    let s = entry k.before.before.before.before.before.before.before in
+    let o = s.requires.0.1 in
+    ((s.requires.0.0, (o.0, o.1, o.2, o.3, o.4, (is_pivot k.before.before.before.before.before o.0 o.1 o.2 o.3 o.4).1)), s.requires.1)
 
-same-length-3 : tie.Need-same-length-3
-same-length-3 c = search rules
+shape_of-w-in-Pivot : tie.Need-shape_of-w-in-Pivot
+shape_of-w-in-Pivot c = search rules
 
-same-length-4 : tie.Need-same-length-4
-same-length-4 c = search rules
+shape_of-t-in-Pivot : tie.Need-shape_of-t-in-Pivot
+shape_of-t-in-Pivot c = search rules
 
-same-length-5 : tie.Need-same-length-5
-same-length-5 c = search rules
+shape_of-i-in-Pivot : tie.Need-shape_of-i-in-Pivot
+shape_of-i-in-Pivot c = search rules
 
-same-length-6 : tie.Need-same-length-6
-same-length-6 c = search rules
+shape_of-r-in-Pivot : tie.Need-shape_of-r-in-Pivot
+shape_of-r-in-Pivot c = search rules
 
-returns-3 : tie.Need-returns-3
-returns-3 c =
-    let w = c.before.before.before.before.before.before.before.before in
-    let u = w.with-pivot in (
+returns-in-Pivot : tie.Need-returns-in-Pivot
+returns-in-Pivot c =
+    let w = c in
+    let u = w.with_pivot in (
       (λ b bs ss H R.
-          let k = pivot_chosen w in
+          let k = pivot_chosen w.before.before.before.before.before.before.before.before in
           let s = entry k.before.before in
           let p = s.args.p in
           let l = limits s in
@@ -144,18 +144,18 @@ prepare_spec =
     tie.close
     (tie.spec
     choose-requires
-    enum_told
+    enum_told-1
     drop-requires
-    same_length
-    returns
-    enum-told-2
+    shape_of-w-in-Drop
+    returns-in-Drop
+    enum_told-in-List
     list-requires
-    same-length-2
-    returns-2
-    enum-known-k
-    with-pivot-requires
-    same-length-3
-    same-length-4
-    same-length-5
-    same-length-6
-    returns-3)
+    shape_of-w-in-List
+    returns-in-List
+    enum_known-k
+    with_pivot-requires
+    shape_of-w-in-Pivot
+    shape_of-t-in-Pivot
+    shape_of-i-in-Pivot
+    shape_of-r-in-Pivot
+    returns-in-Pivot)

@@ -13,137 +13,137 @@ use Rattle.stored.proofs.Laws.{pairs_of_take}
 use Rattle.stored.proofs.load.Statement.{statement}
 use Rattle.stored.proofs.load.Tie as tie
 
-abbrev invariant_loop : tie.invariant_loop
-invariant_loop w at out₀ n i₀ out i = (i ≤ n) × (length out ≡ length out₀) × (take (2 * i) out ≡ pairs_of (take i (drop (at + 1) (view w))))
+abbrev invariant-loop-i : tie.invariant-loop-i
+invariant-loop-i w at out₀ n i₀ out i = (i ≤ n) × (length out ≡ length out₀) × (take (2 * i) out ≡ pairs_of (take i (drop (at + 1) (view w))))
     × (drop (2 * n) out ≡ drop (2 * n) out₀)
 
-abbrev decreases_loop : tie.decreases_loop
-decreases_loop w at out₀ n i₀ out i = n - i
+abbrev decreases-loop-i : tie.decreases-loop-i
+decreases-loop-i w at out₀ n i₀ out i = n - i
 
-get0-requires : tie.Need-get0-requires invariant_loop decreases_loop
+get0-n-requires : tie.Need-get0-n-requires invariant-loop-i decreases-loop-i
+get0-n-requires c κs = omega arith
+
+overflow_cast-n : tie.Need-overflow_cast-n invariant-loop-i decreases-loop-i
+overflow_cast-n c = omega arith
+
+loop-i-init : tie.Need-loop-i-init invariant-loop-i decreases-loop-i
+unfolding pairs_of
+loop-i-init c = (omega arith, refl, refl, refl)
+
+overflow_add-at : tie.Need-overflow_add-at invariant-loop-i decreases-loop-i
+overflow_add-at c = omega arith
+
+overflow_add-at-in-loop-i : tie.Need-overflow_add-at-in-loop-i invariant-loop-i decreases-loop-i
+overflow_add-at-in-loop-i c = omega arith
+
+get0-requires : tie.Need-get0-requires invariant-loop-i decreases-loop-i
 get0-requires c κs = omega arith
 
-cast-n : tie.Need-overflow-cast-n invariant_loop decreases_loop
-cast-n c = omega arith
+overflow_cast-out : tie.Need-overflow_cast-out invariant-loop-i decreases-loop-i
+overflow_cast-out c = omega arith
 
-loop-holds : tie.Need-loop-init invariant_loop decreases_loop
-unfolding pairs_of
-loop-holds c = (omega arith, refl, refl, refl)
+overflow_mul-out : tie.Need-overflow_mul-out invariant-loop-i decreases-loop-i
+overflow_mul-out c = omega arith
 
-add-get0 : tie.Need-overflow-add-get0 invariant_loop decreases_loop
-add-get0 c = omega arith
+offset_bounds-out-i : tie.Need-offset_bounds-out-i invariant-loop-i decreases-loop-i
+offset_bounds-out-i c = omega arith
 
-add-get0-2 : tie.Need-overflow-add-get0-2 invariant_loop decreases_loop
-add-get0-2 c = omega arith
+bounds-out-i : tie.Need-bounds-out-i invariant-loop-i decreases-loop-i
+bounds-out-i c = omega arith
 
-get0-requires-2 : tie.Need-get0-requires-2 invariant_loop decreases_loop
-get0-requires-2 c κs = omega arith
+overflow_add-at-in-loop-i-2 : tie.Need-overflow_add-at-in-loop-i-2 invariant-loop-i decreases-loop-i
+overflow_add-at-in-loop-i-2 c = omega arith
 
-cast-out : tie.Need-overflow-cast-out invariant_loop decreases_loop
-cast-out c = omega arith
+overflow_add-at-in-loop-i-3 : tie.Need-overflow_add-at-in-loop-i-3 invariant-loop-i decreases-loop-i
+overflow_add-at-in-loop-i-3 c = omega arith
 
-mul-out : tie.Need-overflow-mul-out invariant_loop decreases_loop
-mul-out c = omega arith
-
-mul-out-2 : tie.Need-overflow-mul-out-2 invariant_loop decreases_loop
-mul-out-2 c = omega arith
-
-slice-write-out : tie.Need-slice-write-out invariant_loop decreases_loop
-slice-write-out c = omega arith
-
-add-monomial : tie.Need-overflow-add-monomial invariant_loop decreases_loop
-add-monomial c = omega arith
-
-add-monomial-2 : tie.Need-overflow-add-monomial-2 invariant_loop decreases_loop
-add-monomial-2 c = omega arith
-
-monomial-requires : tie.Need-monomial-requires invariant_loop decreases_loop
+monomial-requires : tie.Need-monomial-requires invariant-loop-i decreases-loop-i
 monomial-requires c κs = omega arith
 
-mul-out-3 : tie.Need-overflow-mul-out-3 invariant_loop decreases_loop
-mul-out-3 c = omega arith
+overflow_mul-out-in-loop-i : tie.Need-overflow_mul-out-in-loop-i invariant-loop-i decreases-loop-i
+overflow_mul-out-in-loop-i c = omega arith
 
-add-out : tie.Need-overflow-add-out invariant_loop decreases_loop
-add-out c = omega arith
+overflow_add-out : tie.Need-overflow_add-out invariant-loop-i decreases-loop-i
+overflow_add-out c = omega arith
 
-mul-out-4 : tie.Need-overflow-mul-out-4 invariant_loop decreases_loop
-mul-out-4 c = omega arith
+offset_bounds-out-i-in-loop-i : tie.Need-offset_bounds-out-i-in-loop-i invariant-loop-i decreases-loop-i
+offset_bounds-out-i-in-loop-i c = omega arith
 
-slice-write-out-2 : tie.Need-slice-write-out-2 invariant_loop decreases_loop
-slice-write-out-2 c = simp length-set (omega arith)
+bounds-out-i-in-loop-i : tie.Need-bounds-out-i-in-loop-i invariant-loop-i decreases-loop-i
+bounds-out-i-in-loop-i c = simp length-set (omega arith)
 
-add-i : tie.Need-overflow-add-i invariant_loop decreases_loop
-add-i c = omega arith
+overflow_add-i : tie.Need-overflow_add-i invariant-loop-i decreases-loop-i
+overflow_add-i c = omega arith
 
-loop-less : tie.Need-loop-smaller invariant_loop decreases_loop
-loop-less c = omega arith
+loop-i-smaller : tie.Need-loop-i-smaller invariant-loop-i decreases-loop-i
+loop-i-smaller c = omega arith
 
-loop-again : tie.Need-loop-preserved invariant_loop decreases_loop
-loop-again c =
-    let turn = c.before.before.before in
-    let a = turn.before.before.before.before.args in
+loop-i-preserved : tie.Need-loop-i-preserved invariant-loop-i decreases-loop-i
+loop-i-preserved c =
+    let turn = c in
+    let a = turn.args in
     let v = view a.w.now in
-    let i = turn.loop.i in
-    let out = turn.loop.out in
-    let n = turn.before.get0.result in
-    let x = c.before.get02.result in
+    let i = turn.loop-i.i in
+    let out = turn.loop-i.out in
+    let n = turn.get0.result in
+    let x = c.get0.result in
     let y = c.monomial.result in
     let twice : 2 * (i + 1) ≡ 2 * i + 2 = omega arith in (
       omega arith,
-      simp length-set turn.loop.invariant.1,
+      simp length-set turn.loop-i.invariant.1,
       ap (λ (k : ℕ). take k (set (set out (2 * i) x) (2 * i + 1) y)) twice
           ∙ take_set_pair out (2 * i) x y (omega arith)
-          ∙ (λ t. turn.loop.invariant.2 t ++ (c.before.get02.ensures t ∷ c.monomial.ensures t ∷ []))
+          ∙ (λ t. turn.loop-i.invariant.2 t ++ (c.get0.ensures t ∷ c.monomial.ensures t ∷ []))
           ∙ sym (pairs_of_take v (a.at + 1) i (omega (arith, length_view a.w.now))),
-      drop-set-lt (2 * n) (set out (2 * i) x) (2 * i + 1) y (omega arith) ∙ drop-set-lt (2 * n) out (2 * i) x (omega arith) ∙ turn.loop.invariant.3,
+      drop-set-lt (2 * n) (set out (2 * i) x) (2 * i + 1) y (omega arith) ∙ drop-set-lt (2 * n) out (2 * i) x (omega arith) ∙ turn.loop-i.invariant.3,
     )
 
-mul-result : tie.Need-overflow-mul-result invariant_loop decreases_loop
-mul-result c = omega arith
+overflow_mul-result : tie.Need-overflow_mul-result invariant-loop-i decreases-loop-i
+overflow_mul-result c = omega arith
 
-same_length : tie.Need-same-length invariant_loop decreases_loop
-same_length c = omega arith
+shape_of-out : tie.Need-shape_of-out invariant-loop-i decreases-loop-i
+shape_of-out c = omega arith
 
-returns : tie.Need-returns invariant_loop decreases_loop
+returns : tie.Need-returns invariant-loop-i decreases-loop-i
 unfolding words_at
 returns c =
-    let a = c.before.before.before.before.before.args in
+    let a = c.args in
     let v = view a.w.now in
-    let n = c.before.before.get0.result in
-    let is : n ≡ size_at v a.at = c.before.before.get0.ensures in
-    let done : n ≡ c.before.loop.i = omega arith in (
+    let n = c.get0-n.result in
+    let is : n ≡ size_at v a.at = c.get0-n.ensures in
+    let done : n ≡ c.loop-i.i = omega arith in (
       omega arith,
-      ap (λ (k : ℕ). take (2 * k) c.before.loop.out) done ∙ c.before.loop.invariant.2
+      ap (λ (k : ℕ). take (2 * k) c.loop-i.out) done ∙ c.loop-i.invariant.2
           ∙ ap (λ (k : ℕ). pairs_of (take k (drop (a.at + 1) v))) (sym done ∙ is),
-      c.before.loop.invariant.3,
+      c.loop-i.invariant.3,
     )
 
 pub load_spec : {M : Type 1} → statement M
 load_spec =
     tie.close
     (tie.spec
-    invariant_loop
-    decreases_loop
+    invariant-loop-i
+    decreases-loop-i
+    get0-n-requires
+    overflow_cast-n
+    loop-i-init
+    overflow_add-at
+    overflow_add-at-in-loop-i
     get0-requires
-    cast-n
-    loop-holds
-    add-get0
-    add-get0-2
-    get0-requires-2
-    cast-out
-    mul-out
-    mul-out-2
-    slice-write-out
-    add-monomial
-    add-monomial-2
+    overflow_cast-out
+    overflow_mul-out
+    offset_bounds-out-i
+    bounds-out-i
+    overflow_add-at-in-loop-i-2
+    overflow_add-at-in-loop-i-3
     monomial-requires
-    mul-out-3
-    add-out
-    mul-out-4
-    slice-write-out-2
-    add-i
-    loop-less
-    loop-again
-    mul-result
-    same_length
+    overflow_mul-out-in-loop-i
+    overflow_add-out
+    offset_bounds-out-i-in-loop-i
+    bounds-out-i-in-loop-i
+    overflow_add-i
+    loop-i-smaller
+    loop-i-preserved
+    overflow_mul-result
+    shape_of-out
     returns)

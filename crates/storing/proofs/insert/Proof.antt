@@ -14,32 +14,32 @@ use Rattle.storing.proofs.Laws.{moved_then_stored}
 use Rattle.storing.proofs.insert.Statement.{statement}
 use Rattle.storing.proofs.insert.Tie as tie
 
-sub-move-up : tie.Need-overflow-sub-move-up
-sub-move-up c = search rules
+overflow_sub-end : tie.Need-overflow_sub-end
+overflow_sub-end c = search rules
 
-add-move-up : tie.Need-overflow-add-move-up
-add-move-up c = search rules
+overflow_add-f : tie.Need-overflow_add-f
+overflow_add-f c = search rules
 
-add-move-up-2 : tie.Need-overflow-add-move-up-2
-add-move-up-2 c = search rules
+overflow_add-at : tie.Need-overflow_add-at
+overflow_add-at c = search rules
 
-move-up-requires : tie.Need-move-up-requires
-move-up-requires c κs = search rules
+move_up-requires : tie.Need-move_up-requires
+move_up-requires c κs = search rules
 
 store-requires : tie.Need-store-requires
 store-requires c κs = search rules
 
-same_length : tie.Need-same-length
-same_length c = search rules
+shape_of-w : tie.Need-shape_of-w
+shape_of-w c = search rules
 
 returns : tie.Need-returns
 returns c =
-    let start = c.before.before.before.before.before.before.before.before.before.before in
+    let start = c in
     let a = start.args in
     let b = poly_records a.f.now in
     let n = length a.f.now / 2 + 1 in
-    let stored = c.before.before.store.ensures in
-    let up = c.before.before.before.before.before.before.move_up.ensures in (
+    let stored = c.store.ensures in
+    let up = c.move_up.ensures in (
       stored.0 ∙ ap (λ (v : List Rec). paste v a.at b n) up.0
           ∙ moved_then_stored (view a.w.now) b a.at (a.end - a.at) n (length_poly_records a.f.now) (omega (arith, length_view a.w.now, start.requires.1)),
       stored.1 ∙ up.1,
@@ -47,12 +47,4 @@ returns c =
 
 pub insert_spec : {M : Type 1} → statement M
 insert_spec =
-    tie.close
-    (tie.spec
-    sub-move-up
-    add-move-up
-    add-move-up-2
-    move-up-requires
-    store-requires
-    same_length
-    returns)
+    tie.close (tie.spec overflow_sub-end overflow_add-f overflow_add-at move_up-requires store-requires shape_of-w returns)

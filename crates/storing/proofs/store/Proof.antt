@@ -12,99 +12,99 @@ use Rattle.storing.proofs.Laws.{paste_turn, getD_term_records, head_then_terms}
 use Rattle.storing.proofs.store.Statement.{statement}
 use Rattle.storing.proofs.store.Tie as tie
 
-abbrev invariant_loop : tie.invariant_loop
-invariant_loop w₀ at f n i₀ w i = (i ≤ n) × (length w ≡ length w₀) × RecordsBecome (paste (view w₀) (at + 1) (term_records f) i) w₀ w
+abbrev invariant-loop-i : tie.invariant-loop-i
+invariant-loop-i w₀ at f n i₀ w i = (i ≤ n) × (length w ≡ length w₀) × RecordsBecome (paste (view w₀) (at + 1) (term_records f) i) w₀ w
 
-abbrev decreases_loop : tie.decreases_loop
-decreases_loop w₀ at f n i₀ w i = n - i
+abbrev decreases-loop-i : tie.decreases-loop-i
+decreases-loop-i w₀ at f n i₀ w i = n - i
 
-cast-write : tie.Need-overflow-cast-write invariant_loop decreases_loop
-cast-write c = omega arith
+overflow_cast-n : tie.Need-overflow_cast-n invariant-loop-i decreases-loop-i
+overflow_cast-n c = omega arith
 
-write-requires : tie.Need-write-requires invariant_loop decreases_loop
+write-requires : tie.Need-write-requires invariant-loop-i decreases-loop-i
 write-requires c κs = omega arith
 
-loop-holds : tie.Need-loop-init invariant_loop decreases_loop
-loop-holds c =
-    let v = view c.before.before.write.new.0 in
-    let a = c.before.before.before.before.before.before.args in (omega arith, refl, (paste-zero v (a.at + 1) (term_records a.f.now), refl))
+loop-i-init : tie.Need-loop-i-init invariant-loop-i decreases-loop-i
+loop-i-init c =
+    let v = view c.write.new.w in
+    let a = c.args in (omega arith, refl, (paste-zero v (a.at + 1) (term_records a.f.now), refl))
 
-mul-m : tie.Need-overflow-mul-m invariant_loop decreases_loop
-mul-m c = omega arith
+overflow_mul-m : tie.Need-overflow_mul-m invariant-loop-i decreases-loop-i
+overflow_mul-m c = omega arith
 
-add-m : tie.Need-overflow-add-m invariant_loop decreases_loop
-add-m c = omega arith
+overflow_add-m : tie.Need-overflow_add-m invariant-loop-i decreases-loop-i
+overflow_add-m c = omega arith
 
-mul-m-2 : tie.Need-overflow-mul-m-2 invariant_loop decreases_loop
-mul-m-2 c = omega arith
+offset_bounds-f-i : tie.Need-offset_bounds-f-i invariant-loop-i decreases-loop-i
+offset_bounds-f-i c = omega arith
 
-shared-slice-read-m : tie.Need-shared-slice-read-m invariant_loop decreases_loop
-shared-slice-read-m c = omega arith
+bounds-f-i : tie.Need-bounds-f-i invariant-loop-i decreases-loop-i
+bounds-f-i c = omega arith
 
-cast-high : tie.Need-overflow-cast-high invariant_loop decreases_loop
-cast-high c = omega (arith, c.shared-slice-known2.given (2 * c.before.before.loop.i + 1))
+overflow_cast-high : tie.Need-overflow_cast-high invariant-loop-i decreases-loop-i
+overflow_cast-high c = omega (arith, c.shared_slice_known-in-loop-i-1.given (2 * c.loop-i.i + 1))
 
-cast-low : tie.Need-overflow-cast-low invariant_loop decreases_loop
-cast-low c = omega arith
+overflow_cast-low : tie.Need-overflow_cast-low invariant-loop-i decreases-loop-i
+overflow_cast-low c = omega arith
 
-add-write : tie.Need-overflow-add-write invariant_loop decreases_loop
-add-write c = omega arith
+overflow_add-at : tie.Need-overflow_add-at invariant-loop-i decreases-loop-i
+overflow_add-at c = omega arith
 
-add-write-2 : tie.Need-overflow-add-write-2 invariant_loop decreases_loop
-add-write-2 c = omega arith
+overflow_add-at-in-loop-i : tie.Need-overflow_add-at-in-loop-i invariant-loop-i decreases-loop-i
+overflow_add-at-in-loop-i c = omega arith
 
-mul-write : tie.Need-overflow-mul-write invariant_loop decreases_loop
-mul-write c = omega arith
+overflow_mul-i : tie.Need-overflow_mul-i invariant-loop-i decreases-loop-i
+overflow_mul-i c = omega arith
 
-mul-write-2 : tie.Need-overflow-mul-write-2 invariant_loop decreases_loop
-mul-write-2 c = omega arith
+offset_bounds-f-i-in-loop-i : tie.Need-offset_bounds-f-i-in-loop-i invariant-loop-i decreases-loop-i
+offset_bounds-f-i-in-loop-i c = omega arith
 
-shared-slice-read-write : tie.Need-shared-slice-read-write invariant_loop decreases_loop
-shared-slice-read-write c = omega arith
+bounds-f-i-in-loop-i : tie.Need-bounds-f-i-in-loop-i invariant-loop-i decreases-loop-i
+bounds-f-i-in-loop-i c = omega arith
 
-cast-write-2 : tie.Need-overflow-cast-write-2 invariant_loop decreases_loop
-cast-write-2 c =
-    let start = c.before.before.before.before.before.before.before.before.before.before.before in
-    omega (arith, start.requires.0.coefficients c.before.before.before.before.loop.i)
+overflow_cast-f : tie.Need-overflow_cast-f invariant-loop-i decreases-loop-i
+overflow_cast-f c =
+    let start = c in
+    omega (arith, start.requires.0.coefficients c.loop-i.i)
 
-write-requires-2 : tie.Need-write-requires-2 invariant_loop decreases_loop
-write-requires-2 c κs = omega arith
+write-requires-in-loop-i : tie.Need-write-requires-in-loop-i invariant-loop-i decreases-loop-i
+write-requires-in-loop-i c κs = omega arith
 
-add-i : tie.Need-overflow-add-i invariant_loop decreases_loop
-add-i c = omega arith
+overflow_add-i : tie.Need-overflow_add-i invariant-loop-i decreases-loop-i
+overflow_add-i c = omega arith
 
-loop-less : tie.Need-loop-smaller invariant_loop decreases_loop
-loop-less c = omega arith
+loop-i-smaller : tie.Need-loop-i-smaller invariant-loop-i decreases-loop-i
+loop-i-smaller c = omega arith
 
-loop-again : tie.Need-loop-preserved invariant_loop decreases_loop
-loop-again c =
-    let again = c.before.before.write2 in
-    let turn = c.before.before.before.before.before.before.before in
-    let head = turn.before.before.before.write in
-    let a = turn.before.before.before.before.before.before.before.args in
-    let i = turn.loop.i in
+loop-i-preserved : tie.Need-loop-i-preserved invariant-loop-i decreases-loop-i
+loop-i-preserved c =
+    let again = c.write-in-loop-i in
+    let turn = c in
+    let head = turn.write in
+    let a = turn.args in
+    let i = turn.loop-i.i in
     let f = a.f.now in (
       omega arith,
       omega arith,
       (
-        paste_turn zero_record (view head.new.0) (view turn.loop.w) (view again.new.0) (term_records f) (a.at + 1) i
+        paste_turn zero_record (view head.new.0) (view turn.loop-i.w) (view again.new.0) (term_records f) (a.at + 1) i
             (term_record (get_or f (2 * i) 0) (get_or f (2 * i + 1) 0)) (omega (arith, length_view head.new.0)) (omega (arith, length_term_records f))
-            turn.loop.invariant.2.0 again.ensures.0.0 (getD_term_records f i (omega arith)),
-        again.ensures.0.1 ∙ turn.loop.invariant.2.1,
+            turn.loop-i.invariant.2.0 again.ensures.0.0 (getD_term_records f i (omega arith)),
+        again.ensures.0.1 ∙ turn.loop-i.invariant.2.1,
       ),
     )
 
-same_length : tie.Need-same-length invariant_loop decreases_loop
-same_length c = omega arith
+shape_of-w : tie.Need-shape_of-w invariant-loop-i decreases-loop-i
+shape_of-w c = omega arith
 
-returns : tie.Need-returns invariant_loop decreases_loop
+returns : tie.Need-returns invariant-loop-i decreases-loop-i
 returns c =
-    let put = c.before.before.before.before.write in
-    let a = c.before.before.before.before.before.before.before.before.args in
+    let put = c.write in
+    let a = c.args in
     let S = term_records a.f.now in
     let n = length a.f.now / 2 in
-    let done : c.before.loop.i ≡ n = omega arith in
-    let now = c.before.loop.invariant.2 in (
+    let done : c.loop-i.i ≡ n = omega arith in
+    let now = c.loop-i.invariant.2 in (
       now.0 ∙ (λ t. paste (put.ensures.0.0 t) (a.at + 1) S (done t))
           ∙ head_then_terms (view a.w.now) S (head n) a.at n (omega (arith, length_view a.w.now)),
       now.1 ∙ put.ensures.0.1,
@@ -114,26 +114,26 @@ pub store_spec : {M : Type 1} → statement M
 store_spec =
     tie.close
     (tie.spec
-    invariant_loop
-    decreases_loop
-    cast-write
+    invariant-loop-i
+    decreases-loop-i
+    overflow_cast-n
     write-requires
-    loop-holds
-    mul-m
-    add-m
-    mul-m-2
-    shared-slice-read-m
-    cast-high
-    cast-low
-    add-write
-    add-write-2
-    mul-write
-    mul-write-2
-    shared-slice-read-write
-    cast-write-2
-    write-requires-2
-    add-i
-    loop-less
-    loop-again
-    same_length
+    loop-i-init
+    overflow_mul-m
+    overflow_add-m
+    offset_bounds-f-i
+    bounds-f-i
+    overflow_cast-high
+    overflow_cast-low
+    overflow_add-at
+    overflow_add-at-in-loop-i
+    overflow_mul-i
+    offset_bounds-f-i-in-loop-i
+    bounds-f-i-in-loop-i
+    overflow_cast-f
+    write-requires-in-loop-i
+    overflow_add-i
+    loop-i-smaller
+    loop-i-preserved
+    shape_of-w
     returns)

@@ -13,285 +13,285 @@ use Rattle.sums.proofs.MergeLaws.{turn_f, subst_taken, subst_head, taken_last, t
 use Rattle.sums.proofs.add_multiple.Statement.{statement}
 use Rattle.sums.proofs.add_multiple.Tie as tie
 
-abbrev invariant_loop : tie.invariant_loop
-invariant_loop p c m g f out₀ i₀ j₀ k₀ out i j k = (length out ≡ length out₀) × Head p c m g f out i j k
+abbrev invariant-loop-j : tie.invariant-loop-j
+invariant-loop-j p c m g f out₀ i₀ j₀ k₀ out i j k = (length out ≡ length out₀) × Head p c m g f out i j k
 
-abbrev decreases_loop : tie.decreases_loop
-decreases_loop p c m g f out₀ i₀ j₀ k₀ out i j k = (length f - i) + (length g - j)
+abbrev decreases-loop-j : tie.decreases-loop-j
+decreases-loop-j p c m g f out₀ i₀ j₀ k₀ out i j k = (length f - i) + (length g - j)
 
-loop-holds : tie.Need-loop-init invariant_loop decreases_loop
-loop-holds c =
-    let P = c.before.before.before.requires in
-    let a = c.before.before.before.args in
+loop-j-init : tie.Need-loop-j-init invariant-loop-j decreases-loop-j
+loop-j-init c =
+    let P = c.requires in
+    let a = c.args in
     (refl, start a.p a.c a.m a.g.now a.f.now a.out.now P.1.1.0.1 P.1.0.1 P.1.0.2)
 
-add-e : tie.Need-overflow-add-e invariant_loop decreases_loop
-add-e c = omega arith
+overflow_add-e : tie.Need-overflow_add-e invariant-loop-j decreases-loop-j
+overflow_add-e c = omega arith
 
-mul-e : tie.Need-overflow-mul-e invariant_loop decreases_loop
-mul-e c = omega arith
+offset_bounds-g-j : tie.Need-offset_bounds-g-j invariant-loop-j decreases-loop-j
+offset_bounds-g-j c = omega arith
 
-shared-slice-read-e : tie.Need-shared-slice-read-e invariant_loop decreases_loop
-shared-slice-read-e c = omega arith
+bounds-g-j : tie.Need-bounds-g-j invariant-loop-j decreases-loop-j
+bounds-g-j c = omega arith
 
 -- In a turn: the words that it reads, the coefficient of the next term of the multiple, and its monomial.
-abbrev entry : tie.In-loop invariant_loop decreases_loop → tie.Start invariant_loop decreases_loop
+abbrev entry : tie.In-loop-j invariant-loop-j decreases-loop-j → tie.Start invariant-loop-j decreases-loop-j
 entry c = c.before.before.before.before.before
 
-next : (c : tie.In-loop invariant_loop decreases_loop) → let a = (entry c).args in let j = c.before.loop.j in (get_or a.g.now j 0 < a.p) × Fits 8 a.m (get_or a.g.now (j + 1) 0)
+next : (c : tie.In-loop-j invariant-loop-j decreases-loop-j) → let a = (entry c).args in let j = c.loop-j.j in (get_or a.g.now j 0 < a.p) × Fits 8 a.m (get_or a.g.now (j + 1) 0)
 next c =
     let P = (entry c).requires in
-    let H = c.before.loop.invariant.1 in
-    ((next_canonical H P.1.1.0.0 P.1.0.0 c.loop-test.true).1, (next_fits H P.1.1.0.0 P.1.0.0 c.loop-test.true).0)
+    let H = c.loop-j.invariant.1 in
+    ((next_canonical H P.1.1.0.0 P.1.0.0 c.loop-j-test.true).1, (next_fits H P.1.1.0.0 P.1.0.0 c.loop-j-test.true).0)
 
-small : (c : tie.After-shared-slice-known3 invariant_loop decreases_loop) → let a = (entry c.before).args in Word (a.m + get_or a.g.now (c.before.before.loop.j + 1) 0)
+small : (c : tie.After-shared_slice_known-in-loop-j-1 invariant-loop-j decreases-loop-j) → let a = (entry c.before).args in Word (a.m + get_or a.g.now (c.loop-j.j + 1) 0)
 small c =
     let a = (entry c.before).args in
-    let j = c.before.before.loop.j in
-    fits_below 8 a.m (get_or a.g.now (j + 1) 0) (next c.before).1 (entry c.before).fits.m.fits (c.shared-slice-known3.given (j + 1)).fits
+    let j = c.loop-j.j in
+    fits_below 8 a.m (get_or a.g.now (j + 1) 0) (next c.before).1 (entry c.before).fits.m.fits (c.shared_slice_known-in-loop-j-1.given (j + 1)).fits
 
-add-e-2 : tie.Need-overflow-add-e-2 invariant_loop decreases_loop
-add-e-2 c = record { fits = small c }
+overflow_add-e-in-loop-j : tie.Need-overflow_add-e-in-loop-j invariant-loop-j decreases-loop-j
+overflow_add-e-in-loop-j c = record { fits = small c }
 
-add-if2 : tie.Need-overflow-add-if2 invariant_loop decreases_loop
-add-if2 c = omega arith
+overflow_add-i : tie.Need-overflow_add-i invariant-loop-j decreases-loop-j
+overflow_add-i c = omega arith
 
-mul-if2 : tie.Need-overflow-mul-if2 invariant_loop decreases_loop
-mul-if2 c = omega arith
+offset_bounds-f-i : tie.Need-offset_bounds-f-i invariant-loop-j decreases-loop-j
+offset_bounds-f-i c = omega arith
 
-shared-slice-read-if2 : tie.Need-shared-slice-read-if2 invariant_loop decreases_loop
-shared-slice-read-if2 c = omega arith
+bounds-f-i : tie.Need-bounds-f-i invariant-loop-j decreases-loop-j
+bounds-f-i c = omega arith
 
-mul-out : tie.Need-overflow-mul-out invariant_loop decreases_loop
-mul-out c = omega arith
+offset_bounds-f-i-then-e-f : tie.Need-offset_bounds-f-i-then-e-f invariant-loop-j decreases-loop-j
+offset_bounds-f-i-then-e-f c = omega arith
 
-shared-slice-read-out : tie.Need-shared-slice-read-out invariant_loop decreases_loop
-shared-slice-read-out c = omega arith
+bounds-f-i-then-e-f : tie.Need-bounds-f-i-then-e-f invariant-loop-j decreases-loop-j
+bounds-f-i-then-e-f c = omega arith
 
-mul-out-2 : tie.Need-overflow-mul-out-2 invariant_loop decreases_loop
-mul-out-2 c = omega arith
+offset_bounds-out-k : tie.Need-offset_bounds-out-k invariant-loop-j decreases-loop-j
+offset_bounds-out-k c = omega arith
 
-slice-write-out : tie.Need-slice-write-out invariant_loop decreases_loop
-slice-write-out c = omega arith
+bounds-out-k : tie.Need-bounds-out-k invariant-loop-j decreases-loop-j
+bounds-out-k c = omega arith
 
-add-out : tie.Need-overflow-add-out invariant_loop decreases_loop
-add-out c = omega arith
+overflow_add-out : tie.Need-overflow_add-out invariant-loop-j decreases-loop-j
+overflow_add-out c = omega arith
 
-mul-out-3 : tie.Need-overflow-mul-out-3 invariant_loop decreases_loop
-mul-out-3 c = omega arith
+offset_bounds-f-i-then-e-f-2 : tie.Need-offset_bounds-f-i-then-e-f-2 invariant-loop-j decreases-loop-j
+offset_bounds-f-i-then-e-f-2 c = omega arith
 
-shared-slice-read-out-2 : tie.Need-shared-slice-read-out-2 invariant_loop decreases_loop
-shared-slice-read-out-2 c = omega arith
+bounds-f-i-then-e-f-2 : tie.Need-bounds-f-i-then-e-f-2 invariant-loop-j decreases-loop-j
+bounds-f-i-then-e-f-2 c = omega arith
 
-add-out-2 : tie.Need-overflow-add-out-2 invariant_loop decreases_loop
-add-out-2 c = omega arith
+overflow_add-out-then-e-f : tie.Need-overflow_add-out-then-e-f invariant-loop-j decreases-loop-j
+overflow_add-out-then-e-f c = omega arith
 
-mul-out-4 : tie.Need-overflow-mul-out-4 invariant_loop decreases_loop
-mul-out-4 c = omega arith
+offset_bounds-out-k-then-e-f : tie.Need-offset_bounds-out-k-then-e-f invariant-loop-j decreases-loop-j
+offset_bounds-out-k-then-e-f c = omega arith
 
-slice-write-out-2 : tie.Need-slice-write-out-2 invariant_loop decreases_loop
-slice-write-out-2 c = simp length-set (omega arith)
+bounds-out-k-then-e-f : tie.Need-bounds-out-k-then-e-f invariant-loop-j decreases-loop-j
+bounds-out-k-then-e-f c = simp length-set (omega arith)
 
-add-k : tie.Need-overflow-add-k invariant_loop decreases_loop
-add-k c = omega arith
+overflow_add-k : tie.Need-overflow_add-k invariant-loop-j decreases-loop-j
+overflow_add-k c = omega arith
 
-add-i : tie.Need-overflow-add-i invariant_loop decreases_loop
-add-i c = omega arith
+overflow_add-i-then-e-f : tie.Need-overflow_add-i-then-e-f invariant-loop-j decreases-loop-j
+overflow_add-i-then-e-f c = omega arith
 
-loop-less : tie.Need-loop-smaller invariant_loop decreases_loop
-loop-less c = omega arith
+loop-j-smaller-then-e-f : tie.Need-loop-j-smaller-then-e-f invariant-loop-j decreases-loop-j
+loop-j-smaller-then-e-f c = omega arith
 
-loop-again : tie.Need-loop-preserved invariant_loop decreases_loop
-loop-again c =
-    let t = c.before.before.before.before.before in
-    let P = (entry t.before).pre in
-    let L = t.before.before.loop in (
+loop-j-preserved-then-e-f : tie.Need-loop-j-preserved-then-e-f invariant-loop-j decreases-loop-j
+loop-j-preserved-then-e-f c =
+    let t = c in
+    let P = (entry t.before.before.before.before.before.before).requires in
+    let L = t.loop-j in (
       simp length-set L.invariant.0,
-      turn_f L.invariant.1 P.1.1.0.0 P.1.0.0 t.before.loop-test.true (small t) c.before.before.before.before.if1.true
-          (omega arith) (c.shared-slice-known6.given (L.i + 1)).fits (ltb-true _ _ c.before.before.if2.true),
+      turn_f L.invariant.1 P.1.1.0.0 P.1.0.0 t.loop-j-test.true (small t.before.before.before.before.before) c.if-i-f.true
+          (omega arith) (c.shared_slice_known-then-e-f-2-1.given (L.i + 1)).fits (ltb-true _ _ c.if-e-f.true),
     )
 
-mul-multiply : tie.Need-overflow-mul-multiply invariant_loop decreases_loop
-mul-multiply c = omega arith
+offset_bounds-g-j-else-i-f : tie.Need-offset_bounds-g-j-else-i-f invariant-loop-j decreases-loop-j
+offset_bounds-g-j-else-i-f c = omega arith
 
-shared-slice-read-multiply : tie.Need-shared-slice-read-multiply invariant_loop decreases_loop
-shared-slice-read-multiply c = omega arith
+bounds-g-j-else-i-f : tie.Need-bounds-g-j-else-i-f invariant-loop-j decreases-loop-j
+bounds-g-j-else-i-f c = omega arith
 
-multiply-requires : tie.Need-multiply-requires invariant_loop decreases_loop
-multiply-requires c κs = let P = (entry c.before.before.before).pre in (P.0.0, (next c.before.before.before).0, P.0.1)
+multiply-s-requires : tie.Need-multiply-s-requires invariant-loop-j decreases-loop-j
+multiply-s-requires c κs = let P = (entry c.before.before.before).requires in (P.0.0, (next c.before.before.before).0, P.0.1)
 
-add-if4 : tie.Need-overflow-add-if4 invariant_loop decreases_loop
-add-if4 c = omega arith
+overflow_add-i-then-i-f-2 : tie.Need-overflow_add-i-then-i-f-2 invariant-loop-j decreases-loop-j
+overflow_add-i-then-i-f-2 c = omega arith
 
-mul-if4 : tie.Need-overflow-mul-if4 invariant_loop decreases_loop
-mul-if4 c = omega arith
+offset_bounds-f-i-then-i-f-2 : tie.Need-offset_bounds-f-i-then-i-f-2 invariant-loop-j decreases-loop-j
+offset_bounds-f-i-then-i-f-2 c = omega arith
 
-shared-slice-read-if4 : tie.Need-shared-slice-read-if4 invariant_loop decreases_loop
-shared-slice-read-if4 c = omega arith
+bounds-f-i-then-i-f-2 : tie.Need-bounds-f-i-then-i-f-2 invariant-loop-j decreases-loop-j
+bounds-f-i-then-i-f-2 c = omega arith
 
-mul-add : tie.Need-overflow-mul-add invariant_loop decreases_loop
-mul-add c = omega arith
+offset_bounds-f-i-then-f-i : tie.Need-offset_bounds-f-i-then-f-i invariant-loop-j decreases-loop-j
+offset_bounds-f-i-then-f-i c = omega arith
 
-shared-slice-read-add : tie.Need-shared-slice-read-add invariant_loop decreases_loop
-shared-slice-read-add c = omega arith
+bounds-f-i-then-f-i : tie.Need-bounds-f-i-then-f-i invariant-loop-j decreases-loop-j
+bounds-f-i-then-f-i c = omega arith
 
-add-requires : tie.Need-add-requires invariant_loop decreases_loop
+add-s-requires : tie.Need-add-s-requires invariant-loop-j decreases-loop-j
 unfolding product
-add-requires c κs =
-    let turn = c.before.before.before.before.before.before.before.before in
-    let a = (entry turn).args in
-    let P = (entry turn).requires in
-    let L = turn.before.loop in (
-      subst (λ z. z < a.p) (sym c.before.before.before.before.multiply.ensures) (mod-lt (a.c * get_or a.g.now L.j 0) (omega (arith, P.0.0))),
-      (front_canonical L.invariant.1 P.1.1.0.0 P.1.0.0 turn.loop-test.true c.before.before.before.if3.true).1,
+add-s-requires c κs =
+    let turn = c in
+    let a = (entry turn.before.before.before.before.before.before.before.before).args in
+    let P = (entry turn.before.before.before.before.before.before.before.before).requires in
+    let L = turn.loop-j in (
+      subst (λ z. z < a.p) (sym c.multiply-s.ensures) (mod-lt (a.c * get_or a.g.now L.j 0) (omega (arith, P.0.0))),
+      (front_canonical L.invariant.1 P.1.1.0.0 P.1.0.0 turn.loop-j-test.true c.if-i-f-2.true).1,
       P.0.1,
     )
 
-add-i-2 : tie.Need-overflow-add-i-2 invariant_loop decreases_loop
-add-i-2 c = omega arith
+overflow_add-i-then-f-i : tie.Need-overflow_add-i-then-f-i invariant-loop-j decreases-loop-j
+overflow_add-i-then-f-i c = omega arith
 
-mul-out-5 : tie.Need-overflow-mul-out-5 invariant_loop decreases_loop
-mul-out-5 c = omega arith
+offset_bounds-out-k-then-s-ne0 : tie.Need-offset_bounds-out-k-then-s-ne0 invariant-loop-j decreases-loop-j
+offset_bounds-out-k-then-s-ne0 c = omega arith
 
-slice-write-out-3 : tie.Need-slice-write-out-3 invariant_loop decreases_loop
-slice-write-out-3 c = omega arith
+bounds-out-k-then-s-ne0 : tie.Need-bounds-out-k-then-s-ne0 invariant-loop-j decreases-loop-j
+bounds-out-k-then-s-ne0 c = omega arith
 
-add-out-3 : tie.Need-overflow-add-out-3 invariant_loop decreases_loop
-add-out-3 c = omega arith
+overflow_add-out-then-s-ne0 : tie.Need-overflow_add-out-then-s-ne0 invariant-loop-j decreases-loop-j
+overflow_add-out-then-s-ne0 c = omega arith
 
-mul-out-6 : tie.Need-overflow-mul-out-6 invariant_loop decreases_loop
-mul-out-6 c = omega arith
+offset_bounds-out-k-then-s-ne0-2 : tie.Need-offset_bounds-out-k-then-s-ne0-2 invariant-loop-j decreases-loop-j
+offset_bounds-out-k-then-s-ne0-2 c = omega arith
 
-slice-write-out-4 : tie.Need-slice-write-out-4 invariant_loop decreases_loop
-slice-write-out-4 c = simp length-set (omega arith)
+bounds-out-k-then-s-ne0-2 : tie.Need-bounds-out-k-then-s-ne0-2 invariant-loop-j decreases-loop-j
+bounds-out-k-then-s-ne0-2 c = simp length-set (omega arith)
 
-add-k-2 : tie.Need-overflow-add-k-2 invariant_loop decreases_loop
-add-k-2 c = omega arith
+overflow_add-k-then-s-ne0 : tie.Need-overflow_add-k-then-s-ne0 invariant-loop-j decreases-loop-j
+overflow_add-k-then-s-ne0 c = omega arith
 
-add-j : tie.Need-overflow-add-j invariant_loop decreases_loop
-add-j c = omega arith
+overflow_add-j : tie.Need-overflow_add-j invariant-loop-j decreases-loop-j
+overflow_add-j c = omega arith
 
 -- Where the ways first meet, the term of f, if there is one, is not above it.
-not_above : (c : tie.Joined1 invariant_loop decreases_loop) →
+not_above : (c : tie.Joined-else-i-f invariant-loop-j decreases-loop-j) →
     let a = (entry c.before.before).args in
-    let L = c.before.before.before.loop in
+    let L = c.loop-j in
     L.i < length a.f.now → get_or a.f.now (L.i + 1) 0 ≤ a.m + get_or a.g.now (L.j + 1) 0
-not_above c h = ⊎_elim (λ u. ltb-false _ _ u.2.left) (λ u. absurd (omega (arith, u.left))) c.if1.branch
+not_above c h = ⊎_elim (λ u. ltb-false _ _ u.if-e-f.false) (λ u.if-i-f. absurd (omega (arith, u.if-i-f.false))) c.else-i-f.branch-raw
 
 -- Where they meet again, the next term of the multiple is taken.
-met : (c : tie.Joined3-2 invariant_loop decreases_loop) →
+met : (c : tie.Joined-i-f-2 invariant-loop-j decreases-loop-j) →
     let a = (entry c.before.before.before.before.before).args in
-    let L = c.before.before.before.before.before.before.loop in
-    Taken a.p a.c a.m a.g.now a.f.now L.i L.j c.if3.i c.if3.s
+    let L = c.loop-j in
+    Taken a.p a.c a.m a.g.now a.f.now L.i L.j c.if-i-f-2.i c.if-i-f-2.s
 unfolding product sum
 met c =
-    let t = c.before.before.before.before in
-    let a = (entry t.before).args in
-    let P = (entry t.before).pre in
-    let L = t.before.before.loop in
+    let t = c in
+    let a = (entry t.before.before.before.before.before).args in
+    let P = (entry t.before.before.before.before.before).requires in
+    let L = t.loop-j in
     let H = L.invariant.1 in
-    let in_g = t.before.loop-test.true in
+    let in_g = t.loop-j-test.true in
     ⊎_elim
-    (λ w. subst_taken (taken_both H P.1.1.0.0 P.1.0.0 in_g (small t) w.0.taken (eqb-true _ _ w.2.taken)) w.5
-    (w.6 ∙ w.4.ensures ∙ ap (λ z. (z + get_or a.f.now L.i 0) % a.p) c.before.multiply.ensures))
+    (λ w. subst_taken (taken_both H P.1.1.0.0 P.1.0.0 in_g (small t.before.before.before.before) w.if-i-f-2.true (eqb-true _ _ w.if-f-i.true)) w.i-is
+    (w.s-is ∙ w.add-s.ensures ∙ ap (λ z. (z + get_or a.f.now L.i 0) % a.p) c.multiply-s.ensures))
     (λ w. ⊎_elim
     (λ v. let ne = eqb-false (get_or a.f.now (L.i + 1) 0) (a.m + get_or a.g.now (L.j + 1) 0) v.2.left in
-    subst_taken (taken_alone H P.1.1.0.0 P.1.0.0 in_g (small t) v.0.taken (v.1.given (L.i + 1)).fits (omega (arith, not_above c.before.before.before v.0.taken)))
-    w.1 (w.2 ∙ c.before.multiply.ensures))
-    (λ v. subst_taken (taken_last H P.1.1.0.0 P.1.0.0 in_g (small t) v.left) w.1 (w.2 ∙ c.before.multiply.ensures))
-    w.0.came)
-    c.if3.branch
+    subst_taken (taken_alone H P.1.1.0.0 P.1.0.0 in_g (small t.before.before.before.before) v.0.taken (v.1.given (L.i + 1)).fits (omega (arith, not_above c.before.before.before v.0.taken)))
+    w.i-is (w.s-is ∙ c.multiply-s.ensures))
+    (λ v. subst_taken (taken_last H P.1.1.0.0 P.1.0.0 in_g (small t.before.before.before.before) v.left) w.i-is (w.s-is ∙ c.multiply-s.ensures))
+    w.else-i-f-2.came)
+    c.if-i-f-2.branch-raw
 
-loop-less-2 : tie.Need-loop-smaller-2 invariant_loop decreases_loop
-loop-less-2 c = omega (arith, (met c.before).above, (met c.before).within)
+loop-j-smaller : tie.Need-loop-j-smaller invariant-loop-j decreases-loop-j
+loop-j-smaller c = omega (arith, (met c.before).above, (met c.before).within)
 
-loop-again-2 : tie.Need-loop-preserved-2 invariant_loop decreases_loop
-loop-again-2 c =
-    let turn = c.before.before.before.before.before.before in
-    let P = (entry turn).requires in
-    let L = turn.before.loop in
+loop-j-preserved : tie.Need-loop-j-preserved invariant-loop-j decreases-loop-j
+loop-j-preserved c =
+    let turn = c in
+    let P = (entry turn.before.before.before.before.before.before).requires in
+    let L = turn.loop-j in
     let H = L.invariant.1 in
-    let in_g = turn.loop-test.true in
+    let in_g = turn.loop-j-test.true in
     ⊎_elim
     (λ w. (
-      ap length w.1 ∙ simp length-set L.invariant.0,
-      subst_head (turn_sum H P.1.1.0.0 P.1.0.0 in_g (met c.before) w.0.taken (omega arith)) w.1 w.2,
+      ap length w.out-is ∙ simp length-set L.invariant.0,
+      subst_head (turn_sum H P.1.1.0.0 P.1.0.0 in_g (met c.before) w.if-s-ne0.true (omega arith)) w.out-is w.k-is,
     ))
     (λ w. (
-      ap length w.1 ∙ L.invariant.0,
-      subst_head (turn_none H P.1.1.0.0 P.1.0.0 in_g (met c.before) w.0.left) w.1 w.2,
+      ap length w.out-is ∙ L.invariant.0,
+      subst_head (turn_none H P.1.1.0.0 P.1.0.0 in_g (met c.before) w.if-s-ne0.false) w.out-is w.k-is,
     ))
-    c.if5.branch
+    c.if-s-ne0.branch-raw
 
-copy-requires : tie.Need-copy-requires invariant_loop decreases_loop
+copy-requires : tie.Need-copy-requires invariant-loop-j decreases-loop-j
 copy-requires c κs = omega arith
 
-sub-result : tie.Need-overflow-sub-result invariant_loop decreases_loop
-sub-result c = omega arith
+overflow_sub-result : tie.Need-overflow_sub-result invariant-loop-j decreases-loop-j
+overflow_sub-result c = omega arith
 
-add-result : tie.Need-overflow-add-result invariant_loop decreases_loop
-add-result c = omega arith
+overflow_add-result : tie.Need-overflow_add-result invariant-loop-j decreases-loop-j
+overflow_add-result c = omega arith
 
-same_length : tie.Need-same-length invariant_loop decreases_loop
-same_length c = omega arith
+shape_of-out : tie.Need-shape_of-out invariant-loop-j decreases-loop-j
+shape_of-out c = omega arith
 
-returns : tie.Need-returns invariant_loop decreases_loop
+returns : tie.Need-returns invariant-loop-j decreases-loop-j
 returns c =
-    let P = c.before.before.before.before.before.before.before.before.before.requires in
-    let a = c.before.before.before.before.before.before.before.before.before.args in
-    let L = c.before.before.before.before.before.loop in
-    finish a.p a.c a.m a.g.now a.f.now L.out c.before.before.copy.new.1.1.0 L.i L.j L.k L.invariant.1
-    P.1.1.0.0 c.before.before.before.before.loop-test.false (omega arith) c.before.before.copy.ensures
+    let P = c.requires in
+    let a = c.args in
+    let L = c.loop-j in
+    finish a.p a.c a.m a.g.now a.f.now L.out c.copy.new.out L.i L.j L.k L.invariant.1
+    P.1.1.0.0 c.loop-j-test.false (omega arith) c.copy.ensures
 
 pub add_multiple_spec : {M : Type 1} → statement M
 add_multiple_spec =
     tie.close
     (tie.spec
-    invariant_loop
-    decreases_loop
-    loop-holds
-    add-e
-    mul-e
-    shared-slice-read-e
-    add-e-2
-    add-if2
-    mul-if2
-    shared-slice-read-if2
-    mul-out
-    shared-slice-read-out
-    mul-out-2
-    slice-write-out
-    add-out
-    mul-out-3
-    shared-slice-read-out-2
-    add-out-2
-    mul-out-4
-    slice-write-out-2
-    add-k
-    add-i
-    loop-less
-    loop-again
-    mul-multiply
-    shared-slice-read-multiply
-    multiply-requires
-    add-if4
-    mul-if4
-    shared-slice-read-if4
-    mul-add
-    shared-slice-read-add
-    add-requires
-    add-i-2
-    mul-out-5
-    slice-write-out-3
-    add-out-3
-    mul-out-6
-    slice-write-out-4
-    add-k-2
-    add-j
-    loop-less-2
-    loop-again-2
+    invariant-loop-j
+    decreases-loop-j
+    loop-j-init
+    overflow_add-e
+    offset_bounds-g-j
+    bounds-g-j
+    overflow_add-e-in-loop-j
+    overflow_add-i
+    offset_bounds-f-i
+    bounds-f-i
+    offset_bounds-f-i-then-e-f
+    bounds-f-i-then-e-f
+    offset_bounds-out-k
+    bounds-out-k
+    overflow_add-out
+    offset_bounds-f-i-then-e-f-2
+    bounds-f-i-then-e-f-2
+    overflow_add-out-then-e-f
+    offset_bounds-out-k-then-e-f
+    bounds-out-k-then-e-f
+    overflow_add-k
+    overflow_add-i-then-e-f
+    loop-j-smaller-then-e-f
+    loop-j-preserved-then-e-f
+    offset_bounds-g-j-else-i-f
+    bounds-g-j-else-i-f
+    multiply-s-requires
+    overflow_add-i-then-i-f-2
+    offset_bounds-f-i-then-i-f-2
+    bounds-f-i-then-i-f-2
+    offset_bounds-f-i-then-f-i
+    bounds-f-i-then-f-i
+    add-s-requires
+    overflow_add-i-then-f-i
+    offset_bounds-out-k-then-s-ne0
+    bounds-out-k-then-s-ne0
+    overflow_add-out-then-s-ne0
+    offset_bounds-out-k-then-s-ne0-2
+    bounds-out-k-then-s-ne0-2
+    overflow_add-k-then-s-ne0
+    overflow_add-j
+    loop-j-smaller
+    loop-j-preserved
     copy-requires
-    sub-result
-    add-result
-    same_length
+    overflow_sub-result
+    overflow_add-result
+    shape_of-out
     returns)

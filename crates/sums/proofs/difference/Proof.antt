@@ -9,40 +9,39 @@ use Rattle.sums.proofs.MergeLaws.{all_fit_zero, difference_written, within_terms
 use Rattle.sums.proofs.difference.Statement.{statement}
 use Rattle.sums.proofs.difference.Tie as tie
 
-sub-add-multiple : tie.Need-overflow-sub-add-multiple
-sub-add-multiple c = search rules
+overflow_sub-p : tie.Need-overflow_sub-p
+overflow_sub-p c = search rules
 
-add-multiple-requires : tie.Need-add-multiple-requires
-add-multiple-requires c κs =
-    let P = c.before.before.before.before.requires in
+add_multiple-n-requires : tie.Need-add_multiple-n-requires
+add_multiple-n-requires c κs =
+    let P = c.requires in
     let f = P.1.0 in
     let g = P.1.1.0 in
-    (omega arith, ((g.pairs, g.canonical, all_fit_zero c.before.before.before.before.args.g.now), ((f.pairs, f.canonical), P.1.1.1)))
+    (omega arith, ((g.pairs, g.canonical, all_fit_zero c.args.g.now), ((f.pairs, f.canonical), P.1.1.1)))
 
-written : (c : tie.After-add-multiple) →
-    Written (difference c.before.before.before.before.before.args.p (terms c.before.before.before.before.before.args.f.now)
-    (terms c.before.before.before.before.before.args.g.now)) c.add_multiple.result c.add_multiple.new.1.1.1.1.1.0
+written : (c : tie.After-add_multiple-n) →
+    Written (difference c.args.p (terms c.args.f.now)
+    (terms c.args.g.now)) c.add_multiple-n.result c.add_multiple-n.new.out
 written c =
-    let a = c.before.before.before.before.before.args in
-    difference_written a.p c.add_multiple.result a.f.now a.g.now c.add_multiple.new.1.1.1.1.1.0 c.add_multiple.ensures
+    let a = c.args in
+    difference_written a.p c.add_multiple-n.result a.f.now a.g.now c.add_multiple-n.new.out c.add_multiple-n.ensures
 
-same_length : tie.Need-same-length
-same_length c = search rules
+shape_of-out-then-n-gt512 : tie.Need-shape_of-out-then-n-gt512
+shape_of-out-then-n-gt512 c = search rules
+
+returns-then-n-gt512 : tie.Need-returns-then-n-gt512
+unfolding bounded_difference
+returns-then-n-gt512 c =
+    let w = written c.before.before.before in
+    over_terms_refused _ c.add_multiple-n.new.out (omega (arith, w.pairs))
+
+shape_of-out : tie.Need-shape_of-out
+shape_of-out c = search rules
 
 returns : tie.Need-returns
 unfolding bounded_difference
-returns c =
-    let w = written c.before.before.before in
-    over_terms_refused _ c.before.before.before.add_multiple.new.1.1.1.1.1.0 (omega (arith, w.pairs))
-
-same-length-2 : tie.Need-same-length-2
-same-length-2 c = search rules
-
-returns-2 : tie.Need-returns-2
-unfolding bounded_difference
-returns-2 c = within_terms_formed _ c.before.before.before.add_multiple.result _ (written c.before.before.before) (omega arith)
+returns c = within_terms_formed _ c.add_multiple-n.result _ (written c.before.before.before) (omega arith)
 
 pub difference_spec : {M : Type 1} → statement M
 difference_spec =
-    tie.close
-    (tie.spec sub-add-multiple add-multiple-requires same_length returns same-length-2 returns-2)
+    tie.close (tie.spec overflow_sub-p add_multiple-n-requires shape_of-out-then-n-gt512 returns-then-n-gt512 shape_of-out returns)

@@ -11,147 +11,147 @@ use Rattle.terms.proofs.PartLaws.{led_long, led_place, top_first, all_at_taken, 
 use Rattle.terms.proofs.initial.Statement.{statement}
 use Rattle.terms.proofs.initial.Tie as tie
 
-abbrev invariant_loop : tie.invariant_loop
-invariant_loop f k out₀ n top i₀ out i =
+abbrev invariant-loop-i : tie.invariant-loop-i
+invariant-loop-i f k out₀ n top i₀ out i =
     (i % 2 ≡ 0)
     × (i ≤ n)
     × (length out ≡ length out₀)
     × (top ≡ degree k (terms f) * 256 ^ k)
     × (terms (take i out) ≡ coefficient k (degree k (terms f)) (terms (take i f)))
 
-abbrev decreases_loop : tie.decreases_loop
-decreases_loop f k out₀ n top i₀ out i = n - i
+abbrev decreases-loop-i : tie.decreases-loop-i
+decreases-loop-i f k out₀ n top i₀ out i = n - i
 
-initial-words-requires : tie.Need-initial-words-requires invariant_loop decreases_loop
-initial-words-requires c κs = search rules
+initial_words-n-requires : tie.Need-initial_words-n-requires invariant-loop-i decreases-loop-i
+initial_words-n-requires c κs = search rules
 
-shared-slice-read-exponent : tie.Need-shared-slice-read-exponent invariant_loop decreases_loop
-shared-slice-read-exponent c = let start = c.before.before.before.before in omega (arith, led_long start.args.k start.args.f.now start.requires.1.0)
+bounds-f-1 : tie.Need-bounds-f-1 invariant-loop-i decreases-loop-i
+bounds-f-1 c = let start = c in omega (arith, led_long start.args.k start.args.f.now start.requires.1.0)
 
-exponent-requires : tie.Need-exponent-requires invariant_loop decreases_loop
-exponent-requires c κs = let start = c.before.before.before.before in omega (arith, led_place start.args.k start.args.f.now start.requires.1.0)
+exponent-requires : tie.Need-exponent-requires invariant-loop-i decreases-loop-i
+exponent-requires c κs = let start = c in omega (arith, led_place start.args.k start.args.f.now start.requires.1.0)
 
-mul-top : tie.Need-overflow-mul-top invariant_loop decreases_loop
-mul-top c = record { fits = let start = c.before.before.before.before.before in omega (arith, led_place start.args.k start.args.f.now start.requires.1.0) }
+overflow_mul-top : tie.Need-overflow_mul-top invariant-loop-i decreases-loop-i
+overflow_mul-top c = record { fits = let start = c in omega (arith, led_place start.args.k start.args.f.now start.requires.1.0) }
 
-cast-top : tie.Need-overflow-cast-top invariant_loop decreases_loop
-cast-top c = search rules
+overflow_cast-top : tie.Need-overflow_cast-top invariant-loop-i decreases-loop-i
+overflow_cast-top c = search rules
 
-shl-top : tie.Need-overflow-shl-top invariant_loop decreases_loop
-shl-top c = let start = c.before.before.before.before.before in omega (arith, led_place start.args.k start.args.f.now start.requires.1.0)
+overflow_shl-top : tie.Need-overflow_shl-top invariant-loop-i decreases-loop-i
+overflow_shl-top c = let start = c in omega (arith, led_place start.args.k start.args.f.now start.requires.1.0)
 
-loop-holds : tie.Need-loop-init invariant_loop decreases_loop
+loop-i-init : tie.Need-loop-i-init invariant-loop-i decreases-loop-i
 unfolding terms coefficient
-loop-holds c =
-    let start = c.before.before.before.before.before in
+loop-i-init c =
+    let start = c in
     let k = start.args.k in
     let s = start.args.f.now in
     let L = start.requires.1.0 in
     let top = ap (λ z. z * 2 ^ (8 * k) % 18446744073709551616) (c.exponent.ensures ∙ top_first k s L) ∙ shifted k (degree k (terms s)) (led_place k s L) (omega (arith, degree_small k s)) in
     (refl, omega arith, refl, top, refl)
 
-mul-out : tie.Need-overflow-mul-out invariant_loop decreases_loop
-mul-out c = search rules
+offset_bounds-f-i : tie.Need-offset_bounds-f-i invariant-loop-i decreases-loop-i
+offset_bounds-f-i c = search rules
 
-shared-slice-read-out : tie.Need-shared-slice-read-out invariant_loop decreases_loop
-shared-slice-read-out c = search rules
+bounds-f-i : tie.Need-bounds-f-i invariant-loop-i decreases-loop-i
+bounds-f-i c = search rules
 
-mul-out-2 : tie.Need-overflow-mul-out-2 invariant_loop decreases_loop
-mul-out-2 c = search rules
+offset_bounds-out-i : tie.Need-offset_bounds-out-i invariant-loop-i decreases-loop-i
+offset_bounds-out-i c = search rules
 
-slice-write-out : tie.Need-slice-write-out invariant_loop decreases_loop
-slice-write-out c = search rules
+bounds-out-i : tie.Need-bounds-out-i invariant-loop-i decreases-loop-i
+bounds-out-i c = search rules
 
-add-out : tie.Need-overflow-add-out invariant_loop decreases_loop
-add-out c = search rules
+overflow_add-out : tie.Need-overflow_add-out invariant-loop-i decreases-loop-i
+overflow_add-out c = search rules
 
-mul-out-3 : tie.Need-overflow-mul-out-3 invariant_loop decreases_loop
-mul-out-3 c = search rules
+offset_bounds-f-i-in-loop-i : tie.Need-offset_bounds-f-i-in-loop-i invariant-loop-i decreases-loop-i
+offset_bounds-f-i-in-loop-i c = search rules
 
-shared-slice-read-out-2 : tie.Need-shared-slice-read-out-2 invariant_loop decreases_loop
-shared-slice-read-out-2 c = search rules
+bounds-f-i-in-loop-i : tie.Need-bounds-f-i-in-loop-i invariant-loop-i decreases-loop-i
+bounds-f-i-in-loop-i c = search rules
 
-sub_out : tie.Need-overflow-sub-out invariant_loop decreases_loop
-sub_out c =
-    let start = c.before.before.before.before.before.before.before.before.before in
+overflow_sub-out : tie.Need-overflow_sub-out invariant-loop-i decreases-loop-i
+overflow_sub-out c =
+    let start = c in
     let k = start.args.k in
     let s = start.args.f.now in
     let L = start.requires.1.0 in
-    let at = c.before.before.before.loop in
-    let S = c.before.before.before.before.before.before.initial-words.ensures in
+    let at = c.loop-i in
+    let S = c.initial_words-n.ensures in
     let d = degree k (terms s) in
     let q : get_or (bytes 8 (get_or s (at.i + 1) 0)) k 0 ≡ d =
-    all_at_taken (λ e. get_or e k 0 ≡ d) s c.before.before.before.before.before.before.initial-words.result at.i at.invariant.0 (omega arith) S.within S.front in
+    all_at_taken (λ e. get_or e k 0 ≡ d) s c.initial_words-n.result at.i at.invariant.0 (omega arith) S.within S.front in
     power_within k (get_or s (at.i + 1) 0) d _ (led_place k s L) (omega arith) at.invariant.3
 
-add-out-2 : tie.Need-overflow-add-out-2 invariant_loop decreases_loop
-add-out-2 c = search rules
+overflow_add-out-in-loop-i : tie.Need-overflow_add-out-in-loop-i invariant-loop-i decreases-loop-i
+overflow_add-out-in-loop-i c = search rules
 
-mul-out-4 : tie.Need-overflow-mul-out-4 invariant_loop decreases_loop
-mul-out-4 c = search rules
+offset_bounds-out-i-in-loop-i : tie.Need-offset_bounds-out-i-in-loop-i invariant-loop-i decreases-loop-i
+offset_bounds-out-i-in-loop-i c = search rules
 
-slice-write-out-2 : tie.Need-slice-write-out-2 invariant_loop decreases_loop
-slice-write-out-2 c = simp length-set (omega arith)
+bounds-out-i-in-loop-i : tie.Need-bounds-out-i-in-loop-i invariant-loop-i decreases-loop-i
+bounds-out-i-in-loop-i c = simp length-set (omega arith)
 
-add-i : tie.Need-overflow-add-i invariant_loop decreases_loop
-add-i c = search rules
+overflow_add-i : tie.Need-overflow_add-i invariant-loop-i decreases-loop-i
+overflow_add-i c = search rules
 
-loop-less : tie.Need-loop-smaller invariant_loop decreases_loop
-loop-less c = search rules
+loop-i-smaller : tie.Need-loop-i-smaller invariant-loop-i decreases-loop-i
+loop-i-smaller c = search rules
 
-loop-again : tie.Need-loop-preserved invariant_loop decreases_loop
-loop-again c =
-    let start = c.before.before.before.before.before.before.before.before.before in
+loop-i-preserved : tie.Need-loop-i-preserved invariant-loop-i decreases-loop-i
+loop-i-preserved c =
+    let start = c in
     let k = start.args.k in
     let s = start.args.f.now in
     let L = start.requires.1.0 in
-    let at = c.before.before.before.loop in
-    let S = c.before.before.before.before.before.before.initial-words.ensures in
+    let at = c.loop-i in
+    let S = c.initial_words-n.ensures in
     let d = degree k (terms s) in
     let q : get_or (bytes 8 (get_or s (at.i + 1) 0)) k 0 ≡ d =
-    all_at_taken (λ e. get_or e k 0 ≡ d) s c.before.before.before.before.before.before.initial-words.result at.i at.invariant.0 (omega arith) S.within S.front in
+    all_at_taken (λ e. get_or e k 0 ≡ d) s c.initial_words-n.result at.i at.invariant.0 (omega arith) S.within S.front in
     let next = initial_next k s at.i at.invariant.0 (omega arith) at.out at.i _ d (led_place k s L) at.invariant.0 (omega arith) at.invariant.3 q at.invariant.4 in
     (omega arith, omega arith, simp length-set at.invariant.2, at.invariant.3, next)
 
-same_length : tie.Need-same-length invariant_loop decreases_loop
-same_length c = search rules
+shape_of-out : tie.Need-shape_of-out invariant-loop-i decreases-loop-i
+shape_of-out c = search rules
 
-returns : tie.Need-returns invariant_loop decreases_loop
+returns : tie.Need-returns invariant-loop-i decreases-loop-i
 returns c =
-    let start = c.before.before.before.before.before.before.before in
+    let start = c in
     let k = start.args.k in
     let s = start.args.f.now in
     let L = start.requires.1.0 in
-    let at = c.before.loop in
-    initial_written k s L c.before.before.before.before.initial-words.result at.i at.out
-    c.before.before.before.before.initial-words.ensures (omega arith) (omega arith) at.invariant.4
+    let at = c.loop-i in
+    initial_written k s L c.initial_words-n.result at.i at.out
+    c.initial_words-n.ensures (omega arith) (omega arith) at.invariant.4
 
 pub initial_spec : {M : Type 1} → statement M
 initial_spec =
     tie.close
     (tie.spec
-    invariant_loop
-    decreases_loop
-    initial-words-requires
-    shared-slice-read-exponent
+    invariant-loop-i
+    decreases-loop-i
+    initial_words-n-requires
+    bounds-f-1
     exponent-requires
-    mul-top
-    cast-top
-    shl-top
-    loop-holds
-    mul-out
-    shared-slice-read-out
-    mul-out-2
-    slice-write-out
-    add-out
-    mul-out-3
-    shared-slice-read-out-2
-    sub_out
-    add-out-2
-    mul-out-4
-    slice-write-out-2
-    add-i
-    loop-less
-    loop-again
-    same_length
+    overflow_mul-top
+    overflow_cast-top
+    overflow_shl-top
+    loop-i-init
+    offset_bounds-f-i
+    bounds-f-i
+    offset_bounds-out-i
+    bounds-out-i
+    overflow_add-out
+    offset_bounds-f-i-in-loop-i
+    bounds-f-i-in-loop-i
+    overflow_sub-out
+    overflow_add-out-in-loop-i
+    offset_bounds-out-i-in-loop-i
+    bounds-out-i-in-loop-i
+    overflow_add-i
+    loop-i-smaller
+    loop-i-preserved
+    shape_of-out
     returns)

@@ -11,89 +11,89 @@ use Rattle.terms.proofs.PartLaws.{Front, led_long, led_place, top_first, front_f
 use Rattle.terms.proofs.initial_words.Statement.{statement}
 use Rattle.terms.proofs.initial_words.Tie as tie
 
-abbrev invariant_loop : tie.invariant_loop
-invariant_loop f k top i₀ i = (i % 2 ≡ 0) × (2 ≤ i) × (i ≤ length f) × (top ≡ degree k (terms f)) × Front k f i
+abbrev invariant-loop-i : tie.invariant-loop-i
+invariant-loop-i f k top i₀ i = (i % 2 ≡ 0) × (2 ≤ i) × (i ≤ length f) × (top ≡ degree k (terms f)) × Front k f i
 
-abbrev decreases_loop : tie.decreases_loop
-decreases_loop f k top i₀ i = length f - i
+abbrev decreases-loop-i : tie.decreases-loop-i
+decreases-loop-i f k top i₀ i = length f - i
 
-shared-slice-read-exponent : tie.Need-shared-slice-read-exponent invariant_loop decreases_loop
-shared-slice-read-exponent c = let start = c.before.before in omega (arith, led_long start.args.k start.args.f.now start.requires.1)
+bounds-f-1 : tie.Need-bounds-f-1 invariant-loop-i decreases-loop-i
+bounds-f-1 c = let start = c in omega (arith, led_long start.args.k start.args.f.now start.requires.1)
 
-exponent-requires : tie.Need-exponent-requires invariant_loop decreases_loop
-exponent-requires c κs = let start = c.before.before in omega (arith, led_place start.args.k start.args.f.now start.requires.1)
+exponent-top-requires : tie.Need-exponent-top-requires invariant-loop-i decreases-loop-i
+exponent-top-requires c κs = let start = c in omega (arith, led_place start.args.k start.args.f.now start.requires.1)
 
-loop-holds : tie.Need-loop-init invariant_loop decreases_loop
-loop-holds c =
-    let start = c.before.before.before in
+loop-i-init : tie.Need-loop-i-init invariant-loop-i decreases-loop-i
+loop-i-init c =
+    let start = c in
     let k = start.args.k in
     let s = start.args.f.now in
     let L = start.requires.1 in
-    (refl, omega arith, omega (arith, led_long k s L), c.exponent.ensures ∙ top_first k s L, front_first k s L)
+    (refl, omega arith, omega (arith, led_long k s L), c.exponent-top.ensures ∙ top_first k s L, front_first k s L)
 
-add-exponent : tie.Need-overflow-add-exponent invariant_loop decreases_loop
-add-exponent c = search rules
+overflow_add-i : tie.Need-overflow_add-i invariant-loop-i decreases-loop-i
+overflow_add-i c = search rules
 
-mul-exponent : tie.Need-overflow-mul-exponent invariant_loop decreases_loop
-mul-exponent c = search rules
+offset_bounds-f-i : tie.Need-offset_bounds-f-i invariant-loop-i decreases-loop-i
+offset_bounds-f-i c = search rules
 
-shared-slice-read-exponent-2 : tie.Need-shared-slice-read-exponent-2 invariant_loop decreases_loop
-shared-slice-read-exponent-2 c = search rules
+bounds-f-i : tie.Need-bounds-f-i invariant-loop-i decreases-loop-i
+bounds-f-i c = search rules
 
-exponent-requires-2 : tie.Need-exponent-requires-2 invariant_loop decreases_loop
-exponent-requires-2 c κs = let start = c.before.before.before.before.before.before in omega (arith, led_place start.args.k start.args.f.now start.requires.1)
+exponent-requires : tie.Need-exponent-requires invariant-loop-i decreases-loop-i
+exponent-requires c κs = let start = c in omega (arith, led_place start.args.k start.args.f.now start.requires.1)
 
-add-i : tie.Need-overflow-add-i invariant_loop decreases_loop
-add-i c = search rules
+overflow_add-i-in-loop-i : tie.Need-overflow_add-i-in-loop-i invariant-loop-i decreases-loop-i
+overflow_add-i-in-loop-i c = search rules
 
-loop-less : tie.Need-loop-smaller invariant_loop decreases_loop
-loop-less c = search rules
+loop-i-smaller : tie.Need-loop-i-smaller invariant-loop-i decreases-loop-i
+loop-i-smaller c = search rules
 
-loop-again : tie.Need-loop-preserved invariant_loop decreases_loop
-loop-again c =
-    let start = c.before.before.before.before.before.before.before.before in
+loop-i-preserved : tie.Need-loop-i-preserved invariant-loop-i decreases-loop-i
+loop-i-preserved c =
+    let start = c in
     let k = start.args.k in
     let s = start.args.f.now in
     let L = start.requires.1 in
-    let at = c.before.before.before.before.loop in
-    let same = sym c.before.exponent2.ensures ∙ eqb-true c.before.exponent2.result c.before.before.before.before.before.exponent.result c.if1.true ∙ at.invariant.3 in
+    let at = c.loop-i in
+    let same = sym c.exponent.ensures ∙ eqb-true c.exponent.result c.exponent.result c.if-exponent-top.true ∙ at.invariant.3 in
     (omega arith, omega arith, omega arith, at.invariant.3, front_next k s L at.i at.invariant.0 (omega arith) same at.invariant.4)
 
-returns : tie.Need-returns invariant_loop decreases_loop
-returns c =
-    let start = c.before.before.before.before.before.before.before.before in
+returns-else-exponent-top : tie.Need-returns-else-exponent-top invariant-loop-i decreases-loop-i
+returns-else-exponent-top c =
+    let start = c in
     let k = start.args.k in
     let s = start.args.f.now in
     let L = start.requires.1 in
-    let at = c.before.before.before.before.loop in
+    let at = c.loop-i in
     split_lower k s L at.i at.invariant.0 (omega arith)
-    (λ q. eqb-false c.before.exponent2.result c.before.before.before.before.before.exponent.result c.if1.false (c.before.exponent2.ensures ∙ q ∙ sym at.invariant.3))
+    (λ q. eqb-false c.exponent.result c.exponent.result c.if-exponent-top.false (c.exponent.ensures ∙ q ∙ sym at.invariant.3))
     at.invariant.4
 
-returns-2 : tie.Need-returns-2 invariant_loop decreases_loop
-returns-2 c =
-    let start = c.before.before.before.before.before in
+returns-after-loop-i : tie.Need-returns-after-loop-i invariant-loop-i decreases-loop-i
+returns-after-loop-i c =
+    let start = c in
     let k = start.args.k in
     let s = start.args.f.now in
     let L = start.requires.1 in
-    let at = c.before.loop in
+    let at = c.loop-i in
     split_end k s L at.i at.invariant.0 (omega arith) at.invariant.4
 
 pub initial_words_spec : {M : Type 1} → statement M
 initial_words_spec =
     tie.close
     (tie.spec
-    invariant_loop
-    decreases_loop
-    shared-slice-read-exponent
+    invariant-loop-i
+    decreases-loop-i
+    bounds-f-1
+    exponent-top-requires
+    loop-i-init
+    overflow_add-i
+    offset_bounds-f-i
+    bounds-f-i
     exponent-requires
-    loop-holds
-    add-exponent
-    mul-exponent
-    shared-slice-read-exponent-2
-    exponent-requires-2
-    add-i
-    loop-less
-    loop-again
-    returns
-    returns-2)
+    overflow_add-i-in-loop-i
+    loop-i-smaller
+    loop-i-preserved
+    returns-else-exponent-top
+    returns-after-loop-i)

@@ -9,26 +9,26 @@ use Rattle.polynomials.specs.Packed.{terms}
 use Rattle.terms.proofs.rest.Statement.{statement}
 use Rattle.terms.proofs.rest.Tie as tie
 
-initial-words-requires : tie.Need-initial-words-requires
-initial-words-requires c κs = search rules
+initial_words-n-requires : tie.Need-initial_words-n-requires
+initial_words-n-requires c κs = search rules
 
-mul-result : tie.Need-overflow-mul-result
-mul-result c = search rules
+offset_bounds-f-n : tie.Need-offset_bounds-f-n
+offset_bounds-f-n c = search rules
 
-sub-result : tie.Need-overflow-sub-result
-sub-result c = search rules
+slice_bounds-result-count : tie.Need-slice_bounds-result-count
+slice_bounds-result-count c = search rules
 
-part-result-start : tie.Need-slice-bounds-result-start
-part-result-start c = search rules
+slice_bounds-result-start : tie.Need-slice_bounds-result-start
+slice_bounds-result-start c = search rules
 
-part-result-end : tie.Need-slice-bounds-result-end
-part-result-end c = search rules
+slice_bounds-result-end : tie.Need-slice_bounds-result-end
+slice_bounds-result-end c = search rules
 
 returns : tie.Need-returns
 returns c =
-    let n = c.before.initial-words.result in
-    let s = c.before.before.before.args.f.now in
-    let split = c.before.initial-words.ensures in
+    let n = c.initial_words-n.result in
+    let s = c.args.f.now in
+    let split = c.initial_words-n.ensures in
     let all = take_all (length s - n) (drop n s) (omega (arith, length-drop n s)) in
     (ap terms all ∙ split.behind, all ∙ ap (λ (n : ℕ). drop n s) split.pairs)
 
@@ -36,9 +36,9 @@ pub rest_spec : {M : Type 1} → statement M
 rest_spec =
     tie.close
     (tie.spec
-    initial-words-requires
-    mul-result
-    sub-result
-    part-result-start
-    part-result-end
+    initial_words-n-requires
+    offset_bounds-f-n
+    slice_bounds-result-count
+    slice_bounds-result-start
+    slice_bounds-result-end
     returns)

@@ -14,90 +14,90 @@ use Rattle.values.proofs.ValueLaws.{value_rest, value_rest_start, value_rest_nex
 use Rattle.values.proofs.value.Statement.{statement}
 use Rattle.values.proofs.value.Tie as tie
 
-abbrev invariant_loop : tie.invariant_loop
-invariant_loop p f point v₀ i₀ v i = (i % 2 ≡ 0) × (v < p) × Canonical p (terms (drop i f)) × (value_rest p f point i v ≡ value_modulo p (terms f) point)
+abbrev invariant-loop-i : tie.invariant-loop-i
+invariant-loop-i p f point v₀ i₀ v i = (i % 2 ≡ 0) × (v < p) × Canonical p (terms (drop i f)) × (value_rest p f point i v ≡ value_modulo p (terms f) point)
 
-abbrev decreases_loop : tie.decreases_loop
-decreases_loop p f point v₀ i₀ v i = length f - i
+abbrev decreases-loop-i : tie.decreases-loop-i
+decreases-loop-i p f point v₀ i₀ v i = length f - i
 
-loop-holds : tie.Need-loop-init invariant_loop decreases_loop
-loop-holds c = (
+loop-i-init : tie.Need-loop-i-init invariant-loop-i decreases-loop-i
+loop-i-init c = (
   search rules,
   search rules,
-  c.before.before.requires.1.0.1,
-  value_rest_start c.before.before.args.p c.before.before.args.f.now c.before.before.args.point.now,
+  c.requires.1.0.1,
+  value_rest_start c.args.p c.args.f.now c.args.point.now,
 )
 
-mul-term-value : tie.Need-overflow-mul-term-value invariant_loop decreases_loop
-mul-term-value c = search rules
+offset_bounds-f-i : tie.Need-offset_bounds-f-i invariant-loop-i decreases-loop-i
+offset_bounds-f-i c = search rules
 
-shared-slice-read-term-value : tie.Need-shared-slice-read-term-value invariant_loop decreases_loop
-shared-slice-read-term-value c = search rules
+bounds-f-i : tie.Need-bounds-f-i invariant-loop-i decreases-loop-i
+bounds-f-i c = search rules
 
-add-term-value : tie.Need-overflow-add-term-value invariant_loop decreases_loop
-add-term-value c = search rules
+overflow_add-i : tie.Need-overflow_add-i invariant-loop-i decreases-loop-i
+overflow_add-i c = search rules
 
-mul-term-value-2 : tie.Need-overflow-mul-term-value-2 invariant_loop decreases_loop
-mul-term-value-2 c = search rules
+offset_bounds-f-i-in-loop-i : tie.Need-offset_bounds-f-i-in-loop-i invariant-loop-i decreases-loop-i
+offset_bounds-f-i-in-loop-i c = search rules
 
-shared-slice-read-term-value-2 : tie.Need-shared-slice-read-term-value-2 invariant_loop decreases_loop
-shared-slice-read-term-value-2 c = search rules
+bounds-f-i-in-loop-i : tie.Need-bounds-f-i-in-loop-i invariant-loop-i decreases-loop-i
+bounds-f-i-in-loop-i c = search rules
 
-term-value-requires : tie.Need-term-value-requires invariant_loop decreases_loop
-term-value-requires c κs =
-    let l = c.before.before.before.loop in
-    let a = c.before.before.before.before.before.before.args in
-    ((search rules, search rules, (canonical_at a.p a.f.now l.i (search rules) l.invariant.2).0), c.before.before.before.before.before.before.requires.1.1)
+term_value-requires : tie.Need-term_value-requires invariant-loop-i decreases-loop-i
+term_value-requires c κs =
+    let l = c.loop-i in
+    let a = c.args in
+    ((search rules, search rules, (canonical_at a.p a.f.now l.i (search rules) l.invariant.2).0), c.requires.1.1)
 
-add-requires : tie.Need-add-requires invariant_loop decreases_loop
-add-requires c κs =
-    let p = c.before.before.before.before.before.before.before.args.p in
-    let r< : c.term-value.result < p = rw c.term-value.ensures (mod-lt _ (omega arith)) in
+add-v-requires : tie.Need-add-v-requires invariant-loop-i decreases-loop-i
+add-v-requires c κs =
+    let p = c.args.p in
+    let r< : c.term_value.result < p = rw c.term_value.ensures (mod-lt _ (omega arith)) in
     (search rules, search rules, search rules)
 
-add-i : tie.Need-overflow-add-i invariant_loop decreases_loop
-add-i c = search rules
+overflow_add-i-in-loop-i : tie.Need-overflow_add-i-in-loop-i invariant-loop-i decreases-loop-i
+overflow_add-i-in-loop-i c = search rules
 
-loop-less : tie.Need-loop-smaller invariant_loop decreases_loop
-loop-less c = search rules
+loop-i-smaller : tie.Need-loop-i-smaller invariant-loop-i decreases-loop-i
+loop-i-smaller c = search rules
 
-loop-again : tie.Need-loop-preserved invariant_loop decreases_loop
+loop-i-preserved : tie.Need-loop-i-preserved invariant-loop-i decreases-loop-i
 unfolding sum
-loop-again c =
-    let p = c.before.before.before.before.before.before.before.before.args.p in
-    let f = c.before.before.before.before.before.before.before.before.args.f.now in
-    let xs = c.before.before.before.before.before.before.before.before.args.point.now in
-    let l = c.before.before.before.before.before.loop in
+loop-i-preserved c =
+    let p = c.args.p in
+    let f = c.args.f.now in
+    let xs = c.args.point.now in
+    let l = c.loop-i in
     let i = l.i in
     let two : i + 1 < length f = search rules in
-    let r : c.add.result ≡ (l.v + get_or f i 0 * monomial_valueℕ xs (bytes 8 (get_or f (i + 1) 0)) % p) % p = c.add.ensures ∙ ap (λ z. (l.v + z) % p) c.before.term-value.ensures in (
+    let r : c.add-v.result ≡ (l.v + get_or f i 0 * monomial_valueℕ xs (bytes 8 (get_or f (i + 1) 0)) % p) % p = c.add-v.ensures ∙ ap (λ z. (l.v + z) % p) c.term_value.ensures in (
       omega arith,
       rw r (mod-lt _ (omega arith)),
       (canonical_at p f i two l.invariant.2).1,
       ap (value_rest p f xs (i + 2)) r ∙ sym (value_rest_next p f i two xs l.v) ∙ l.invariant.3,
     )
 
-returns : tie.Need-returns invariant_loop decreases_loop
+returns : tie.Need-returns invariant-loop-i decreases-loop-i
 returns c =
-    let l = c.before.loop in
-    let a = c.before.before.before.before.args in
+    let l = c.loop-i in
+    let a = c.args in
     sym (value_rest_end a.p a.f.now a.point.now l.i l.v l.invariant.1 (search rules)) ∙ l.invariant.3
 
 pub value_spec : {M : Type 1} → statement M
 value_spec =
     tie.close
     (tie.spec
-    invariant_loop
-    decreases_loop
-    loop-holds
-    mul-term-value
-    shared-slice-read-term-value
-    add-term-value
-    mul-term-value-2
-    shared-slice-read-term-value-2
-    term-value-requires
-    add-requires
-    add-i
-    loop-less
-    loop-again
+    invariant-loop-i
+    decreases-loop-i
+    loop-i-init
+    offset_bounds-f-i
+    bounds-f-i
+    overflow_add-i
+    offset_bounds-f-i-in-loop-i
+    bounds-f-i-in-loop-i
+    term_value-requires
+    add-v-requires
+    overflow_add-i-in-loop-i
+    loop-i-smaller
+    loop-i-preserved
     returns)

@@ -51,7 +51,7 @@ abbrev pub Entry : Type 0
 Entry = Of tie.Start
 
 -- The run's loop begins.
-abbrev pub run_begun : Of tie.After-slice-known7 → Entry
+abbrev pub run_begun : Of tie.After-slice_known-7-1 → Entry
 run_begun m = m.before.before.before.before.before.before.before
 
 -- A turn of it begins.
@@ -63,34 +63,34 @@ to_entry m = run_begun m.before
 
 -- No branch is open.
 abbrev pub NoneOpen : Type 0
-NoneOpen = Of tie.Then1
+NoneOpen = Of tie.Then-not-is_open
 
 abbrev pub none_in : NoneOpen → RunTurn
-none_in m = m.before.before.before
+none_in m = m.before.before
 
 -- A branch is open.
 abbrev pub BranchOpen : Type 0
-BranchOpen = Of tie.Else1
+BranchOpen = Of tie.Else-not-is_open
 
 abbrev pub to_turn : BranchOpen → RunTurn
-to_turn m = m.before.before.before
+to_turn m = m.before.before
 
 -- And a step is left.
 abbrev pub StepLeft : Type 0
-StepLeft = Of tie.Else2
+StepLeft = Of tie.Else-limit-steps
 
 abbrev pub to_open : StepLeft → BranchOpen
 to_open m = m.before
 
 -- A round did not fit x in an earlier step; or the next step is due.
 abbrev pub RunCrowded : Type 0
-RunCrowded = Of tie.Then3
+RunCrowded = Of tie.Then-crowded
 
 abbrev pub crowded_run : RunCrowded → RunTurn
 crowded_run m = to_turn (to_open m.before)
 
 abbrev pub StepDue : Type 0
-StepDue = Of tie.Else3
+StepDue = Of tie.Else-crowded
 
 abbrev pub to_step : StepDue → StepLeft
 to_step m = m.before
@@ -99,11 +99,11 @@ abbrev pub open_of : StepDue → BranchOpen
 open_of m = to_open (to_step m)
 
 -- `prepare` is called; it has answered.
-abbrev pub prepare_due : Of tie.After-prepare-arg4 → StepDue
+abbrev pub prepare_due : Of tie.After-prepare-arg-in-run-3-1 → StepDue
 prepare_due m = m.before.before.before.before
 
 abbrev pub StepPrepared : Type 0
-StepPrepared = Of tie.After-slice-known11
+StepPrepared = Of tie.After-slice_known-in-run-4-1
 
 abbrev pub prepare_call : StepPrepared → Of tie.After-prepare
 prepare_call m = m.before.before.before.before.before.before.before.before
@@ -116,21 +116,21 @@ to_run m = to_turn (open_of (to_due m))
 
 -- It answered that the pivot does not fit t.
 abbrev pub PivotCrowded : Type 0
-PivotCrowded = Of tie.After-enum-told2
+PivotCrowded = Of tie.In-Crowded
 
 abbrev pub crowded_in : PivotCrowded → StepPrepared
 crowded_in m = m.before.before
 
 -- It answered that the step stops.
 abbrev pub StepStopped : Type 0
-StepStopped = Of tie.After-known-told
+StepStopped = Of tie.In-Stop
 
 abbrev pub stopped_in : StepStopped → StepPrepared
 stopped_in m = m.before.before.before
 
 -- It answered members to be divided.
 abbrev pub MembersFound : Type 0
-MembersFound = Of tie.After-known-told2
+MembersFound = Of tie.In-Members
 
 abbrev pub to_prepared : MembersFound → StepPrepared
 to_prepared m = m.before.before.before
@@ -149,16 +149,16 @@ abbrev pub to_found : MembersTurn → MembersFound
 to_found m = m.before
 
 -- `take` is called; it has answered: the next member is in r.
-abbrev pub take_due : Of tie.After-take-arg2 → Of tie.In-members
+abbrev pub take_due : Of tie.After-take-arg-in-members-1 → Of tie.In-Members
 take_due m = m.before.before
 
 abbrev pub MemberTaken : Type 0
-MemberTaken = Of tie.After-slice-known13
+MemberTaken = Of tie.After-slice_known-in-members-2-1
 
-abbrev pub take_call : MemberTaken → Of tie.After-take
+abbrev pub take_call : MemberTaken → Of tie.After-take-n
 take_call m = m.before.before.before.before
 
-abbrev pub to_left : MemberTaken → Of tie.In-members
+abbrev pub to_left : MemberTaken → Of tie.In-Members
 to_left m = take_due (take_call m).before
 
 abbrev pub to_members : MemberTaken → MembersTurn
@@ -179,14 +179,14 @@ division_of m = found_of (to_taken m)
 
 -- A round is due.
 abbrev pub RoundDue : Type 0
-RoundDue = Of tie.Else4
+RoundDue = Of tie.Else-e-degree
 
 abbrev pub to_division : RoundDue → DivisionTurn
-to_division m = m.before.before.before
+to_division m = m.before.before
 
 -- Whether it fits x is known.
 abbrev pub RoundTried : Type 0
-RoundTried = Of tie.Joined5
+RoundTried = Of tie.Joined-not-round_fits
 
 abbrev pub tried_of : RoundTried → RoundDue
 tried_of m = m.before.before
@@ -196,9 +196,9 @@ abbrev pub round_due : Of tie.After-round-anywhere-arg6 → RoundTried
 round_due m = m.before.before.before.before.before.before
 
 abbrev pub RoundDone : Type 0
-RoundDone = Of tie.After-slice-known17
+RoundDone = Of tie.After-slice_known-in-division-4-1
 
-abbrev pub round_call : RoundDone → Of tie.After-round-anywhere
+abbrev pub round_call : RoundDone → Of tie.After-round_anywhere
 round_call m = m.before.before.before.before.before.before.before.before
 
 abbrev pub to_tried : RoundDone → RoundTried
@@ -212,32 +212,32 @@ round_of m = to_division (to_round m)
 
 -- It answered that r has the words formed; or that a bound is passed, of degree or of terms.
 abbrev pub WordsFormed : Type 0
-WordsFormed = Of tie.After-known-told3
+WordsFormed = Of tie.In-Words
 
 abbrev pub to_rounded : WordsFormed → RoundDone
 to_rounded m = m.before.before.before
 
-abbrev pub degree_in : Of tie.After-enum-told3 → RoundDone
+abbrev pub degree_in : Of tie.In-OverDegree → RoundDone
 degree_in m = m.before.before
 
-abbrev pub terms_in : Of tie.After-enum-told4 → RoundDone
+abbrev pub terms_in : Of tie.In-OverTerms → RoundDone
 terms_in m = m.before.before
 
 -- The member is divided.
 abbrev pub MemberDivided : Type 0
-MemberDivided = Of tie.Then4
+MemberDivided = Of tie.Then-e-degree
 
 abbrev pub divided_in : MemberDivided → DivisionTurn
-divided_in m = m.before.before.before
+divided_in m = m.before.before
 
 -- `put_back` is called; it has answered.
-abbrev pub put_due : Of tie.After-put-back-arg2 → MemberDivided
+abbrev pub put_due : Of tie.After-put_back-arg-in-members-1 → MemberDivided
 put_due m = m.before.before
 
 abbrev pub MemberPut : Type 0
-MemberPut = Of tie.After-slice-known19
+MemberPut = Of tie.After-slice_known-in-members-4-1
 
-abbrev pub put_call : MemberPut → Of tie.After-put-back
+abbrev pub put_call : MemberPut → Of tie.After-put_back
 put_call m = m.before.before.before.before
 
 abbrev pub to_divided : MemberPut → MemberDivided
@@ -248,7 +248,7 @@ put_of m = divided_in (to_divided m)
 
 -- The step is done, with members divided or without.
 abbrev pub StepDone : Type 0
-StepDone = Of tie.At-match-branch
+StepDone = Of tie.Joined-prepare
 
 abbrev pub done_in : StepDone → StepPrepared
 done_in m = m.before
@@ -268,7 +268,7 @@ at_turn m =
 abbrev pub at_prepared : StepPrepared → Slices
 at_prepared m =
     let a = at_turn (to_run m) in
-    let l = (prepare_call m).prepare.last in
+    let l = (prepare_call m).prepare.new in
     slices l.0 l.1.1.0 l.1.1.1.0 l.1.1.1.1.0 a.x a.y a.z
 
 abbrev pub at_found : MembersFound → Slices
@@ -283,7 +283,7 @@ at_members m =
 abbrev pub at_taken : MemberTaken → Slices
 at_taken m =
     let a = at_members (to_members m) in
-    let l = (take_call m).take.last in
+    let l = (take_call m).take-n.new in
     slices l.0 a.t a.i l.1.1.1.1.0 a.x a.y a.z
 
 abbrev pub at_division : DivisionTurn → Slices
@@ -295,17 +295,17 @@ at_division m =
 abbrev pub at_rounded : RoundDone → Slices
 at_rounded m =
     let a = at_division (round_of m) in
-    let l = (round_call m).round-anywhere.last.1.1.1.1.1.1 in
+    let l = (round_call m).round_anywhere.new.r in
     slices a.w a.t a.i l.0 l.1.1.0 l.1.1.1.0 l.1.1.1.1.0
 
 abbrev pub at_put : MemberPut → Slices
 at_put m =
     let a = at_division (put_of m) in
-    let l = (put_call m).put_back.last in
+    let l = (put_call m).put_back.new in
     slices l.0 a.t a.i l.1.1.1.1.0 a.x a.y a.z
 
 abbrev pub at_done : StepDone → Slices
 at_done m =
     let a = at_prepared (done_in m) in
-    let b = m.match in
+    let b = m.match-prepare in
     slices b.w a.t a.i b.r b.x b.y b.z

@@ -89,7 +89,7 @@ returns c =
     let first = c.word.ensures in
     let some : word w a.i 0 ≢ 0 = λ z. c.if-c-eq0.false (first ∙ z) in
     let below : ltb 0 a.m && leb a.new e.result ≡ false =
-    ⊎_elim (λ u. rw (lt-ltb 0 a.m u.if-m-gt0.true, u.if-last-e.false)) (λ u.if-m-gt0. rw (le-ltb 0 a.m u.if-m-gt0.false)) c.else-m-gt0.branch-raw in
+    ⊎_elim (λ u. rw (lt-ltb 0 a.m u.if-m-gt0.true, u.if-last-e.false)) (λ u. rw (le-ltb 0 a.m u.if-m-gt0.false)) c.else-m-gt0.branch-raw in
     good_term w a.p a.n a.m a.new a.i e.result (omega arith) some (omega arith) packed (sym c.has_above.ensures ∙ c.if-has_above.false)
     (falls_before a.m e.result a.new (omega arith) (omega arith) ∙ below)
 

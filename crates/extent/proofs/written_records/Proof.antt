@@ -39,7 +39,7 @@ returns-then-u-system : tie.Need-returns-then-u-system
 returns-then-u-system c =
     let d = c in
     let b = first d.before.before in (
-      extent_u (list d.before.before) b.if-list-lt4.left b.chain_last-system.ensures.0 d.if-system-eq0.false d.chain_last-u.ensures.0
+      extent_u (list d.before.before) b.if-list-lt4.false b.chain_last-system.ensures.0 d.if-system-eq0.false d.chain_last-u.ensures.0
           c.if-u-system.true c.chain_last.ensures.0,
       omega arith,
     )
@@ -58,7 +58,7 @@ returns-then-t-system c =
     let u = c in
     let d = u in
     let b = first d.before.before.before.before in (
-      extent_t (list d.before.before.before.before) b.if-list-lt4.left b.chain_last-system.ensures.0 d.if-system-eq0.false d.chain_last-u.ensures.0
+      extent_t (list d.before.before.before.before) b.if-list-lt4.false b.chain_last-system.ensures.0 d.if-system-eq0.false d.chain_last-u.ensures.0
           u.if-u-system.false u.chain_last-t.ensures.0 c.if-t-system.true c.chain_last-then-t-system.ensures.0,
       omega arith,
     )
@@ -71,7 +71,7 @@ returns c =
     let u = c in
     let d = u in
     let b = first d.before.before.before in (
-      extent_system (list d.before.before.before) b.if-list-lt4.left b.chain_last-system.ensures.0 d.if-system-eq0.false d.chain_last-u.ensures.0
+      extent_system (list d.before.before.before) b.if-list-lt4.false b.chain_last-system.ensures.0 d.if-system-eq0.false d.chain_last-u.ensures.0
           u.if-u-system.false u.chain_last-t.ensures.0 c.if-t-system.false,
       omega arith,
     )

@@ -31,11 +31,11 @@ Left table p n first work₀ q work i =
     → PutLeft table p n q (capacity work₀) fs c i (view work)
 
 abbrev invariant-loop-i : tie.invariant-loop-i
-invariant-loop-i table p n first work₀ r₀ in-q i₀ work r i =
-    (length work ≡ length work₀) × (length r ≡ length r₀) × Left table p n first work₀ in-q work i × (outside work ≡ outside work₀)
+invariant-loop-i table p n first work₀ r₀ in_q i₀ work r i =
+    (length work ≡ length work₀) × (length r ≡ length r₀) × Left table p n first work₀ in_q work i × (outside work ≡ outside work₀)
 
 abbrev decreases-loop-i : tie.decreases-loop-i
-decreases-loop-i table p n first work₀ r₀ in-q i₀ work r i = left (records table) i
+decreases-loop-i table p n first work₀ r₀ in_q i₀ work r i = left (records table) i
 
 loop-i-init : tie.Need-loop-i-init invariant-loop-i decreases-loop-i
 loop-i-init c =
@@ -44,7 +44,7 @@ loop-i-init c =
     let some = some_record s.requires.0.0 in (
       omega arith,
       omega arith,
-      λ fs b e x. put_first a.table.now a.p a.n a.in-q (capacity a.work.now) fs b a.first (view a.work.now) some e x,
+      λ fs b e x. put_first a.table.now a.p a.n a.in_q (capacity a.work.now) fs b a.first (view a.work.now) some e x,
       refl,
     )
 
@@ -53,7 +53,7 @@ abbrev start : tie.In-loop-i invariant-loop-i decreases-loop-i → tie.Start inv
 start c = c.before.before.before.before.before
 
 here : (c : tie.In-loop-i invariant-loop-i decreases-loop-i) → let s = start c in let a = s.args in let l = c.loop-i in
-    PutLeft a.table.now a.p a.n a.in-q (capacity a.work.now) s.requires.0.1.0 s.requires.1.0.0 l.i (view l.work)
+    PutLeft a.table.now a.p a.n a.in_q (capacity a.work.now) s.requires.0.1.0 s.requires.1.0.0 l.i (view l.work)
 here c = let s = start c in c.loop-i.invariant.2 s.requires.0.1.0 s.requires.1.0.0 s.requires.0.1.1 s.requires.1.0.1
 
 abbrev head : (c : tie.In-loop-i invariant-loop-i decreases-loop-i) → Member (here c).chain
@@ -93,12 +93,12 @@ put_one-requires c κs =
 
 -- What `put_one` says, in the room that there was at entry.
 puts : (c : tie.After-put_one invariant-loop-i decreases-loop-i) → let d = c in let a = (start d.before.before.before.before.before.before).args in let l = d.loop-i in
-    Puts (view l.work) (capacity a.work.now) a.in-q (take d.load_monic-m.result (words d.before.before.before.before)) c.put_one.result (view c.put_one.new.work)
+    Puts (view l.work) (capacity a.work.now) a.in_q (take d.load_monic-m.result (words d.before.before.before.before)) c.put_one.result (view c.put_one.new.work)
 puts c =
     let d = c in
     let a = (start d.before.before.before.before.before.before).args in
     let l = d.loop-i in
-    subst (λ (m : ℕ). Puts (view l.work) m a.in-q (take d.load_monic-m.result (words d.before.before.before.before)) c.put_one.result (view c.put_one.new.work))
+    subst (λ (m : ℕ). Puts (view l.work) m a.in_q (take d.load_monic-m.result (words d.before.before.before.before)) c.put_one.result (view c.put_one.new.work))
     (same_capacity l.work a.work.now l.invariant.0) c.put_one.ensures.0
 
 shape_of-work-then-not-put_one : tie.Need-shape_of-work-then-not-put_one invariant-loop-i decreases-loop-i
@@ -113,7 +113,7 @@ returns-then-not-put_one c =
     let d = k in
     let a = (start d.before.before.before.before.before.before.before.before.before).args in
     let l = d.loop-i in (
-      λ fs b e x. put_fails a.table.now a.p a.n a.in-q (capacity a.work.now) fs b l.i (view l.work) (l.invariant.2 fs b e x) d.loop-i-test.true
+      λ fs b e x. put_fails a.table.now a.p a.n a.in_q (capacity a.work.now) fs b l.i (view l.work) (l.invariant.2 fs b e x) d.loop-i-test.true
           d.load_monic-m.result (words d.before.before.before.before.before.before.before) d.load_monic-m.ensures k.put_one.result (view k.put_one.new.work) (puts k.before.before.before) (not-true k.put_one.result c.if-not-put_one.true),
       k.put_one.ensures.1 ∙ l.invariant.3,
     )
@@ -138,7 +138,7 @@ loop-i-preserved c =
       k.put_one.auto.work ∙ l.invariant.0,
       d.load_monic-m.auto.out ∙ l.invariant.1,
       λ fs b e x. rw c.word-i.ensures
-          (put_next a.table.now a.p a.n a.in-q (capacity a.work.now) fs b
+          (put_next a.table.now a.p a.n a.in_q (capacity a.work.now) fs b
           l.i (view l.work) (l.invariant.2 fs b e x) d.loop-i-test.true
           d.load_monic-m.result (words d.before.before.before.before.before.before.before.before) d.load_monic-m.ensures k.put_one.result (view k.put_one.new.work) (puts k.before.before.before.before) (not-false k.put_one.result c.if-not-put_one.false)),
       k.put_one.ensures.1 ∙ l.invariant.3,
@@ -154,7 +154,7 @@ returns : tie.Need-returns invariant-loop-i decreases-loop-i
 returns c =
     let a = c.args in
     let l = c.loop-i in (
-      λ fs b e x. put_end a.table.now a.p a.n a.in-q (capacity a.work.now) fs b l.i (view l.work) (l.invariant.2 fs b e x) c.loop-i-test.false,
+      λ fs b e x. put_end a.table.now a.p a.n a.in_q (capacity a.work.now) fs b l.i (view l.work) (l.invariant.2 fs b e x) c.loop-i-test.false,
       l.invariant.3,
     )
 

@@ -40,7 +40,7 @@ left_in_q : (c : tie.After-count_q) (b : Stored) (bs ss : List Stored) → let s
 left_in_q c b bs ss H =
     let e = to_q c in
     let s = entry_q e in
-    (c.count_q.ensures b bs ss H, has_q s.args.place s.args.left b e.if-closing.taken (s.requires.1.0 b bs ss H))
+    (c.count_q.ensures b bs ss H, has_q s.args.place s.args.left b e.if-closing.true (s.requires.1.0 b bs ss H))
 
 -- The place of the member of P, before the removal.
 is_in_p : (c : tie.Else-closing) (b : Stored) (bs ss : List Stored) → let s = entry_p c in Entry s b bs ss → s.args.place < length b.P
@@ -79,7 +79,7 @@ returns-then-closing c =
     let o = s.requires.0 in (
       (λ b bs ss H.
           let l = d.load_q-n.ensures b bs ss H in
-          took_q s.args.place s.args.left b bs ss _ _ _ _ e.if-closing.taken a.count_q.result (a.count_q.ensures b bs ss H)
+          took_q s.args.place s.args.left b bs ss _ _ _ _ e.if-closing.true a.count_q.result (a.count_q.ensures b bs ss H)
           (l.0, l.1) (c.remove_q.ensures.0 b bs ss H)),
       ((d.load_q-n.ensures o.0 o.1 o.2 o.3).2, c.remove_q.ensures.1),
     )
@@ -112,7 +112,7 @@ returns c =
     let o = s.requires.0 in (
       (λ b bs ss H.
           let l = d.load_p-n.ensures b bs ss H in
-          took_p s.args.place s.args.left b bs ss _ _ _ _ e.if-closing.left (l.0, l.1) (c.remove_p.ensures.0 b bs ss H)),
+          took_p s.args.place s.args.left b bs ss _ _ _ _ e.if-closing.false (l.0, l.1) (c.remove_p.ensures.0 b bs ss H)),
       ((d.load_p-n.ensures o.0 o.1 o.2 o.3).2, c.remove_p.ensures.1),
     )
 

@@ -82,7 +82,7 @@ resize-requires c κs =
     let s = room_of i in
     let r = s in
     let A = opened r.before in
-    let h = put_start A.held (end_read r.before).get1-end.ensures A.adds A.there r.get2-top.ensures s.if-top-end.left i.insert.ensures.0 in
+    let h = put_start A.held (end_read r.before).get1-end.ensures A.adds A.there r.get2-top.ensures s.if-top-end.false i.insert.ensures.0 in
     still_inside (w r.before) i.insert.new.w h i.insert.auto.w
 
 shape_of-w : tie.Need-shape_of-w
@@ -96,10 +96,10 @@ returns c =
     let r = s in
     let some = opened r.before in (
       λ b bs ss A. leaves_held
-          (held_put A.held (end_read r.before).get1-end.ensures A.adds A.there r.get2-top.ensures s.if-top-end.left i.insert.ensures.0 (start r.before).requires.0 A.counts
+          (held_put A.held (end_read r.before).get1-end.ensures A.adds A.there r.get2-top.ensures s.if-top-end.false i.insert.ensures.0 (start r.before).requires.0 A.counts
           k.resize.ensures.0),
       outside_stays (w r.before) k.resize.new.w (k.resize.auto.w ∙ i.insert.auto.w) (k.resize.ensures.0, k.resize.ensures.1 ∙ i.insert.ensures.1)
-          (beyond_put some.held (end_read r.before).get1-end.ensures some.adds some.there r.get2-top.ensures s.if-top-end.left i.insert.ensures.0 _ _ _),
+          (beyond_put some.held (end_read r.before).get1-end.ensures some.adds some.there r.get2-top.ensures s.if-top-end.false i.insert.ensures.0 _ _ _),
     )
 
 pub put_at_spec : {M : Type 1} → statement M

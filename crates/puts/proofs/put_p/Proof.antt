@@ -59,7 +59,7 @@ module _ {b : Stored} {bs ss : List Stored} where
       Entry r b bs ss → PutAt (w r) c.skip-to.result (f r) ((o r).p + 1) (o r).q (o r).t (put_into_p (f r) b) bs ss
   put c H =
       let r = from_place c in
-      let new : put_p (f r) b.P ≡ b.P ++ (f r ∷ []) = put_p_new _ _ r.if-f-eq0.left (found_is (else_of c).before H ∙ (else_of c).if-contains.false) in
+      let new : put_p (f r) b.P ≡ b.P ++ (f r ∷ []) = put_p_new _ _ r.if-f-eq0.false (found_is (else_of c).before H ∙ (else_of c).if-contains.false) in
       record {
         b = b;
         held = H;

@@ -70,8 +70,8 @@ module _ {b : Stored} {bs ss : List Stored} where
   put c H =
       let e = else_of c in
       let r = from_place c in
-      let not-one = sym r.is_one.ensures ∙ r.if-is_one.left in
-      let new : put_q (f r) (take (seen (left r) b) b.Q) ≡ take (seen (left r) b) b.Q ++ (f r ∷ []) = put_q_new _ _ not-one (found_is e.before H ∙ e.if-contains.left) in
+      let not-one = sym r.is_one.ensures ∙ r.if-is_one.false in
+      let new : put_q (f r) (take (seen (left r) b) b.Q) ≡ take (seen (left r) b) b.Q ++ (f r ∷ []) = put_q_new _ _ not-one (found_is e.before H ∙ e.if-contains.false) in
       record {
         b = b;
         held = H;

@@ -125,7 +125,7 @@ round_requires c κs =
     let P = pivoted d in
     let D = division_invariant d in
     let s = suits_division d in (
-      (omega (arith, M.prime.two≤), M.below, P.variable, P.some, m.if-e-degree.left),
+      (omega (arith, M.prime.two≤), M.below, P.variable, P.some, m.if-e-degree.false),
       (
         (P.pivot, P.of_degree),
         (

@@ -106,7 +106,7 @@ loop-j-preserved c =
     ap (scan v place j) (all_turn u i (k - j) (some turn.before.before))
     ∙ ⊎_elim
     (λ w. scan_unled v place j f fs w.if-j-place.true (λ (e : leader f ≡ suc v). eqb-false w.leader_at.result (v + 1) w.if-leader_at-v.false (omega (arith, w.leader_at.ensures))))
-    (λ w.if-j-place. scan_pivot v place j f fs w.if-j-place.false) c.else-j-place.branch-raw in (
+    (λ w. scan_pivot v place j f fs w.if-j-place.false) c.else-j-place.branch-raw in (
       (λ t. skip_to u (i + 1 + c.get0-n.ensures t) (less t)) ∙ sym (skip_turn u i (k - j) (some turn.before.before)) ∙ l.invariant.0,
       (λ t. scan v place (j + 1) (all_at u (i + 1 + c.get0-n.ensures t) (less t))) ∙ sym step ∙ l.invariant.1,
       (p, subst (λ (ss : List (List ℕ)). AllHold p ss) (sym (λ t. polys_at u (i + 1 + c.get0-n.ensures t) (less t))) (all_hold_turn p u i (k - j) (some turn.before.before) l.invariant.2.1).1),

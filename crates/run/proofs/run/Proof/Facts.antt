@@ -114,7 +114,7 @@ module _ (m : StepPrepared) where
   preparation = record { same = prepare_keeps.w; answers = (prepare_call m).prepare.ensures.0 }
 
   pub steps_left : (to_run m).run.steps < limit (to_run m)
-  steps_left = omega (arith, (to_step (to_due m)).if-limit-steps.left)
+  steps_left = omega (arith, (to_step (to_due m)).if-limit-steps.false)
 
   -- Where the step stops, the run does.
   run_stops : (why : Reason) (v : List ℕ) → length v ≡ length (at_entry (to_entry (to_run m))).w-1 → Opened v

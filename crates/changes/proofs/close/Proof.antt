@@ -94,7 +94,7 @@ remove_p-requires : tie.Need-remove_p-requires
 remove_p-requires c κs = let s = c in (s.requires.0, λ b bs ss H. (s.requires.1.0 b bs ss H).0)
 
 open_branch-b-requires : tie.Need-open_branch-b-requires
-open_branch-b-requires c κs = let m = c in (_, _, _, after m (opened m.before.before))
+open_branch-b-requires c κs = let m = c in (_, _, _, after m.before.before (opened m.before.before))
 
 overflow_cast-b : tie.Need-overflow_cast-b
 overflow_cast-b c = search rules
@@ -103,7 +103,7 @@ skip-requires : tie.Need-skip-requires
 skip-requires c κs =
     let r = c in
     let m = removed r.before in
-    inside_room (w m) (end_p_inside (after m (opened m)) (open_is r (opened m)))
+    inside_room (w m) (end_p_inside (after m (opened m)) (open_is r.before (opened m)))
 
 overflow_cast-b-2 : tie.Need-overflow_cast-b-2
 overflow_cast-b-2 c = search rules
@@ -124,7 +124,7 @@ put_at-requires : tie.Need-put_at-requires
 put_at-requires c κs =
     let k = c in
     let m = removed (from_gap k.before.before) in
-    ((start m).requires.1.1, (_, _, _, put k (opened m)))
+    ((start m).requires.1.1, (_, _, _, put k.before.before (opened m)))
 
 shape_of-w : tie.Need-shape_of-w
 shape_of-w c = search rules
@@ -136,7 +136,7 @@ returns c =
     let m = removed (from_gap g.before.before.before.before.before) in
     let s = (start m).args.w.now in (
       λ b bs ss H. let fits = closed_fits b (i m) (is_member m H).0 (held_by _ _ s (w m) (sym m.remove_p.auto.w) H) in
-          held_by _ _ (w m) s m.remove_p.auto.w (held_left (k.put_at.ensures.0 _ _ _ (put g H)) fits),
+          held_by _ _ (w m) s m.remove_p.auto.w (held_left (k.put_at.ensures.0 _ _ _ (put g.before.before.before.before.before H)) fits),
       k.put_at.ensures.1 ∙ m.remove_p.ensures.1,
     )
 

@@ -79,7 +79,7 @@ overflow_cast-b : tie.Need-overflow_cast-b
 overflow_cast-b c = search rules
 
 skip-requires : tie.Need-skip-requires
-skip-requires c κs = let r = c in inside_room (w r.before) (end_p_inside (opened r.before) (open_is r (opened r.before)))
+skip-requires c κs = let r = c in inside_room (w r.before) (end_p_inside (opened r.before) (open_is r.before (opened r.before)))
 
 skip-from-requires : tie.Need-skip-from-requires
 skip-from-requires c κs =
@@ -91,13 +91,13 @@ overflow_sub-b : tie.Need-overflow_sub-b
 overflow_sub-b c = let r = from_place c.before.before in omega (arith, i_small r (opened r), q_is (opened r) (open_is r (opened r)))
 
 take_at-requires : tie.Need-take_at-requires
-take_at-requires c κs = let k = c in (_, _, _, taken k (opened (from_place k.before.before)))
+take_at-requires c κs = let k = c in (_, _, _, taken k.before.before (opened (from_place k.before.before)))
 
 shape_of-w : tie.Need-shape_of-w
 shape_of-w c = search rules
 
 returns : tie.Need-returns
-returns c = let m = c in (λ b bs ss H. m.take_at.ensures.0 _ _ _ (taken m.before.before.before H), m.take_at.ensures.1)
+returns c = let m = c in (λ b bs ss H. m.take_at.ensures.0 _ _ _ (taken m.before.before.before.before.before H), m.take_at.ensures.1)
 
 pub remove_q_spec : {M : Type 1} → statement M
 remove_q_spec =

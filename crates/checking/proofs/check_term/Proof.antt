@@ -16,7 +16,7 @@ overflow_cast-result : tie.Need-overflow_cast-result
 overflow_cast-result c = fits_word c.requires.0 c.requires.1
 
 returns-then-m-ge256 : tie.Need-returns-then-m-ge256
-returns-then-m-ge256 c = let a = c.args in refused_terms a.table.now a.p a.n a.m a.new a.i c.if-m-ge256.true
+returns-then-m-ge256 c = let a = c.args in refused_terms a.table.now a.p a.n a.m a.last a.i c.if-m-ge256.true
 
 word-c-requires : tie.Need-word-c-requires
 word-c-requires c κs = search rules
@@ -28,7 +28,7 @@ returns-then-c-eq0 : tie.Need-returns-then-c-eq0
 returns-then-c-eq0 c =
     let a = c.args in
     let w = a.table.now in
-    refused_coefficient w a.p a.n a.m a.new a.i (omega arith) (rw (eq-eqb (word w a.i 0) 0 (sym c.word-c.ensures ∙ c.if-c-eq0.true)))
+    refused_coefficient w a.p a.n a.m a.last a.i (omega arith) (rw (eq-eqb (word w a.i 0) 0 (sym c.word-c.ensures ∙ c.if-c-eq0.true)))
 
 overflow_cast-result-then-p-c : tie.Need-overflow_cast-result-then-p-c
 overflow_cast-result-then-p-c c = fits_word c.requires.0 c.requires.1
@@ -38,7 +38,7 @@ returns-then-p-c c =
     let a = c.args in
     let w = a.table.now in
     let first = c.word-c.ensures in
-    refused_coefficient w a.p a.n a.m a.new a.i (omega arith)
+    refused_coefficient w a.p a.n a.m a.last a.i (omega arith)
     (rw (ne_eqb (word w a.i 0) 0 (λ z. c.if-c-eq0.false (first ∙ z)), le-leb a.p (word w a.i 0) (omega (arith, first))))
 
 word-requires : tie.Need-word-requires
@@ -64,7 +64,7 @@ returns-then-has_above c =
     let packed = e.ensures.1 ∙ ap₂ exponents c.word.ensures c.word-2.ensures in
     let first = c.word.ensures in
     let some : word w a.i 0 ≢ 0 = λ z. c.if-c-eq0.false (first ∙ z) in
-    refused_exponent w a.p a.n a.m a.new a.i e.result (omega arith) some (omega arith) packed (sym c.has_above.ensures ∙ c.if-has_above.true)
+    refused_exponent w a.p a.n a.m a.last a.i e.result (omega arith) some (omega arith) packed (sym c.has_above.ensures ∙ c.if-has_above.true)
 
 overflow_cast-result-then-last-e : tie.Need-overflow_cast-result-then-last-e
 overflow_cast-result-then-last-e c = let s = c in fits_word s.requires.0 s.requires.1
@@ -77,8 +77,8 @@ returns-then-last-e c =
     let packed = e.ensures.1 ∙ ap₂ exponents c.word.ensures c.word-2.ensures in
     let first = c.word.ensures in
     let some : word w a.i 0 ≢ 0 = λ z. c.if-c-eq0.false (first ∙ z) in
-    refused_order w a.p a.n a.m a.new a.i e.result (omega arith) some (omega arith) packed (sym c.has_above.ensures ∙ c.if-has_above.false)
-    (falls_before a.m e.result a.new (omega arith) (omega arith) ∙ rw (lt-ltb 0 a.m c.if-m-gt0.true, c.if-last-e.true))
+    refused_order w a.p a.n a.m a.last a.i e.result (omega arith) some (omega arith) packed (sym c.has_above.ensures ∙ c.if-has_above.false)
+    (falls_before a.m e.result a.last (omega arith) (omega arith) ∙ rw (lt-ltb 0 a.m c.if-m-gt0.true, c.if-last-e.true))
 
 returns : tie.Need-returns
 returns c =
@@ -88,10 +88,10 @@ returns c =
     let packed = e.ensures.1 ∙ ap₂ exponents c.word.ensures c.word-2.ensures in
     let first = c.word.ensures in
     let some : word w a.i 0 ≢ 0 = λ z. c.if-c-eq0.false (first ∙ z) in
-    let below : ltb 0 a.m && leb a.new e.result ≡ false =
+    let below : ltb 0 a.m && leb a.last e.result ≡ false =
     ⊎_elim (λ u. rw (lt-ltb 0 a.m u.if-m-gt0.true, u.if-last-e.false)) (λ u. rw (le-ltb 0 a.m u.if-m-gt0.false)) c.else-m-gt0.branch-raw in
-    good_term w a.p a.n a.m a.new a.i e.result (omega arith) some (omega arith) packed (sym c.has_above.ensures ∙ c.if-has_above.false)
-    (falls_before a.m e.result a.new (omega arith) (omega arith) ∙ below)
+    good_term w a.p a.n a.m a.last a.i e.result (omega arith) some (omega arith) packed (sym c.has_above.ensures ∙ c.if-has_above.false)
+    (falls_before a.m e.result a.last (omega arith) (omega arith) ∙ below)
 
 pub check_term_spec : {M : Type 1} → statement M
 check_term_spec =

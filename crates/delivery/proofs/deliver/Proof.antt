@@ -27,14 +27,14 @@ module _ (s : tie.Start) where
 
 -- ── the outcome is seen ──
 abbrev refused_in : tie.In_default → tie.Start
-refused_in m = m.before.before.before.before.before
+refused_in m = m.before.before.before.before
 
 abbrev finished_in : tie.In-Systems → tie.Start
-finished_in m = m.before.before.before.before.before
+finished_in m = m.before.before.before.before
 
 -- The systems that the contract's run left.
 systems : (m : tie.In-Systems) → (ss : List Stored) × Left (finished_in m) ss × AllListed ss
-systems m = left_systems (finished_in m).requires.3 m.enum_told-1.given.1
+systems m = left_systems (finished_in m).requires.3 m.in-Systems.is
 
 -- ── the list has room ──
 abbrev sized_in : tie.After-list_size → tie.Start
@@ -51,7 +51,7 @@ enum_told-in_default : tie.Need-enum_told-in_default
 enum_told-in_default c = search rules
 
 returns-in_default : tie.Need-returns-in_default
-returns-in_default c t e h x = refused_run t _ (refused_in c).args.output.now x c.enum_told-in_default-1.given.1
+returns-in_default c t e h x = refused_run t _ (refused_in c).args.output.now x c.in_default.is
 
 list_size-requires : tie.Need-list_size-requires
 list_size-requires c κs = systems c
@@ -59,7 +59,7 @@ list_size-requires c κs = systems c
 returns-then-output-list_size : tie.Need-returns-then-output-list_size
 returns-then-output-list_size c t e h x =
     let k = c in
-    too_long t _ k.list_size.result (sized_in k.before).args.output.now x k.enum_told-1.given.1 k.list_size.ensures c.if-output-list_size.true
+    too_long t _ k.list_size.result (sized_in k.before).args.output.now x k.in-Systems.is k.list_size.ensures c.if-output-list_size.true
 
 bounds-table-0 : tie.Need-bounds-table-0
 bounds-table-0 c = omega (arith, header (writes_in c.before))
@@ -86,7 +86,7 @@ returns c t e h x =
     let k = f in
     let a = (writes_in f.before.before.before.before.before.before).args in
     let r = table_read a.table.now t h in
-    list_written t _ k.list_size.result _ _ a.output.now _ x k.enum_told-1.given.1 k.list_size.ensures f.if-output-list_size.false
+    list_written t _ k.list_size.result _ _ a.output.now _ x k.in-Systems.is k.list_size.ensures f.if-output-list_size.false
     r.modulus r.variables n.write_list.ensures
 
 pub deliver_spec : {M : Type 1} → statement M

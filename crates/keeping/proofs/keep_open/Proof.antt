@@ -52,19 +52,19 @@ overflow_sub-n : tie.Need-overflow_sub-n
 overflow_sub-n c = let r = from_front c in (members r (opened r)).0
 
 skip-back-requires : tie.Need-skip-back-requires
-skip-back-requires c κs = let r = from_front c in skip_inside r (omega (arith, to_back_is c.before (opened r)))
+skip-back-requires c κs = let r = from_front c in skip_inside r (omega (arith, to_back_is c (opened r)))
 
 overflow_sub-p : tie.Need-overflow_sub-p
 overflow_sub-p c = let r = from_back c in omega (arith, p_is r (opened r), members r (opened r))
 
 skip-from_q-requires : tie.Need-skip-from_q-requires
-skip-from_q-requires c κs = let r = from_back c in skip_inside r (omega (arith, to_p_is c.before (opened r)))
+skip-from_q-requires c κs = let r = from_back c in skip_inside r (omega (arith, to_p_is c (opened r)))
 
 overflow_cast-q : tie.Need-overflow_cast-q
 overflow_cast-q c = search rules
 
 skip-from_t-requires : tie.Need-skip-from_t-requires
-skip-from_t-requires c κs = let r = from_p c in skip_inside r (omega (arith, to_q_is c.before (opened r)))
+skip-from_t-requires c κs = let r = from_p c in skip_inside r (omega (arith, to_q_is c (opened r)))
 
 overflow_add-size : tie.Need-overflow_add-size
 overflow_add-size c = search rules

@@ -17,7 +17,7 @@ entry c = c.before.before.before.before
 
 -- No other member is led by the variable: the pivot is moved to T.
 abbrev searched : tie.After-close → tie.After-find_other
-searched c = c.before.before.before.before
+searched c = c.before.before.before
 
 abbrev start : tie.After-close → tie.Start
 start c = entry (searched c)
@@ -49,9 +49,9 @@ shape_of-w-in-At c = search rules
 returns-in-At : tie.Need-returns-in-At
 returns-in-At c =
     let m = c in
-    let s = entry m.before.before.before in (
+    let s = entry m.before in (
       λ b bs ss H. let o = other s.args.k s.args.place (map terms b.P) in
-          aims_at _ _ _ _ s.args.place b bs ss _ _ o _ _ (sym (m.find_other.ensures b bs ss H) ∙ c.j-1.given.1) m.degree-degree.ensures H,
+          aims_at _ _ _ _ s.args.place b bs ss _ _ o _ _ (sym (m.find_other.ensures b bs ss H) ∙ c.in-At.is) m.degree-degree.ensures H,
       refl,
     )
 
@@ -76,7 +76,7 @@ returns-in-None c =
     let a = searched m.before.before.before in
     let s = start m.before.before.before in (
       λ b bs ss H. let o = other s.args.k s.args.place (map terms b.P) in
-          let none = sym (a.find_other.ensures b bs ss H) ∙ m.enum_told-1.given.1 in
+          let none = sym (a.find_other.ensures b bs ss H) ∙ m.in-None.is in
           aims_all _ _ _ _ s.args.place b bs ss _ _ o _ _ none a.degree-degree.ensures
           (c.count_q-q.ensures (closed s.args.place b) bs ss (moved_there m.before.before.before b bs ss H)) (moved m.before.before.before b bs ss H),
       m.close.ensures.1,

@@ -51,8 +51,8 @@ module _ {b : Stored} {bs ss : List Stored} where
   open_is : (r : Reading) → Entry r b bs ss → o r ≡ open_of b bs
   open_is r H = r.open_branch-b.ensures b bs ss H
 
-  found_is : (c : tie.After-contains) → Entry (from_contains c.before.before.before) b bs ss → member (f (from_contains c.before.before.before)) b.P ≡ c.contains.result
-  found_is c H = let r = from_contains c.before.before.before in sym (c.contains.ensures ∙ ap (member (f r)) (all_p H (open_is r H)))
+  found_is : (c : tie.After-contains) → Entry (from_contains c) b bs ss → member (f (from_contains c)) b.P ≡ c.contains.result
+  found_is c H = let r = from_contains c in sym (c.contains.ensures ∙ ap (member (f r)) (all_p H (open_is r H)))
 
   -- f goes in behind P.
   put : (c : tie.After-skip-to) → let r = from_place c in
@@ -85,7 +85,7 @@ overflow_cast-b : tie.Need-overflow_cast-b
 overflow_cast-b c = search rules
 
 contains-requires : tie.Need-contains-requires
-contains-requires c κs = let r = c in (inside_room (w r.before) (end_p_inside (opened r.before) (open_is r (opened r.before))), (start r.before).requires.1)
+contains-requires c κs = let r = c in (inside_room (w r.before) (end_p_inside (opened r.before) (open_is r.before (opened r.before))), (start r.before).requires.1)
 
 shape_of-w-then-contains : tie.Need-shape_of-w-then-contains
 shape_of-w-then-contains c = search rules
@@ -103,14 +103,14 @@ overflow_add-b : tie.Need-overflow_add-b
 overflow_add-b c = let r = from_place c.before.before in (counts_fit (opened r) (counts_are (opened r) (open_is r (opened r)))).0
 
 put_at-requires : tie.Need-put_at-requires
-put_at-requires c κs = let k = c in let r = from_place k.before.before in ((start r).requires.1, (_, _, _, put k (opened r)))
+put_at-requires c κs = let k = c in let r = from_place k.before.before in ((start r).requires.1, (_, _, _, put k.before.before (opened r)))
 
 shape_of-w : tie.Need-shape_of-w
 shape_of-w c = search rules
 
 returns : tie.Need-returns
 unfolding put
-returns c = let k = c in (λ b bs ss H. k.put_at.ensures.0 _ _ _ (put k.before.before.before H), k.put_at.ensures.1)
+returns c = let k = c in (λ b bs ss H. k.put_at.ensures.0 _ _ _ (put k.before.before.before.before.before H), k.put_at.ensures.1)
 
 pub put_p_spec : {M : Type 1} → statement M
 put_p_spec =

@@ -60,9 +60,9 @@ module _ {b : Stored} {bs ss : List Stored} where
   open_is : (r : Reading) → Entry r b bs ss → o r ≡ open_of b bs
   open_is r H = r.open_branch-b.ensures b bs ss H
 
-  found_is : (c : tie.After-contains) → let r = from_skip (skip_of c.before.before) in Entry r b bs ss → member (f r) (take (seen (left r) b) b.Q) ≡ c.contains.result
+  found_is : (c : tie.After-contains) → let r = from_skip (skip_of c) in Entry r b bs ss → member (f r) (take (seen (left r) b) b.Q) ≡ c.contains.result
   found_is c H =
-      let r = from_skip (skip_of c.before.before) in sym (c.contains.ensures ∙ ap (member (f r)) (seen_q H (open_is r H) (skip_of c.before.before).skip-from.ensures (left r)))
+      let r = from_skip (skip_of c) in sym (c.contains.ensures ∙ ap (member (f r)) (seen_q H (open_is r H) (skip_of c).skip-from.ensures (left r)))
 
   -- f goes in behind the members of Q that are looked at.
   put : (c : tie.After-skip-to) → let r = from_place c in
@@ -106,7 +106,7 @@ overflow_cast-b : tie.Need-overflow_cast-b
 overflow_cast-b c = search rules
 
 skip-from-requires : tie.Need-skip-from-requires
-skip-from-requires c κs = let r = c in inside_room (w r.before) (end_p_inside (opened r.before) (open_is r (opened r.before)))
+skip-from-requires c κs = let r = c in inside_room (w r.before) (end_p_inside (opened r.before) (open_is r.before (opened r.before)))
 
 overflow_cast-new : tie.Need-overflow_cast-new
 overflow_cast-new c = search rules
@@ -132,14 +132,14 @@ overflow_add-b : tie.Need-overflow_add-b
 overflow_add-b c = let r = from_place c.before.before in (counts_fit (opened r) (counts_are (opened r) (open_is r (opened r)))).1
 
 put_at-requires : tie.Need-put_at-requires
-put_at-requires c κs = let k = c in let r = from_place k.before.before in ((start r).requires.1.1, (_, _, _, put k (opened r)))
+put_at-requires c κs = let k = c in let r = from_place k.before.before in ((start r).requires.1.1, (_, _, _, put k.before.before (opened r)))
 
 shape_of-w : tie.Need-shape_of-w
 shape_of-w c = search rules
 
 returns : tie.Need-returns
 unfolding put
-returns c = let k = c in (λ b bs ss H. k.put_at.ensures.0 _ _ _ (put k.before.before.before H), k.put_at.ensures.1)
+returns c = let k = c in (λ b bs ss H. k.put_at.ensures.0 _ _ _ (put k.before.before.before.before.before H), k.put_at.ensures.1)
 
 pub put_q_spec : {M : Type 1} → statement M
 put_q_spec =

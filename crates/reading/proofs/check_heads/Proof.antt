@@ -29,25 +29,25 @@ entry c = c.before.before.before
 
 -- It leads to record j, and the head there is checked.
 abbrev Found : Type 0
-Found = tie.In-To-2 invariant-loop-j decreases-loop-j
+Found = tie.In-To invariant-loop-j decreases-loop-j
 
 abbrev followed : Found → Followed
-followed c = c.before.before
+followed c = c.before
 
 abbrev found : tie.After-check_head invariant-loop-j decreases-loop-j → Found
-found c = c.before.before
+found c = c.before
 
 -- It is accepted.
 abbrev found_of : tie.In_default invariant-loop-j decreases-loop-j → Found
-found_of c = found c.before.before
+found_of c = found c.before
 
 -- ── what is known there ──
 abbrev j : Found → ℕ
-j c = c.j-1.given.0.0
+j c = c.in-To.j
 
 -- The index leads to record j.
 leads_on : (c : Found) → let f = followed c in next (follow (entry f).args.table.now f.loop-j.at f.loop-j.i) ≡ To (j c)
-leads_on c = sym (followed c).follow.ensures ∙ c.j-1.given.1
+leads_on c = sym (followed c).follow.ensures ∙ c.in-To.is
 
 inside : (c : Found) → ((followed c).loop-j.at < j c) × (j c < records (entry (followed c)).args.table.now)
 inside c = next_inside _ _ _ _ (leads_on c)
@@ -67,26 +67,26 @@ enum_told-1 c = search rules
 returns-in-End : tie.Need-returns-in-End invariant-loop-j decreases-loop-j
 returns-in-End c =
     let f = c in
-    let a = (entry f.before.before).args in
-    reached_end (heads_chain a.table.now a.p a.n) f.loop-j.invariant (sym f.follow.ensures ∙ c.enum_told-1.given.1)
+    let a = (entry f.before).args in
+    reached_end (heads_chain a.table.now a.p a.n) f.loop-j.invariant (sym f.follow.ensures ∙ c.in-End.is)
 
 enum_told-in-Astray : tie.Need-enum_told-in-Astray invariant-loop-j decreases-loop-j
 enum_told-in-Astray c = search rules
 
 overflow_cast-result : tie.Need-overflow_cast-result invariant-loop-j decreases-loop-j
-overflow_cast-result c = let f = c in fits_word (entry f.before.before).requires.0 f.loop-j.invariant.enough.inside
+overflow_cast-result c = let f = c in fits_word (entry f.before).requires.0 f.loop-j.invariant.enough.inside
 
 returns-in-Astray : tie.Need-returns-in-Astray invariant-loop-j decreases-loop-j
 returns-in-Astray c =
     let f = c in
-    let a = (entry f.before.before).args in
-    reached_astray (heads_chain a.table.now a.p a.n) f.loop-j.invariant (sym f.follow.ensures ∙ c.enum_told-in-Astray-1.given.1)
+    let a = (entry f.before).args in
+    reached_astray (heads_chain a.table.now a.p a.n) f.loop-j.invariant (sym f.follow.ensures ∙ c.in-Astray.is)
 
 enum_known-j : tie.Need-enum_known-j invariant-loop-j decreases-loop-j
 enum_known-j c = search rules
 
 check_head-requires : tie.Need-check_head-requires invariant-loop-j decreases-loop-j
-check_head-requires c κs = ((entry (followed c.before)).requires.0, (inside c.before).1)
+check_head-requires c κs = ((entry (followed c)).requires.0, (inside c).1)
 
 enum_known-why : tie.Need-enum_known-why invariant-loop-j decreases-loop-j
 enum_known-why c = search rules
@@ -94,10 +94,10 @@ enum_known-why c = search rules
 returns-in-Refused : tie.Need-returns-in-Refused invariant-loop-j decreases-loop-j
 returns-in-Refused c =
     let k = c in
-    let f = followed (found k.before.before.before) in
+    let f = followed (found k.before) in
     let a = (entry f).args in
-    reached_refused (heads_chain a.table.now a.p a.n) f.loop-j.invariant (leads_on (found k.before.before.before))
-    (sym k.check_head.ensures ∙ c.why-1.given.1)
+    reached_refused (heads_chain a.table.now a.p a.n) f.loop-j.invariant (leads_on (found k.before))
+    (sym k.check_head.ensures ∙ c.in-Refused.is)
 
 enum_told-in_default : tie.Need-enum_told-in_default invariant-loop-j decreases-loop-j
 enum_told-in_default c = search rules
@@ -111,10 +111,10 @@ loop-j-smaller c = let h = inside (found_of c.before) in omega (arith, h.0, h.1)
 loop-j-preserved : tie.Need-loop-j-preserved invariant-loop-j decreases-loop-j
 loop-j-preserved c =
     let k = c in
-    let f = followed (found k.before.before.before) in
+    let f = followed (found k.before.before) in
     let a = (entry f).args in
-    let g = checked_good _ (sym k.check_head.ensures ∙ c.enum_told-in_default-1.given.1) in
-    rw c.word-i.ensures (reached_on (heads_chain a.table.now a.p a.n) f.loop-j.invariant (leads_on (found k.before.before.before)) g.1)
+    let g = checked_good _ (sym k.check_head.ensures ∙ c.in_default.is) in
+    rw c.word-i.ensures (reached_on (heads_chain a.table.now a.p a.n) f.loop-j.invariant (leads_on (found k.before.before)) g.1)
 
 pub check_heads_spec : {M : Type 1} → statement M
 check_heads_spec =

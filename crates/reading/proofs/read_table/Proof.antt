@@ -20,7 +20,7 @@ entry c = c.before.before
 
 -- The header is accepted, and P's chain is checked; that is accepted, and Q's is checked.
 abbrev header_checked : tie.In_default → tie.After-check_header
-header_checked c = c.before.before
+header_checked c = c.before
 
 abbrev header_good : tie.After-check_heads → tie.In_default
 header_good c = c.before.before.before.before
@@ -29,14 +29,14 @@ abbrev PGood : tie.After-check_heads-2 → tie.In_default-check_heads
 PGood c = c.before.before
 
 abbrev PChecked : tie.In_default-check_heads → tie.After-check_heads
-PChecked c = c.before.before
+PChecked c = c.before
 
 -- ── what is known there ──
 abbrev table : tie.In_default → List ℕ
 table c = (entry (header_checked c)).args.table.now
 
 header : (c : tie.In_default) → checked (read_header (table c) accepted) ≡ Good
-header c = sym (header_checked c).check_header.ensures ∙ c.enum_told-1.given.1
+header c = sym (header_checked c).check_header.ensures ∙ c.in_default.is
 
 readable : (c : tie.In_default) → Readable (table c) (word (table c) 0 0) (word (table c) 0 1)
 readable c = header_readable (table c) (header c)
@@ -49,7 +49,7 @@ enum_known-why : tie.Need-enum_known-why
 enum_known-why c = search rules
 
 returns-in-Refused : tie.Need-returns-in-Refused
-returns-in-Refused c = let h = c in table_refused (entry h.before.before.before).args.table.now (sym h.check_header.ensures ∙ c.why-1.given.1)
+returns-in-Refused c = let h = c in table_refused (entry h.before).args.table.now (sym h.check_header.ensures ∙ c.in-Refused.is)
 
 enum_told-1 : tie.Need-enum_told-1
 enum_told-1 c = search rules
@@ -72,8 +72,8 @@ enum_known-why-in-Refused-check_heads c = search rules
 returns-in-Refused-check_heads : tie.Need-returns-in-Refused-check_heads
 returns-in-Refused-check_heads c =
     let k = c in
-    let h = header_good k.before.before.before in
-    table_refused_p (table h) (header h) (sym k.check_heads.ensures ∙ c.why-in-Refused-check_heads-1.given.1)
+    let h = header_good k.before in
+    table_refused_p (table h) (header h) (sym k.check_heads.ensures ∙ c.in-Refused-check_heads.is)
 
 enum_told-in_default-check_heads : tie.Need-enum_told-in_default-check_heads
 enum_told-in_default-check_heads c = search rules
@@ -90,10 +90,10 @@ enum_known-why-in-Refused-check_heads-2 c = search rules
 returns-in-Refused-check_heads-2 : tie.Need-returns-in-Refused-check_heads-2
 returns-in-Refused-check_heads-2 c =
     let q = c in
-    let g = PGood q.before.before.before in
+    let g = PGood q.before in
     let k = PChecked g in
     let h = header_good k in
-    table_refused_q (table h) (header h) (sym k.check_heads.ensures ∙ g.enum_told-in_default-check_heads-1.given.1) (sym q.check_heads-2.ensures ∙ c.why-in-Refused-check_heads-2-1.given.1)
+    table_refused_q (table h) (header h) (sym k.check_heads.ensures ∙ g.in_default-check_heads.is) (sym q.check_heads-2.ensures ∙ c.in-Refused-check_heads-2.is)
 
 enum_told-in_default-check_heads-2 : tie.Need-enum_told-in_default-check_heads-2
 enum_told-in_default-check_heads-2 c = search rules
@@ -101,10 +101,10 @@ enum_told-in_default-check_heads-2 c = search rules
 returns : tie.Need-returns
 returns c =
     let q = c in
-    let g = PGood q.before.before in
+    let g = PGood q.before in
     let k = PChecked g in
     let h = header_good k in
-    table_accepted (table h) (header h) (sym k.check_heads.ensures ∙ g.enum_told-in_default-check_heads-1.given.1) (sym q.check_heads-2.ensures ∙ c.enum_told-in_default-check_heads-2-1.given.1)
+    table_accepted (table h) (header h) (sym k.check_heads.ensures ∙ g.in_default-check_heads.is) (sym q.check_heads-2.ensures ∙ c.in_default-check_heads-2.is)
 
 pub read_table_spec : {M : Type 1} → statement M
 read_table_spec =

@@ -89,34 +89,34 @@ module _ {b : Stored} {bs ss : List Stored} where
   count_is : (r : Reading) → Holds (w r) b bs ss → r.open_branch-b.result.p ≡ length b.P
   count_is r H = p_is H (r.open_branch-b.ensures b bs ss H)
 
-  removed : (c : tie.After-remove_p) → Holds (w (from_remove c.before.before.before.before.before.before.before.before.before.before.before.before)) b bs ss → Holds c.remove_p.new.w (without (from_remove c.before.before.before.before.before.before.before.before.before.before.before.before) b) bs ss
-  removed c H = held_by _ _ (w (from_remove c.before.before.before.before.before.before.before.before.before.before.before.before)) c.remove_p.new.w (sym c.remove_p.auto.w) (c.remove_p.ensures.0 b bs ss H)
+  removed : (c : tie.After-remove_p) → Holds (w (from_remove c)) b bs ss → Holds c.remove_p.new.w (without (from_remove c) b) bs ss
+  removed c H = held_by _ _ (w (from_remove c)) c.remove_p.new.w (sym c.remove_p.auto.w) (c.remove_p.ensures.0 b bs ss H)
 
-  initial_leaves : (c : tie.After-put_p) → Holds (w (from_initial c.before.before.before.before.before.before.before.before)) b bs ss
-      → let r = from_initial c.before.before.before.before.before.before.before.before in
+  initial_leaves : (c : tie.After-put_p) → Holds (w (from_initial c)) b bs ss
+      → let r = from_initial c in
       Leaves (capacity (w r)) (with_open (without r b) bs ss) (with_open (with_initial r b) bs ss) c.put_p.result (view c.put_p.new.w)
   initial_leaves c H =
-      let m = remove_of c.before.before.before.before.before.before.before.before in
+      let m = remove_of c in
       left_by _ _ m.remove_p.new.w (w (from_remove m)) m.remove_p.auto.w refl refl (c.put_p.ensures.0 _ bs ss (removed m H))
 
   initial_put : (c : tie.Else-not-put_p)
-      → let m = c in Holds (w (from_initial m.before.before.before.before.before.before.before.before)) b bs ss → Holds m.put_p.new.w (with_initial (from_initial m.before.before.before.before.before.before.before.before) b) bs ss
+      → let m = c in Holds (w (from_initial m.before.before.before)) b bs ss → Holds m.put_p.new.w (with_initial (from_initial m.before.before.before) b) bs ss
   initial_put c H =
       let m = c in
-      held_by _ _ (w (from_initial m.before.before.before.before.before.before.before.before)) m.put_p.new.w (sym (same_initial m.before.before.before.before.before.before.before.before)) ((initial_leaves m H).held (not-false _ c.if-not-put_p.false))
+      held_by _ _ (w (from_initial m.before.before.before)) m.put_p.new.w (sym (same_initial m.before.before.before)) ((initial_leaves m.before.before.before H).held (not-false _ c.if-not-put_p.false))
 
-  rest_leaves : (c : tie.After-put_p-2) → Holds (w (from_rest c.before.before.before)) b bs ss
-      → let r = from_rest c.before.before.before in
+  rest_leaves : (c : tie.After-put_p-2) → Holds (w (from_rest c)) b bs ss
+      → let r = from_rest c in
       Leaves (capacity (w r)) (with_open (with_initial r b) bs ss) (with_open (with_rest r b) bs ss) c.put_p-2.result (view c.put_p-2.new.w)
   rest_leaves c H =
-      let m = initial_of c.before.before.before in
+      let m = initial_of c in
       left_by _ _ m.put_p.new.w (w (from_initial m)) (same_initial m) refl refl (c.put_p-2.ensures.0 _ bs ss (initial_put c.before.before H))
 
   rest_put : (c : tie.Else-not-put_p-2)
       → let m = c in Holds (w (from_rest m.before.before.before)) b bs ss → Holds m.put_p-2.new.w (with_rest (from_rest m.before.before.before) b) bs ss
   rest_put c H =
       let m = c in
-      held_by _ _ (w (from_rest m.before.before.before)) m.put_p-2.new.w (sym (same_rest m.before.before.before)) ((rest_leaves m H).held (not-false _ c.if-not-put_p-2.false))
+      held_by _ _ (w (from_rest m.before.before.before)) m.put_p-2.new.w (sym (same_rest m.before.before.before)) ((rest_leaves m.before.before.before H).held (not-false _ c.if-not-put_p-2.false))
 
 -- ── the branch of which the contract speaks ──
 abbrev b₀ : Reading → Stored
@@ -136,7 +136,7 @@ put_p-requires : tie.Need-put_p-requires
 put_p-requires c κs =
     let m = c in
     let r = from_remove m.before.before.before in
-    ((_, _, _, removed m (opened r)), (start r).requires.1.1.1.0)
+    ((_, _, _, removed m.before.before.before (opened r)), (start r).requires.1.1.1.0)
 
 shape_of-w-then-not-put_p : tie.Need-shape_of-w-then-not-put_p
 shape_of-w-then-not-put_p c = same_initial c.before.before.before
@@ -145,7 +145,7 @@ returns-then-not-put_p : tie.Need-returns-then-not-put_p
 returns-then-not-put_p c =
     let m = c in
     let r = from_initial m.before.before.before in
-    (λ b bs ss H. no_initial (capacity (w r)) (i r) (initial r) (rest r) b bs ss (initial_leaves m H) (not-true _ c.if-not-put_p.true), outside_initial m.before.before.before)
+    (λ b bs ss H. no_initial (capacity (w r)) (i r) (initial r) (rest r) b bs ss (initial_leaves m.before.before.before H) (not-true _ c.if-not-put_p.true), outside_initial m.before.before.before)
 
 put_p-requires-2 : tie.Need-put_p-requires-2
 put_p-requires-2 c κs =
@@ -160,7 +160,7 @@ returns-then-not-put_p-2 c =
     let m = c in
     let r = from_rest m.before.before.before in (
       λ b bs ss H. no_rest (capacity (w r)) (i r) (initial r) (rest r) b bs ss (initial_leaves (initial_of m.before.before.before) H) (not-false _ m.if-not-put_p.false)
-          (rest_leaves m H) (not-true _ c.if-not-put_p-2.true),
+          (rest_leaves m.before.before.before H) (not-true _ c.if-not-put_p-2.true),
       outside_rest m.before.before.before,
     )
 
@@ -198,7 +198,7 @@ returns c =
           left_by _ _ m.put_p-2.new.w (w r) (same_rest m)
           (stops_aside (capacity (w r)) (i r) (initial r) (rest r) b bs ss (rest_leaves m H) (not-false _ k.if-not-put_p-2.false))
           (ap (λ (x : Stored). with_open x (with_rest r b ∷ bs) ss) (kept_aside (i r) _ (f r) (initial r) (rest r) b h.0 n h.1 h.2 h.3))
-          (k.keep_open.ensures.0 _ bs ss (rest_put k.before.before.before H)),
+          (k.keep_open.ensures.0 _ bs ss (rest_put k.before.before.before.before.before H)),
       k.keep_open.ensures.1 ∙ outside_rest m,
     )
 

@@ -23,8 +23,8 @@ use Rattle.steps.proofs.prepare.Tie as tie
 abbrev entry : tie.After-choose → tie.Start
 entry c = c.before.before.before.before.before
 
-abbrev pivot_chosen : tie.After-with_pivot → tie.In-Pivot-2
-pivot_chosen c = c.before.before.before.before.before.before
+abbrev pivot_chosen : tie.After-with_pivot → tie.In-Pivot
+pivot_chosen c = c.before.before.before.before.before
 
 -- ── what is known ──
 abbrev Entry : tie.Start → Stored → List Stored → List Stored → Type 0
@@ -33,17 +33,17 @@ Entry s b bs ss = HeldIn s.args.w.now (with_open b bs ss)
 abbrev limits : tie.Start → Limits
 limits s = limits_in (capacity s.args.w.now)
 
-abbrev Led : tie.In-Pivot-2 → Stored → Type 0
+abbrev Led : tie.In-Pivot → Stored → Type 0
 Led c b =
     let g = c.k-1.given.0 in
     (rule_of (branch_of b) ≡ rule_with g.0 (chosen b g.1.0) (branch_of b)) × Leads g.0 g.1.0 b
 
-is_pivot : (c : tie.In-Pivot-2) (b : Stored) (bs ss : List Stored) → Entry (entry c.before.before) b bs ss
-    → Ready (entry c.before.before).args.p (with_open b bs ss) → Led c b
+is_pivot : (c : tie.In-Pivot) (b : Stored) (bs ss : List Stored) → Entry (entry c.before) b bs ss
+    → Ready (entry c.before).args.p (with_open b bs ss) → Led c b
 is_pivot c b bs ss H R =
     let m = c in
-    chosen_pivot (entry m.before.before).args.p _ _ b.P b.Q b.T R.sound.branches.0.in_p R.monic.0 R.nonzero.0
-    (sym (m.choose.ensures b bs ss H) ∙ c.k-1.given.1)
+    chosen_pivot (entry m.before).args.p _ _ b.P b.Q b.T R.sound.branches.0.in_p R.monic.0 R.nonzero.0
+    (sym (m.choose.ensures b bs ss H) ∙ c.in-Pivot.is)
 
 -- ── the needs ──
 choose-requires : tie.Need-choose-requires
@@ -71,9 +71,9 @@ returns-in-Drop c = (
       let d = c in
       let t = d in
       let m = t in
-      let p = (entry m.before.before.before.before.before.before).args.p in
-      let l = limits (entry m.before.before.before.before.before.before) in
-      let e = chosen_drop (branch_of b) (sym (m.choose.ensures b bs ss H) ∙ t.enum_told-1.given.1) in
+      let p = (entry m.before.before.before.before.before).args.p in
+      let l = limits (entry m.before.before.before.before.before) in
+      let e = chosen_drop (branch_of b) (sym (m.choose.ensures b bs ss H) ∙ t.in-Drop.is) in
       (record { branches = bs; systems = ss }, step_by l p b bs ss _ e ∙ drop_state l p b bs ss, d.drop.ensures.0 b bs ss H, ready_dropped l p b bs ss R)),
   (begun _ tt, c.drop.ensures.1),
 )
@@ -93,9 +93,9 @@ returns-in-List c = (
       let d = c in
       let t = d in
       let m = t in
-      let p = (entry m.before.before.before.before.before.before).args.p in
-      let l = limits (entry m.before.before.before.before.before.before) in
-      let e = chosen_list (branch_of b) (sym (m.choose.ensures b bs ss H) ∙ t.enum_told-in-List-1.given.1) in
+      let p = (entry m.before.before.before.before.before).args.p in
+      let l = limits (entry m.before.before.before.before.before) in
+      let e = chosen_list (branch_of b) (sym (m.choose.ensures b bs ss H) ∙ t.in-List.is) in
       let ready = ready_listed l p b bs ss R (map_none b.P e.1) in
       (record { branches = bs; systems = b ∷ ss }, step_by l p b bs ss _ e.0 ∙ list_state l p b bs ss, d.list.ensures.0 b bs ss H, ready)),
   (begun _ tt, c.list.ensures.1),
@@ -107,9 +107,9 @@ enum_known-k c = search rules
 with_pivot-requires : tie.Need-with_pivot-requires
 with_pivot-requires c κs =
     let k = c in
-    let s = entry k.before.before.before.before.before.before.before in
+    let s = entry k.before.before.before.before.before in
     let o = s.requires.0.1 in
-    ((s.requires.0.0, (o.0, o.1, o.2, o.3, o.4, (is_pivot k.before.before.before.before.before o.0 o.1 o.2 o.3 o.4).1)), s.requires.1)
+    ((s.requires.0.0, (o.0, o.1, o.2, o.3, o.4, (is_pivot k.before.before.before.before o.0 o.1 o.2 o.3 o.4).1)), s.requires.1)
 
 shape_of-w-in-Pivot : tie.Need-shape_of-w-in-Pivot
 shape_of-w-in-Pivot c = search rules
@@ -129,7 +129,7 @@ returns-in-Pivot c =
     let u = w.with_pivot in (
       (λ b bs ss H R.
           let k = pivot_chosen w.before.before.before.before.before.before.before.before in
-          let s = entry k.before.before in
+          let s = entry k.before in
           let p = s.args.p in
           let l = limits s in
           let g = is_pivot k b bs ss H R in

@@ -176,7 +176,7 @@ not_above : (c : tie.Joined-else-i-f invariant-loop-j decreases-loop-j) →
     let a = (entry c.before.before).args in
     let L = c.loop-j in
     L.i < length a.f.now → get_or a.f.now (L.i + 1) 0 ≤ a.m + get_or a.g.now (L.j + 1) 0
-not_above c h = ⊎_elim (λ u. ltb-false _ _ u.if-e-f.false) (λ u.if-i-f. absurd (omega (arith, u.if-i-f.false))) c.else-i-f.branch-raw
+not_above c h = ⊎_elim (λ u. ltb-false _ _ u.if-e-f.false) (λ u. absurd (omega (arith, u.if-i-f.false))) c.else-i-f.branch-raw
 
 -- Where they meet again, the next term of the multiple is taken.
 met : (c : tie.Joined-i-f-2 invariant-loop-j decreases-loop-j) →

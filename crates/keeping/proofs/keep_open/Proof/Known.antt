@@ -162,16 +162,16 @@ module _ {b : Stored} {bs ss : List Stored} where
   to_front_is r H = branch.skip_p H (open_is r H) (i r) (omega (arith, members r H))
 
   pub to_back_is : (c : tie.After-skip-front)
-      → let r = from_front c.before.before.before in Entry r b bs ss → skip_to (view (w r)) c.skip-front.result (n r - i r) ≡ end_back (i r) (n r) b bs
-  to_back_is c H = let r = from_front c.before.before.before in to_back H (i r) (n r) (members r H) (c.skip-front.ensures ∙ to_front_is r H)
+      → let r = from_front c in Entry r b bs ss → skip_to (view (w r)) c.skip-front.result (n r - i r) ≡ end_back (i r) (n r) b bs
+  to_back_is c H = let r = from_front c in to_back H (i r) (n r) (members r H) (c.skip-front.ensures ∙ to_front_is r H)
 
   pub to_p_is : (c : tie.After-skip-back)
-      → let r = from_back c.before.before in Entry r b bs ss → skip_to (view (w r)) c.skip-back.result (p r - n r) ≡ end_p (i r) (n r) b bs
-  to_p_is c H = let r = from_back c.before.before in to_q H (i r) (n r) (members r H) (p_is r H) (c.skip-back.ensures ∙ to_back_is c.before.before H)
+      → let r = from_back c in Entry r b bs ss → skip_to (view (w r)) c.skip-back.result (p r - n r) ≡ end_p (i r) (n r) b bs
+  to_p_is c H = let r = from_back c in to_q H (i r) (n r) (members r H) (p_is r H) (c.skip-back.ensures ∙ to_back_is c.before H)
 
   pub to_q_is : (c : tie.After-skip-from_q)
-      → let r = from_p c.before in Entry r b bs ss → skip_to (view (w r)) c.skip-from_q.result (q r) ≡ end_q (i r) (n r) b bs
-  to_q_is c H = let r = from_p c.before in to_t H (i r) (n r) (members r H) (q_is r H) (c.skip-from_q.ensures ∙ to_p_is c.before.before H)
+      → let r = from_p c in Entry r b bs ss → skip_to (view (w r)) c.skip-from_q.result (q r) ≡ end_q (i r) (n r) b bs
+  to_q_is c H = let r = from_p c in to_t H (i r) (n r) (members r H) (q_is r H) (c.skip-from_q.ensures ∙ to_p_is c.before H)
 
   pub placed : (c : Parts) (H : Entry (words c) b bs ss)
       → let r = words c in

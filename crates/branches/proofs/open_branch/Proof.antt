@@ -31,7 +31,7 @@ get2-requires : tie.Need-get2-requires
 get2-requires c κs = own_inside c.before.before
 
 returns : tie.Need-returns
-returns c b bs ss H = opened_is H c.get0.ensures c.get0.ensures c.get1.ensures c.get2.ensures
+returns c b bs ss H = opened_is H c.get0-at.ensures c.get0.ensures c.get1.ensures c.get2.ensures
 
 pub open_branch_spec : {M : Type 1} → statement M
 open_branch_spec =

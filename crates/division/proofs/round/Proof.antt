@@ -26,20 +26,20 @@ P s = bounded_product standard s.args.p (terms s.args.i.now) (terms (R s))
 abbrev X : tie.After-times_initial → List ℕ
 X c = c.times_initial.new.x
 
-abbrev called : tie.In-Words-2 → tie.After-times_initial
-called c = c.before.before.before.before.before.before
+abbrev called : tie.In-Words → tie.After-times_initial
+called c = c.before.before.before.before.before
 
-answer : (c : tie.In-Words-2) → Answered (start (called c)).args.p (P (start (called c))) c.a-1.given.0.0 (X (called c))
+answer : (c : tie.In-Words) → Answered (start (called c)).args.p (P (start (called c))) c.in-Words.a (X (called c))
 answer c =
     let s = start (called c) in
-    product_answered s.args.p s.requires.0.0 _ _ _ c.a-1.given.1 (terms s.args.i.now) (terms (R s)) (called c).times_initial.ensures
+    product_answered s.args.p s.requires.0.0 _ _ _ c.in-Words.is (terms s.args.i.now) (terms (R s)) (called c).times_initial.ensures
 
 -- R has n words.
 words : (s : tie.Start) → length (R s) ≡ s.args.n
 words s = length-take-le s.args.n s.args.r.now s.requires.1.1.1.0.0
 
 -- I×R has at most as many words as all its term products.
-few : (c : tie.In-Words-2) → let s = start (called c) in c.a-1.given.0.0 ≤ length s.args.i.now * s.args.n / 2
+few : (c : tie.In-Words) → let s = start (called c) in c.in-Words.a ≤ length s.args.i.now * s.args.n / 2
 few c = let s = start (called c) in product_words s.args.p _ _ _ _ s.requires.1.1.0.0.pairs s.requires.1.1.1.0.1.pairs refl (words s) _ _ (answer c)
 
 slice_bounds-times_initial-end : tie.Need-slice_bounds-times_initial-end
@@ -61,19 +61,19 @@ factor-l-requires : tie.Need-factor-l-requires
 factor-l-requires c κs = search rules
 
 slice_bounds-subtract_product-end : tie.Need-slice_bounds-subtract_product-end
-slice_bounds-subtract_product-end c = (answer c.before.before.before.before.before.before).inside
+slice_bounds-subtract_product-end c = (answer c.before.before.before.before.before).inside
 
 slice_bounds-subtract_product-end-in-Words : tie.Need-slice_bounds-subtract_product-end-in-Words
-slice_bounds-subtract_product-end-in-Words c = let a = c in sym (length-take-le a.a-1.given.0.0 (X (called a.before.before.before.before.before.before)) (answer a.before.before.before.before.before.before).inside)
+slice_bounds-subtract_product-end-in-Words c = let a = c in sym (length-take-le a.in-Words.a (X (called a.before.before.before.before.before)) (answer a.before.before.before.before.before).inside)
 
 subtract_product-requires : tie.Need-subtract_product-requires
 subtract_product-requires c κs =
     let l = c in
     let a = l in
-    let s = start (called a.before.before.before.before.before.before.before.before) in
+    let s = start (called a.before.before.before.before.before.before.before) in
     let fewer = l.factor-l.ensures.1 in
     let lent = s.requires.1.1.1.1 in
-    let kept = (called a.before.before.before.before.before.before.before.before).times_initial.auto in (
+    let kept = (called a.before.before.before.before.before.before.before).times_initial.auto in (
       omega arith,
       (
         s.requires.1.0.0,
@@ -81,12 +81,12 @@ subtract_product-requires c κs =
           (
             l.factor-l.ensures.0.within,
             difference_lent s.args.n (length s.args.i.now) _ _ fewer _ _
-                (omega (arith, few a.before.before.before.before.before.before.before.before, length-take-le a.a-1.given.0.0 (X (called a.before.before.before.before.before.before.before.before)) (answer a.before.before.before.before.before.before.before.before).inside)) (omega (arith, lent.0, l.factor-l.auto)),
+                (omega (arith, few a.before.before.before.before.before.before.before, length-take-le a.in-Words.a (X (called a.before.before.before.before.before.before.before)) (answer a.before.before.before.before.before.before.before).inside)) (omega (arith, lent.0, l.factor-l.auto)),
             written_holds s.args.p _ _ _ l.factor-l.ensures.0 (omega (arith, fewer, s.requires.1.1.1.0.1.few, words s))
                 (canonical_factor s.args.p s.args.k s.args.d (R s) s.requires.1.1.1.0.1.canonical),
           ),
           (
-            (answer a.before.before.before.before.before.before.before.before).holds,
+            (answer a.before.before.before.before.before.before.before).holds,
             (
               factor_lent s.args.n (length s.args.i.now) _ _ fewer _ (omega (arith, lent.2, kept)),
               factor_lent s.args.n (length s.args.i.now) _ _ fewer _ (omega (arith, lent.3, kept)),
@@ -118,9 +118,9 @@ returns-in-Words : tie.Need-returns-in-Words
 returns-in-Words c =
     let l = c in
     let a = l in
-    let s = start (called a.before.before.before.before.before.before.before.before.before.before.before.before.before.before.before) in
+    let s = start (called a.before.before.before.before.before.before.before.before.before.before.before.before.before.before) in
     round_formed s.args.p s.args.k s.args.d (terms s.args.t.now) (terms (R s)) (terms s.args.i.now) s.requires.1.1.0.1
-    _ _ (X (called a.before.before.before.before.before.before.before.before.before.before.before.before.before.before.before)) _ _ (answer a.before.before.before.before.before.before.before.before.before.before.before.before.before.before.before) l.factor-l.ensures.0.holds
+    _ _ (X (called a.before.before.before.before.before.before.before.before.before.before.before.before.before.before)) _ _ (answer a.before.before.before.before.before.before.before.before.before.before.before.before.before.before) l.factor-l.ensures.0.holds
     c.subtract_product.ensures
 
 shape_of-r-in-OverDegree : tie.Need-shape_of-r-in-OverDegree
@@ -135,9 +135,9 @@ shape_of-z-in-OverDegree c = search rules
 returns-in-OverDegree : tie.Need-returns-in-OverDegree
 returns-in-OverDegree c =
     let u = c in
-    let s = start u.before.before.before.before.before.before in
+    let s = start u.before.before.before.before.before in
     round_degree s.args.p s.args.k s.args.d (terms s.args.t.now) (terms (R s)) (terms s.args.i.now) s.requires.1.1.0.1
-    _ u.times_initial.result (X u.before.before.before.before.before.before) c.enum_told-1.given.1 u.times_initial.ensures
+    _ u.times_initial.result (X u.before.before.before.before.before) c.in-OverDegree.is u.times_initial.ensures
 
 shape_of-r-in-OverTerms : tie.Need-shape_of-r-in-OverTerms
 shape_of-r-in-OverTerms c = search rules
@@ -151,9 +151,9 @@ shape_of-z-in-OverTerms c = search rules
 returns-in-OverTerms : tie.Need-returns-in-OverTerms
 returns-in-OverTerms c =
     let u = c in
-    let s = start u.before.before.before.before.before.before in
+    let s = start u.before.before.before.before.before in
     round_terms s.args.p s.args.k s.args.d (terms s.args.t.now) (terms (R s)) (terms s.args.i.now) s.requires.1.1.0.1
-    _ u.times_initial.result (X u.before.before.before.before.before.before) c.enum_told-in-OverTerms-1.given.1 u.times_initial.ensures
+    _ u.times_initial.result (X u.before.before.before.before.before) c.in-OverTerms.is u.times_initial.ensures
 
 pub round_spec : {M : Type 1} → statement M
 round_spec =

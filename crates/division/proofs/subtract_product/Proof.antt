@@ -23,22 +23,22 @@ P c = bounded_product standard (start c).args.p (terms (take (start c).args.l (s
 abbrev Y : tie.After-product → List ℕ
 Y c = c.product.new.x
 
-abbrev called : tie.In-Words-2 → tie.After-product
-called c = c.before.before.before.before.before.before
+abbrev called : tie.In-Words → tie.After-product
+called c = c.before.before.before.before.before
 
 -- The product is formed.
-answer : (c : tie.In-Words-2) → Answered (start (called c)).args.p (P (called c)) c.b-1.given.0.0 (Y (called c))
+answer : (c : tie.In-Words) → Answered (start (called c)).args.p (P (called c)) c.in-Words.b (Y (called c))
 answer c =
     let s = start (called c) in
-    product_answered s.args.p s.requires.0.0 _ _ _ c.b-1.given.1 (terms (take s.args.l s.args.r.now)) (terms s.args.t.now) (called c).product.ensures
+    product_answered s.args.p s.requires.0.0 _ _ _ c.in-Words.is (terms (take s.args.l s.args.r.now)) (terms s.args.t.now) (called c).product.ensures
 
 -- a and the product find room in r.
-room : (c : tie.In-Words-2) → length (start (called c)).args.a.now + length (take c.b-1.given.0.0 (Y (called c))) ≤ length (start (called c)).args.r.now
+room : (c : tie.In-Words) → length (start (called c)).args.a.now + length (take c.in-Words.b (Y (called c))) ≤ length (start (called c)).args.r.now
 room c =
     let s = start (called c) in
     let taken = length-take-le s.args.l s.args.r.now s.requires.1.1.0.0 in
     let few = product_words s.args.p _ _ _ _ s.requires.1.1.0.2.pairs s.requires.1.0.pairs taken refl _ _ (answer c) in
-    product_difference_lent _ _ _ _ _ s.requires.1.1.1.0.few (answer c).holds.few (omega (arith, few, length-take-le c.b-1.given.0.0 (Y (called c)) (answer c).inside)) s.requires.1.1.0.1
+    product_difference_lent _ _ _ _ _ s.requires.1.1.1.0.few (answer c).holds.few (omega (arith, few, length-take-le c.in-Words.b (Y (called c)) (answer c).inside)) s.requires.1.1.0.1
 
 subtract_row-requires : tie.Need-subtract_row-requires
 subtract_row-requires c κs =
@@ -83,16 +83,16 @@ enum_known-b : tie.Need-enum_known-b
 enum_known-b c = c.in-Words-1.keys1
 
 slice_bounds-difference-end : tie.Need-slice_bounds-difference-end
-slice_bounds-difference-end c = (answer c.before).inside
+slice_bounds-difference-end c = (answer c).inside
 
 slice_bounds-difference-end-in-Words : tie.Need-slice_bounds-difference-end-in-Words
-slice_bounds-difference-end-in-Words c = let b = c in sym (length-take-le b.b-1.given.0.0 (Y (called b.before)) (answer b.before).inside)
+slice_bounds-difference-end-in-Words c = let b = c in sym (length-take-le b.in-Words.b (Y (called b)) (answer b).inside)
 
 difference-requires : tie.Need-difference-requires
 difference-requires c κs =
     let b = c in
-    let s = start (called b.before.before) in
-    (s.requires.0, (s.requires.1.1.1.0, ((answer b.before.before).holds, room b.before.before)))
+    let s = start (called b.before) in
+    (s.requires.0, (s.requires.1.1.1.0, ((answer b.before).holds, room b.before)))
 
 enum_told-1 : tie.Need-enum_told-1
 enum_told-1 c = c.in-OverDegree-1.keys2
@@ -112,7 +112,7 @@ shape_of-z-in-Words c = search rules
 returns-in-Words : tie.Need-returns-in-Words
 returns-in-Words c =
     let b = c in
-    then_formed (P (called b.before.before.before.before.before)) _ _ _ _ (Y (called b.before.before.before.before.before)) _ (answer b.before.before.before.before.before) c.difference.ensures
+    then_formed (P (called b.before.before.before.before)) _ _ _ _ (Y (called b.before.before.before.before)) _ (answer b.before.before.before.before) c.difference.ensures
 
 shape_of-r-in-OverDegree : tie.Need-shape_of-r-in-OverDegree
 shape_of-r-in-OverDegree c = search rules
@@ -126,7 +126,7 @@ shape_of-z-in-OverDegree c = search rules
 returns-in-OverDegree : tie.Need-returns-in-OverDegree
 returns-in-OverDegree c =
     let u = c in
-    then_degree (P u.before.before.before.before.before.before) _ _ u.product.result (Y u.before.before.before.before.before.before) c.enum_told-1.given.1 u.product.ensures
+    then_degree (P u.before.before.before.before.before) _ _ u.product.result (Y u.before.before.before.before.before) c.in-OverDegree.is u.product.ensures
 
 shape_of-r-in-OverTerms : tie.Need-shape_of-r-in-OverTerms
 shape_of-r-in-OverTerms c = search rules
@@ -140,7 +140,7 @@ shape_of-z-in-OverTerms c = search rules
 returns-in-OverTerms : tie.Need-returns-in-OverTerms
 returns-in-OverTerms c =
     let u = c in
-    then_terms (P u.before.before.before.before.before.before) _ _ u.product.result (Y u.before.before.before.before.before.before) c.enum_told-in-OverTerms-1.given.1 u.product.ensures
+    then_terms (P u.before.before.before.before.before) _ _ u.product.result (Y u.before.before.before.before.before) c.in-OverTerms.is u.product.ensures
 
 pub subtract_product_spec : {M : Type 1} → statement M
 subtract_product_spec =

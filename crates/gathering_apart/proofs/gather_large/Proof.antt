@@ -34,13 +34,13 @@ shape_of-x-in-Words : tie.Need-shape_of-x-in-Words
 shape_of-x-in-Words c = search rules
 
 returns-in-Words : tie.Need-returns-in-Words
-returns-in-Words c = words_ended _ _ _ _ _ _ c.gather_in-ended.ensures _ c.ended-1.given.1
+returns-in-Words c = words_ended _ _ _ _ _ _ c.gather_in-ended.ensures _ c.in-Words.is
 
 shape_of-x-in-OverTerms : tie.Need-shape_of-x-in-OverTerms
 shape_of-x-in-OverTerms c = search rules
 
 returns-in-OverTerms : tie.Need-returns-in-OverTerms
-returns-in-OverTerms c = over_terms_ended _ _ _ _ _ _ c.gather_in-ended.ensures _ c.enum_told-1.given.1
+returns-in-OverTerms c = over_terms_ended _ _ _ _ _ _ c.gather_in-ended.ensures _ c.in-OverTerms.is
 
 shape_of-x-in-Short : tie.Need-shape_of-x-in-Short
 shape_of-x-in-Short c = search rules
@@ -49,7 +49,7 @@ returns-in-Short : tie.Need-returns-in-Short
 returns-in-Short c =
     let s = c in
     let enough = buffers_suffice _ _ s.requires.1.0.0.few s.requires.1.1.0.0.few in
-    absurd (never_short _ _ _ _ _ _ c.gather_in-ended.ensures c.enum_told-in-Short-1.given.1 (room enough) (room enough))
+    absurd (never_short _ _ _ _ _ _ c.gather_in-ended.ensures c.in-Short.is (room enough) (room enough))
 
 pub gather_large_spec : {M : Type 1} → statement M
 gather_large_spec =

@@ -46,13 +46,13 @@ Z c = c.round.new.r
 answered : (c : tie.After-round) → Forms (left (start (formed_from c)) (terms (R (start (formed_from c))))) c.round.result (Z c)
 answered c = let s = start (formed_from c) in subst (λ f. Forms (left s f) c.round.result (Z c)) (copy (formed_from c)).holds c.round.ensures
 
-abbrev called : tie.In-Words-2 → tie.After-round
-called c = c.before.before.before.before.before.before
+abbrev called : tie.In-Words → tie.After-round
+called c = c.before.before.before.before.before
 
-answer : (c : tie.In-Words-2) → let s = start (formed_from (called c)) in Answered s.args.p (left s (terms (R s))) c.m-1.given.0.0 (Z (called c))
+answer : (c : tie.In-Words) → let s = start (formed_from (called c)) in Answered s.args.p (left s (terms (R s))) c.in-Words.m (Z (called c))
 answer c =
     let s = start (formed_from (called c)) in
-    round_answered s.args.p s.requires.0.0 _ _ _ c.m-1.given.1 s.args.k s.args.d (terms s.args.t.now) (terms (R s)) (answered (called c))
+    round_answered s.args.p s.requires.0.0 _ _ _ c.in-Words.is s.args.k s.args.d (terms s.args.t.now) (terms (R s)) (answered (called c))
 
 slice_bounds-copy-end : tie.Need-slice_bounds-copy-end
 slice_bounds-copy-end c = search rules
@@ -101,16 +101,16 @@ enum_known-m : tie.Need-enum_known-m
 enum_known-m c = c.in-Words-1.keys1
 
 slice_bounds-a-end : tie.Need-slice_bounds-a-end
-slice_bounds-a-end c = (answer c.before).inside
+slice_bounds-a-end c = (answer c).inside
 
 slice_bounds-copy-end-in-Words : tie.Need-slice_bounds-copy-end-in-Words
-slice_bounds-copy-end-in-Words c = let m = c in sym (length-take-le m.m-1.given.0.0 (Z (called m.before.before)) (answer m.before.before).inside)
+slice_bounds-copy-end-in-Words c = let m = c in sym (length-take-le m.in-Words.m (Z (called m.before)) (answer m.before).inside)
 
 copy-requires-in-Words : tie.Need-copy-requires-in-Words
 copy-requires-in-Words c κs =
     let m = c in
-    let s = start (formed_from (called m.before.before.before)) in
-    omega (arith, length-take-le m.m-1.given.0.0 (Z (called m.before.before.before)) (answer m.before.before.before).inside, (answer m.before.before.before).holds.few, s.requires.1.1.1.1)
+    let s = start (formed_from (called m.before.before)) in
+    omega (arith, length-take-le m.in-Words.m (Z (called m.before.before)) (answer m.before.before).inside, (answer m.before.before).holds.few, s.requires.1.1.1.1)
 
 enum_told-1 : tie.Need-enum_told-1
 enum_told-1 c = c.in-OverDegree-1.keys2
@@ -124,8 +124,8 @@ shape_of-r-in-Words c = search rules
 returns-in-Words : tie.Need-returns-in-Words
 returns-in-Words c =
     let m = c in
-    let s = start (formed_from (called m.before.before.before.before.before.before)) in
-    copied_back s.args.p (left s (terms (R s))) _ (Z (called m.before.before.before.before.before.before)) s.args.r.now _ (answer m.before.before.before.before.before.before) s.requires.1.1.1.1 c.copy-in-Words.ensures
+    let s = start (formed_from (called m.before.before.before.before.before)) in
+    copied_back s.args.p (left s (terms (R s))) _ (Z (called m.before.before.before.before.before)) s.args.r.now _ (answer m.before.before.before.before.before) s.requires.1.1.1.1 c.copy-in-Words.ensures
 
 shape_of-r-in-OverDegree : tie.Need-shape_of-r-in-OverDegree
 shape_of-r-in-OverDegree c = search rules
@@ -133,8 +133,8 @@ shape_of-r-in-OverDegree c = search rules
 returns-in-OverDegree : tie.Need-returns-in-OverDegree
 returns-in-OverDegree c =
     let u = c in
-    let s = start (formed_from u.before.before.before.before.before.before) in
-    degree_refused (left s (terms (R s))) u.round.result (Z u.before.before.before.before.before.before) s.args.r.now c.enum_told-1.given.1 (answered u.before.before.before.before.before.before)
+    let s = start (formed_from u.before.before.before.before.before) in
+    degree_refused (left s (terms (R s))) u.round.result (Z u.before.before.before.before.before) s.args.r.now c.in-OverDegree.is (answered u.before.before.before.before.before)
 
 shape_of-r-in-OverTerms : tie.Need-shape_of-r-in-OverTerms
 shape_of-r-in-OverTerms c = search rules
@@ -142,8 +142,8 @@ shape_of-r-in-OverTerms c = search rules
 returns-in-OverTerms : tie.Need-returns-in-OverTerms
 returns-in-OverTerms c =
     let u = c in
-    let s = start (formed_from u.before.before.before.before.before.before) in
-    terms_refused (left s (terms (R s))) u.round.result (Z u.before.before.before.before.before.before) s.args.r.now c.enum_told-in-OverTerms-1.given.1 (answered u.before.before.before.before.before.before)
+    let s = start (formed_from u.before.before.before.before.before) in
+    terms_refused (left s (terms (R s))) u.round.result (Z u.before.before.before.before.before) s.args.r.now c.in-OverTerms.is (answered u.before.before.before.before.before)
 
 pub round_apart_spec : {M : Type 1} → statement M
 round_apart_spec =

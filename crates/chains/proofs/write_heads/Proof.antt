@@ -112,7 +112,7 @@ loop-left-preserved c =
       omega arith,
       omega arith,
       ap (λ (k : ℕ). skip_to v (i + 1 + k) (left - 1)) is ∙ sym (skip_to_turn v i left (left - 1) less) ∙ turn.invariant.2,
-      heads_turn v turn.out put.new.0 body.new.1.1.0 at (at + 1 + n) i left (left - 1) n if1.first if2.next put.ensures.1 body.ensures
+      heads_turn v turn.out put.new.w body.new.out at (at + 1 + n) i left (left - 1) n if1.first if2.next put.ensures.1 body.ensures
           (omega arith) is refl less (omega (arith, length_view a.w.now)) (omega arith)
           (λ h. ⊎_elim (λ w. omega arith) (λ w. omega arith) if1.branch-raw) (λ h. ⊎_elim (λ w. omega arith) (λ w. omega arith) if1.branch-raw)
           (λ h. ⊎_elim (λ w. omega arith) (λ w. omega arith) if2.branch-raw) (λ h. ⊎_elim (λ w. omega arith) (λ w. omega arith) if2.branch-raw)

@@ -105,7 +105,7 @@ loop-i-preserved c =
     let j = a.from + 1 in (
       omega arith,
       omega arith,
-      terms_turn (view a.w.now) turn.out put.new.0 (a.to + i) (a.to + (i + 1)) (j + i) (j + (i + 1)) (n - i) (n - (i + 1))
+      terms_turn (view a.w.now) turn.out put.new.w (a.to + i) (a.to + (i + 1)) (j + i) (j + (i + 1)) (n - i) (n - (i + 1))
           coefficient.result high.result low.result if1.next put.ensures.1
           (omega arith) (omega arith) (omega arith) (omega (arith, length_view a.w.now)) (omega arith)
           coefficient.ensures high.ensures low.ensures (omega arith) (omega arith)

@@ -62,7 +62,7 @@ returns-then-has_above c =
     let w = a.table.now in
     let e = c.packed-e in
     let packed = e.ensures.1 ∙ ap₂ exponents c.word.ensures c.word-2.ensures in
-    let first = c.word.ensures in
+    let first = c.word-c.ensures in
     let some : word w a.i 0 ≢ 0 = λ z. c.if-c-eq0.false (first ∙ z) in
     refused_exponent w a.p a.n a.m a.last a.i e.result (omega arith) some (omega arith) packed (sym c.has_above.ensures ∙ c.if-has_above.true)
 
@@ -75,7 +75,7 @@ returns-then-last-e c =
     let w = a.table.now in
     let e = c.packed-e in
     let packed = e.ensures.1 ∙ ap₂ exponents c.word.ensures c.word-2.ensures in
-    let first = c.word.ensures in
+    let first = c.word-c.ensures in
     let some : word w a.i 0 ≢ 0 = λ z. c.if-c-eq0.false (first ∙ z) in
     refused_order w a.p a.n a.m a.last a.i e.result (omega arith) some (omega arith) packed (sym c.has_above.ensures ∙ c.if-has_above.false)
     (falls_before a.m e.result a.last (omega arith) (omega arith) ∙ rw (lt-ltb 0 a.m c.if-m-gt0.true, c.if-last-e.true))
@@ -86,7 +86,7 @@ returns c =
     let w = a.table.now in
     let e = c.packed-e in
     let packed = e.ensures.1 ∙ ap₂ exponents c.word.ensures c.word-2.ensures in
-    let first = c.word.ensures in
+    let first = c.word-c.ensures in
     let some : word w a.i 0 ≢ 0 = λ z. c.if-c-eq0.false (first ∙ z) in
     let below : ltb 0 a.m && leb a.last e.result ≡ false =
     ⊎_elim (λ u. rw (lt-ltb 0 a.m u.if-m-gt0.true, u.if-last-e.false)) (λ u. rw (le-ltb 0 a.m u.if-m-gt0.false)) c.else-m-gt0.branch-raw in

@@ -4,7 +4,7 @@ use Prim.Native.Nat.{ℕ, ◌+◌, ◌-◌, ◌≤◌, ◌<◌}
 use native.Mathlib.Omega.{arith}
 use borrow.Author.Rules.{rules}
 use borrow.Author.Count.{below_more}
-use borrow.Author.Tests.{not-true, ltb-true, ltb-false}
+use borrow.Author.Tests.{ltb-true, ltb-false}
 use Rattle.polynomials.specs.Packed.{terms}
 use Rattle.polynomials.specs.Division.{degree}
 use Rattle.polynomials.specs.laws.Bounds.{degrees_over_at}
@@ -33,7 +33,7 @@ returns-then-not-passes c =
     let u = c.union-u in
     let v = c.union-v in
     sym (unions_within 255 u.result v.result (terms start.args.f.now) (terms start.args.g.now)
-    u.ensures v.ensures (sym c.passes.ensures ∙ not-true _ c.if-not-passes.true))
+    u.ensures v.ensures (sym c.passes.ensures ∙ c.if-not-passes.true))
 
 loop-k-init : tie.Need-loop-k-init invariant-loop-k decreases-loop-k
 loop-k-init c = search rules

@@ -64,7 +64,7 @@ returns-then-l-eq2 c =
     let t = terms s.args.t.now in
     let less = bounded_difference standard p (terms s.args.a.now) in
     let u = c.subtract_row in
-    subst (λ (l : ℕ). Forms (and_then (bounded_product standard p (terms (take l s.args.r.now)) t) less) u.result u.new.1.1.0)
+    subst (λ (l : ℕ). Forms (and_then (bounded_product standard p (terms (take l s.args.r.now)) t) less) u.result u.new.r)
     (sym c.if-l-eq2.true) c.subtract_row.ensures
 
 slice_bounds-product-end : tie.Need-slice_bounds-product-end

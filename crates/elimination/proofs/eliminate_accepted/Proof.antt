@@ -6,7 +6,6 @@ use mathlib.Core.List.{List}
 use Prim.Native.Nat.{ℕ, ◌/◌, ◌≤◌}
 use native.Mathlib.Omega.{arith}
 use borrow.Author.Rules.{rules}
-use borrow.Author.Tests.{not-true, not-false}
 use lib.ListN.{length, get_or}
 use Rattle.records.specs.Records.{view}
 use Rattle.tables.specs.Read.{Input, good, read_table}
@@ -140,7 +139,7 @@ returns-then-not-start : tie.Need-returns-then-not-start
 returns-then-not-start c =
     let f = no_room_in c in
     let s = entry f in
-    let none = not-true f.start.result c.if-not-start.true in (
+    let none = c.if-not-start.true in (
       λ t e. in_words s.args.work.now (room s) s.args.limit t
           (no_room t (most s) s.args.limit (view (area f)) (begun f t e) (room s) s.args.output.now none),
       (λ t e. no_room_leaves t (most s) s.args.limit (view (area f)) (begun f t e) none, (f.start.ensures.1.0, f.start.ensures.1.1)),

@@ -6,7 +6,6 @@ use mathlib.Core.List.{List, []}
 use Prim.Native.Nat.{ℕ}
 use native.Mathlib.Omega.{arith}
 use borrow.Author.Rules.{rules}
-use borrow.Author.Tests.{not-true, not-false}
 use lib.ListN.{length, take}
 use lib.Seq.{length-take-le}
 use Rattle.records.specs.Records.{view}
@@ -114,7 +113,7 @@ returns-then-not-put_one c =
     let a = (start d.before.before.before.before.before.before.before.before.before).args in
     let l = d.loop-i in (
       λ fs b e x. put_fails a.table.now a.p a.n a.in_q (capacity a.work.now) fs b l.i (view l.work) (l.invariant.2 fs b e x) d.loop-i-test.true
-          d.load_monic-m.result (words d.before.before.before.before.before.before.before) d.load_monic-m.ensures k.put_one.result (view k.put_one.new.work) (puts k.before.before.before) (not-true k.put_one.result c.if-not-put_one.true),
+          d.load_monic-m.result (words d.before.before.before.before.before.before.before) d.load_monic-m.ensures k.put_one.result (view k.put_one.new.work) (puts k.before.before.before) c.if-not-put_one.true,
       k.put_one.ensures.1 ∙ l.invariant.3,
     )
 
@@ -140,7 +139,7 @@ loop-i-preserved c =
       λ fs b e x. rw c.word-i.ensures
           (put_next a.table.now a.p a.n a.in_q (capacity a.work.now) fs b
           l.i (view l.work) (l.invariant.2 fs b e x) d.loop-i-test.true
-          d.load_monic-m.result (words d.before.before.before.before.before.before.before.before) d.load_monic-m.ensures k.put_one.result (view k.put_one.new.work) (puts k.before.before.before.before) (not-false k.put_one.result c.if-not-put_one.false)),
+          d.load_monic-m.result (words d.before.before.before.before.before.before.before.before) d.load_monic-m.ensures k.put_one.result (view k.put_one.new.work) (puts k.before.before.before.before) c.if-not-put_one.false),
       k.put_one.ensures.1 ∙ l.invariant.3,
     )
 

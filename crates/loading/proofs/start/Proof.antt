@@ -5,7 +5,6 @@ use mathlib.Core.List.{List}
 use Prim.Native.Nat.{ℕ, ◌≤◌}
 use native.Mathlib.Omega.{arith}
 use borrow.Author.Rules.{rules}
-use borrow.Author.Tests.{not-true, not-false}
 use lib.ListN.{length}
 use Rattle.records.specs.Records.{view}
 use Rattle.tables.specs.Words.{word}
@@ -76,7 +75,7 @@ zeros_put c = c.before.before.before.before.before
 zeros_in : (c : tie.Else-not-put_heads) (t : Input) → let k = zeros_put c in
     let s = entry k in
     read_table s.args.table.now ≡ good t → Alone (p s) (most s) (with_zeros (p s) t) (view (work k))
-zeros_in c t e = let k = zeros_put c in (put k t e).alone (not-false k.put_heads.result c.if-not-put_heads.false)
+zeros_in c t e = let k = zeros_put c in (put k t e).alone c.if-not-put_heads.false
 
 -- ── the needs ──
 returns-then-work-lt8 : tie.Need-returns-then-work-lt8
@@ -119,7 +118,7 @@ returns-then-not-put_heads c =
     let s = entry k.before.before.before.before.before in (
       (λ t e.
           start_fails t (most s) (view (work k.before.before.before.before.before)) (p s) (table_read s.args.table.now t e).modulus (two (begun_by k.before.before.before.before.before))
-          (subst (λ (b : Bool). Filled (p s) (most s) false t.P no_polynomial b (view (work k.before.before.before.before.before))) (not-true k.put_heads.result c.if-not-put_heads.true) (put k.before.before.before.before.before t e))),
+          (subst (λ (b : Bool). Filled (p s) (most s) false t.P no_polynomial b (view (work k.before.before.before.before.before))) c.if-not-put_heads.true (put k.before.before.before.before.before t e))),
       (λ h. absurd (omega (arith, h, two (begun_by k.before.before.before.before.before))), outside_zeros k.before.before.before.before.before),
     )
 

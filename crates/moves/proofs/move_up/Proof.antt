@@ -52,7 +52,7 @@ loop-i-preserved c =
       omega arith,
       omega arith,
       (
-        up_turn zero_record (view a.w.now) (view head.loop-i.w) (view copied.new.0) a.from a.n a.to head.loop-i.i
+        up_turn zero_record (view a.w.now) (view head.loop-i.w) (view copied.new.w) a.from a.n a.to head.loop-i.i
             (omega arith) (omega arith) (omega arith) (omega (arith, length_view a.w.now)) head.loop-i.invariant.2.0 copied.ensures.0,
         copied.ensures.1 ∙ head.loop-i.invariant.2.1,
       ),

@@ -19,7 +19,7 @@ abbrev end_read : Reading → tie.After-get1-end
 end_read r = r.before
 
 abbrev start : Reading → tie.Start
-start r = (end_read r).before.before.before.before
+start r = (end_read r).before.before.before
 
 abbrev room_of : tie.After-insert → tie.Else-top-end
 room_of c = c.before.before

@@ -2,7 +2,7 @@
 use mathlib.Core.Path.{◌≡◌, sym, ◌∙◌}
 use mathlib.Core.Bool.{true}
 use native.Mathlib.Omega.{arith}
-use borrow.Author.Tests.{le-leb, lt-leb, not-true, not-false}
+use borrow.Author.Tests.{le-leb, lt-leb}
 use borrow.Author.Rules.{rules}
 use Rattle.tables.specs.Words.{word, is_whole}
 use Rattle.reading.proofs.ReadLaws.{ragged, empty, long, whole, refused_shape, refused_prime, refused_variables, good_header}
@@ -28,7 +28,7 @@ returns-then-not-is_prime : tie.Need-returns-then-not-is_prime
 returns-then-not-is_prime c =
     let w = c.args.table.now in
     let h : is_whole w ≡ true = whole w (omega arith) c.if-table-eq0.false (omega arith) in
-    refused_prime w h (sym c.is_prime.ensures ∙ not-true _ c.if-not-is_prime.true)
+    refused_prime w h (sym c.is_prime.ensures ∙ c.if-not-is_prime.true)
 
 bounds-table-1 : tie.Need-bounds-table-1
 bounds-table-1 c = search rules
@@ -37,7 +37,7 @@ returns-then-table-lt1 : tie.Need-returns-then-table-lt1
 returns-then-table-lt1 c =
     let w = c.args.table.now in
     let h : is_whole w ≡ true = whole w (omega arith) c.if-table-eq0.false (omega arith) in
-    refused_variables w h (sym c.is_prime.ensures ∙ not-false _ c.if-not-is_prime.false) (rw (lt-leb 1 (word w 0 1) (omega arith)))
+    refused_variables w h (sym c.is_prime.ensures ∙ c.if-not-is_prime.false) (rw (lt-leb 1 (word w 0 1) (omega arith)))
 
 bounds-table-1-2 : tie.Need-bounds-table-1-2
 bounds-table-1-2 c = search rules
@@ -46,14 +46,14 @@ returns-then-table-gt8 : tie.Need-returns-then-table-gt8
 returns-then-table-gt8 c =
     let w = c.args.table.now in
     let h : is_whole w ≡ true = whole w (omega arith) c.if-table-eq0.false (omega arith) in
-    let prime = sym c.is_prime.ensures ∙ not-false _ c.if-not-is_prime.false in
+    let prime = sym c.is_prime.ensures ∙ c.if-not-is_prime.false in
     refused_variables w h prime (rw (le-leb 1 (word w 0 1) (omega arith), lt-leb (word w 0 1) 8 (omega arith)))
 
 returns : tie.Need-returns
 returns c =
     let w = c.args.table.now in
     let h : is_whole w ≡ true = whole w (omega arith) c.if-table-eq0.false (omega arith) in
-    good_header w h (sym c.is_prime.ensures ∙ not-false _ c.if-not-is_prime.false) (omega arith) (omega arith)
+    good_header w h (sym c.is_prime.ensures ∙ c.if-not-is_prime.false) (omega arith) (omega arith)
 
 pub check_header_spec : {M : Type 1} → statement M
 check_header_spec =

@@ -3,7 +3,6 @@ use mathlib.Core.Path.{◌≡◌, refl, sym, ap, ◌∙◌}
 use mathlib.Core.List.{List, ◌∷◌}
 use Prim.Native.Nat.{ℕ, ◌+◌, ◌-◌}
 use native.Mathlib.Omega.{arith}
-use borrow.Author.Tests.{not-true, not-false}
 use lib.ListN.{length}
 use Rattle.records.specs.Records.{view}
 use Rattle.branches.specs.Area.{Stored, Leaves, capacity, outside, with_open, put_into_p, without_p, aside, HeldIn}
@@ -103,7 +102,7 @@ module _ {b : Stored} {bs ss : List Stored} where
       → let m = c in Holds (w (from_initial m.before.before.before)) b bs ss → Holds m.put_p.new.w (with_initial (from_initial m.before.before.before) b) bs ss
   initial_put c H =
       let m = c in
-      held_by _ _ (w (from_initial m.before.before.before)) m.put_p.new.w (sym (same_initial m.before.before.before)) ((initial_leaves m.before.before.before H).held (not-false _ c.if-not-put_p.false))
+      held_by _ _ (w (from_initial m.before.before.before)) m.put_p.new.w (sym (same_initial m.before.before.before)) ((initial_leaves m.before.before.before H).held c.if-not-put_p.false)
 
   rest_leaves : (c : tie.After-put_p-2) → Holds (w (from_rest c)) b bs ss
       → let r = from_rest c in
@@ -116,7 +115,7 @@ module _ {b : Stored} {bs ss : List Stored} where
       → let m = c in Holds (w (from_rest m.before.before.before)) b bs ss → Holds m.put_p-2.new.w (with_rest (from_rest m.before.before.before) b) bs ss
   rest_put c H =
       let m = c in
-      held_by _ _ (w (from_rest m.before.before.before)) m.put_p-2.new.w (sym (same_rest m.before.before.before)) ((rest_leaves m.before.before.before H).held (not-false _ c.if-not-put_p-2.false))
+      held_by _ _ (w (from_rest m.before.before.before)) m.put_p-2.new.w (sym (same_rest m.before.before.before)) ((rest_leaves m.before.before.before H).held c.if-not-put_p-2.false)
 
 -- ── the branch of which the contract speaks ──
 abbrev b₀ : Reading → Stored
@@ -145,7 +144,7 @@ returns-then-not-put_p : tie.Need-returns-then-not-put_p
 returns-then-not-put_p c =
     let m = c in
     let r = from_initial m.before.before.before in
-    (λ b bs ss H. no_initial (capacity (w r)) (i r) (initial r) (rest r) b bs ss (initial_leaves m.before.before.before H) (not-true _ c.if-not-put_p.true), outside_initial m.before.before.before)
+    (λ b bs ss H. no_initial (capacity (w r)) (i r) (initial r) (rest r) b bs ss (initial_leaves m.before.before.before H) c.if-not-put_p.true, outside_initial m.before.before.before)
 
 put_p-requires-2 : tie.Need-put_p-requires-2
 put_p-requires-2 c κs =
@@ -159,8 +158,8 @@ returns-then-not-put_p-2 : tie.Need-returns-then-not-put_p-2
 returns-then-not-put_p-2 c =
     let m = c in
     let r = from_rest m.before.before.before in (
-      λ b bs ss H. no_rest (capacity (w r)) (i r) (initial r) (rest r) b bs ss (initial_leaves (initial_of m.before.before.before) H) (not-false _ m.if-not-put_p.false)
-          (rest_leaves m.before.before.before H) (not-true _ c.if-not-put_p-2.true),
+      λ b bs ss H. no_rest (capacity (w r)) (i r) (initial r) (rest r) b bs ss (initial_leaves (initial_of m.before.before.before) H) m.if-not-put_p.false
+          (rest_leaves m.before.before.before H) c.if-not-put_p-2.true,
       outside_rest m.before.before.before,
     )
 
@@ -196,7 +195,7 @@ returns c =
       λ b bs ss H. let h = (start r).requires.1.0 b bs ss H in
           let n : r.open_branch-b.result.p - 1 + 1 ≡ length b.P = omega (arith, count_is r H, h.0) in
           left_by _ _ m.put_p-2.new.w (w r) (same_rest m)
-          (stops_aside (capacity (w r)) (i r) (initial r) (rest r) b bs ss (rest_leaves m H) (not-false _ k.if-not-put_p-2.false))
+          (stops_aside (capacity (w r)) (i r) (initial r) (rest r) b bs ss (rest_leaves m H) k.if-not-put_p-2.false)
           (ap (λ (x : Stored). with_open x (with_rest r b ∷ bs) ss) (kept_aside (i r) _ (f r) (initial r) (rest r) b h.0 n h.1 h.2 h.3))
           (k.keep_open.ensures.0 _ bs ss (rest_put k.before.before.before.before.before H)),
       k.keep_open.ensures.1 ∙ outside_rest m,

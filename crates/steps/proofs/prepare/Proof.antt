@@ -35,8 +35,7 @@ limits s = limits_in (capacity s.args.w.now)
 
 abbrev Led : tie.In-Pivot → Stored → Type 0
 Led c b =
-    let g = c.k-1.given.0 in
-    (rule_of (branch_of b) ≡ rule_with g.0 (chosen b g.1.0) (branch_of b)) × Leads g.0 g.1.0 b
+    (rule_of (branch_of b) ≡ rule_with c.in-Pivot.k (chosen b c.in-Pivot.place) (branch_of b)) × Leads c.in-Pivot.k c.in-Pivot.place b
 
 is_pivot : (c : tie.In-Pivot) (b : Stored) (bs ss : List Stored) → Entry (entry c.before) b bs ss
     → Ready (entry c.before).args.p (with_open b bs ss) → Led c b

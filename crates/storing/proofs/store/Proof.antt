@@ -87,8 +87,8 @@ loop-i-preserved c =
       omega arith,
       omega arith,
       (
-        paste_turn zero_record (view head.new.0) (view turn.loop-i.w) (view again.new.0) (term_records f) (a.at + 1) i
-            (term_record (get_or f (2 * i) 0) (get_or f (2 * i + 1) 0)) (omega (arith, length_view head.new.0)) (omega (arith, length_term_records f))
+        paste_turn zero_record (view head.new.w) (view turn.loop-i.w) (view again.new.w) (term_records f) (a.at + 1) i
+            (term_record (get_or f (2 * i) 0) (get_or f (2 * i + 1) 0)) (omega (arith, length_view head.new.w)) (omega (arith, length_term_records f))
             turn.loop-i.invariant.2.0 again.ensures.0.0 (getD_term_records f i (omega arith)),
         again.ensures.0.1 ∙ turn.loop-i.invariant.2.1,
       ),

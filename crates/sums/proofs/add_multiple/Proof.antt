@@ -48,7 +48,7 @@ small : (c : tie.After-shared_slice_known-in-loop-j-1 invariant-loop-j decreases
 small c =
     let a = (entry c.before).args in
     let j = c.loop-j.j in
-    fits_below 8 a.m (get_or a.g.now (j + 1) 0) (next c.before).1 (entry c.before).fits.m.fits (c.shared_slice_known-in-loop-j-1.given (j + 1)).fits
+    fits_below 8 a.m (get_or a.g.now (j + 1) 0) (next c.before).1 (entry c.before).ranges.m.fits (c.shared_slice_known-in-loop-j-1.given (j + 1)).fits
 
 overflow_add-e-in-loop-j : tie.Need-overflow_add-e-in-loop-j invariant-loop-j decreases-loop-j
 overflow_add-e-in-loop-j c = record { fits = small c }
@@ -176,7 +176,7 @@ not_above : (c : tie.Joined-else-i-f invariant-loop-j decreases-loop-j) →
     let a = (entry c.before.before).args in
     let L = c.loop-j in
     L.i < length a.f.now → get_or a.f.now (L.i + 1) 0 ≤ a.m + get_or a.g.now (L.j + 1) 0
-not_above c h = ⊎_elim (λ u. ltb-false _ _ u.if-e-f.false) (λ u. absurd (omega (arith, u.if-i-f.false))) c.else-i-f.branch-raw
+not_above c h = ⊎_elim (λ u. u.if-e-f.false) (λ u. absurd (omega (arith, u.if-i-f.false))) c.else-i-f.branch-raw
 
 -- Where they meet again, the next term of the multiple is taken.
 met : (c : tie.Joined-i-f-2 invariant-loop-j decreases-loop-j) →

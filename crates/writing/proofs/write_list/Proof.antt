@@ -29,7 +29,7 @@ At c ss =
     let put = c.write in
     let most = c.count_records-most.result in
     let a = c.args in
-    Turn (view a.w.now) most ss put.new.0 turn.out turn.i turn.end turn.next
+    Turn (view a.w.now) most ss put.new.w turn.out turn.i turn.end turn.next
 
 turn_of : (c : tie.In-loop-i invariant-loop-i decreases-loop-i) (ss : List Stored)
     → let w = c.args.w.now in HeldIn w (record { branches = []; systems = ss }) → At c ss
@@ -39,7 +39,7 @@ turn_of c ss h =
     let most = c.count_records-most.result in
     let a = c.args in
     let w = loop.invariant.1 ss h in
-    turn (view a.w.now) most ss put.new.0 loop.out loop.i loop.end loop.next w.rest w.done w.walk c.loop-i-test.true
+    turn (view a.w.now) most ss put.new.w loop.out loop.i loop.end loop.next w.rest w.done w.walk c.loop-i-test.true
 
 -- For the systems that the contract names.
 turn_asked : (c : tie.In-loop-i invariant-loop-i decreases-loop-i) → At c c.requires.0.0
@@ -130,7 +130,7 @@ loop-i-preserved c =
             rest = t.rest;
             done = system_of t.s ∷ t.done;
             walk =
-                t.again size (c.loop-i.end - size) put.new.1.1.0 (sized.ensures t.s t.stored) refl
+                t.again size (c.loop-i.end - size) put.new.a (sized.ensures t.s t.stored) refl
                 (put.ensures t.s t.stored);
           },
     )
@@ -149,13 +149,13 @@ returns c ss h =
     let most = c.count_records-most.result in
     let put = c.write in
     let first = c.if-count-eq0 in
-    list_written ss a.p a.n first.first told.listed_systems-listed.result.count a.out.now put.new.0 loop.out
+    list_written ss a.p a.n first.first told.listed_systems-listed.result.count a.out.now put.new.w loop.out
     put.ensures.1
     (omega (arith, (start.requires.1 ss h).0, list_some (reverse (map system_of ss))))
     (count_is h (told.listed_systems-listed.ensures _ h))
     (λ h. ⊎_elim (λ w. omega arith) (λ w. omega arith) first.branch-raw)
     (λ h. ⊎_elim (λ w. omega arith) (λ w. omega arith) first.branch-raw)
-    (finished v most ss put.new.0 loop.out loop.i loop.end loop.next w.rest w.done w.walk (omega arith))
+    (finished v most ss put.new.w loop.out loop.i loop.end loop.next w.rest w.done w.walk (omega arith))
 
 pub write_list_spec : {M : Type 1} → statement M
 write_list_spec =

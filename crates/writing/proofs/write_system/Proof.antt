@@ -135,9 +135,9 @@ returns c s h =
     let u = k.get1-u.result in
     let from_t = k.skip-from_t.result in
     let to = a.at + 1 + (k.skip-end.result - from_t) in
-    let o₁ = put.new.0 in
-    let o₂ = first.new.1.1.1.0 in
-    let o₃ = second.new.1.1.1.0 in
+    let o₁ = put.new.w in
+    let o₂ = first.new.out in
+    let o₃ = second.new.out in
     system_written s a.out.now o₁ o₂ o₃ a.at to a.next if1.first_t if2.first-u
     put.ensures.1
     (heads_over o₁ o₂ (a.at + 1) (skip_to v from_t t - from_t) _ s.T first.ensures e.polys_t (omega (arith, k.skip-end.ensures)))

@@ -4,7 +4,7 @@ use mathlib.Core.Logic.{◌≢◌, ⊎_elim}
 use mathlib.Core.Bool.{false, ◌&&◌}
 use native.Mathlib.Omega.{arith}
 use lib.Dec.{leb, ltb}
-use borrow.Author.Tests.{eq-eqb, ne_eqb, le-leb, lt-ltb, le-ltb}
+use borrow.Author.Tests.{eq-eqb, ne_eqb, le-leb, lt-ltb, le-ltb, lt-leb}
 use borrow.Author.Rules.{rules}
 use Rattle.polynomials.specs.Packed.{exponents}
 use Rattle.tables.specs.Words.{word}
@@ -78,7 +78,7 @@ returns-then-last-e c =
     let first = c.word-c.ensures in
     let some : word w a.i 0 ≢ 0 = λ z. c.if-c-eq0.false (first ∙ z) in
     refused_order w a.p a.n a.m a.last a.i e.result (omega arith) some (omega arith) packed (sym c.has_above.ensures ∙ c.if-has_above.false)
-    (falls_before a.m e.result a.last (omega arith) (omega arith) ∙ rw (lt-ltb 0 a.m c.if-m-gt0.true, c.if-last-e.true))
+    (falls_before a.m e.result a.last (omega arith) (omega arith) ∙ rw (lt-ltb 0 a.m c.if-m-gt0.true) (le-leb a.last e.result c.if-last-e.true))
 
 returns : tie.Need-returns
 returns c =
@@ -89,7 +89,7 @@ returns c =
     let first = c.word-c.ensures in
     let some : word w a.i 0 ≢ 0 = λ z. c.if-c-eq0.false (first ∙ z) in
     let below : ltb 0 a.m && leb a.last e.result ≡ false =
-    ⊎_elim (λ u. rw (lt-ltb 0 a.m u.if-m-gt0.true, u.if-last-e.false)) (λ u. rw (le-ltb 0 a.m u.if-m-gt0.false)) c.else-m-gt0.branch-raw in
+    ⊎_elim (λ u. rw (lt-ltb 0 a.m u.if-m-gt0.true) (lt-leb a.last e.result u.if-last-e.false)) (λ u. rw (le-ltb 0 a.m u.if-m-gt0.false)) c.else-m-gt0.branch-raw in
     good_term w a.p a.n a.m a.last a.i e.result (omega arith) some (omega arith) packed (sym c.has_above.ensures ∙ c.if-has_above.false)
     (falls_before a.m e.result a.last (omega arith) (omega arith) ∙ below)
 

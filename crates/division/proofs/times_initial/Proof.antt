@@ -33,7 +33,7 @@ returns-then-i-eq0 c =
     let one = c in
     let s = start one.before.before.before.before in
     copy_forms s.args.p s.requires.0.0 s.args.i.now s.args.f.now s.args.x.now _
-    one.if-i-eq2.true (eqb-true (get_or s.args.i.now 0 0) 1 one.if-i-eq1.true) (eqb-true (get_or s.args.i.now 1 0) 0 one.if-i-eq0.true)
+    one.if-i-eq2.true one.if-i-eq1.true one.if-i-eq0.true
     s.requires.1.1.0 (room one.before.before.before.before) c.copy.ensures
 
 product-requires : tie.Need-product-requires

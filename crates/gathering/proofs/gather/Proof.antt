@@ -43,7 +43,7 @@ g t = length (entry t).args.g.now
 
 -- x is as long as when it was lent.
 start_x : (c : tie.Joined-i-eq2 invariant-loop-i decreases-loop-i) → length c.if-i-eq2.x ≡ length c.args.x.now
-start_x c = ⊎_elim (λ w. ap length w.i-is ∙ w.x-1.auto.1.1.1.1.1.0) (λ w. ap length w.x-is) c.if-i-eq2.branch-raw
+start_x c = ⊎_elim (λ w. ap length w.x-is ∙ w.add_multiple-n.auto.out) (λ w. ap length w.x-is) c.if-i-eq2.branch-raw
 
 same_x : (t : Turn) → length t.loop-i.x ≡ length (entry t).args.x.now
 same_x t = t.loop-i.invariant.same_x ∙ start_x t.before.before
@@ -67,7 +67,7 @@ words_small t =
 upper_few : (u : Upper) → u.add_multiple-m.result ≤ (turn u).loop-i.n + g (turn u)
 upper_few u =
     let t = turn u in
-    upper_words _ _ _ (entry t).requires _ _ _ _ _ _ t.loop-i.invariant t.loop-i-test.taken _ _ u.add_multiple-m.ensures
+    upper_words _ _ _ (entry t).requires _ _ _ _ _ _ t.loop-i.invariant t.loop-i-test.true _ _ u.add_multiple-m.ensures
 
 overflow_sub-i : tie.Need-overflow_sub-i invariant-loop-i decreases-loop-i
 overflow_sub-i c = search rules
@@ -98,7 +98,7 @@ add_multiple-n-requires c κs =
 loop-i-init : tie.Need-loop-i-init invariant-loop-i decreases-loop-i
 loop-i-init c =
     let s = c in
-    ⊎_elim (λ w. rw (w.i-is, w.n-is, w.10) (first_gathering _ _ _ s.requires _ _ _ w.if-i-eq2.true w.x-1.ensures))
+    ⊎_elim (λ w. rw (w.x-is, w.i-is, w.n-is) (first_gathering _ _ _ s.requires _ _ _ w.if-i-eq2.true w.add_multiple-n.ensures))
     (λ w. rw (w.x-is, w.i-is, w.n-is) (none_gathering _ _ _ s.requires _ _ (omega (arith, w.if-i-eq2.false, s.requires.1.0.0.pairs)))) c.if-i-eq2.branch-raw
 
 overflow_sub-i-in-loop-i : tie.Need-overflow_sub-i-in-loop-i invariant-loop-i decreases-loop-i
@@ -161,7 +161,7 @@ returns-then-x-m : tie.Need-returns-then-x-m invariant-loop-i decreases-loop-i
 returns-then-x-m c =
     let u = c in
     let t = turn u.before.before.before in
-    inl (no_room _ _ _ (entry t).requires _ _ _ _ _ _ t.loop-i.invariant t.loop-i-test.taken _ (omega (arith, c.if-x-m.true, upper_few u.before.before.before, same_x t)))
+    inl (no_room _ _ _ (entry t).requires _ _ _ _ _ _ t.loop-i.invariant t.loop-i-test.true _ (omega (arith, c.if-x-m.true, upper_few u.before.before.before, same_x t)))
 
 offset_bounds-f-i-in-loop-i-3 : tie.Need-offset_bounds-f-i-in-loop-i-3 invariant-loop-i decreases-loop-i
 offset_bounds-f-i-in-loop-i-3 c = search rules
@@ -189,7 +189,7 @@ add_multiple-n-requires-in-loop-i c κs =
     let e = c in
     let u = e in
     let t = turn u.before.before.before.before.before.before in
-    lower_asks _ _ _ (entry t).requires _ _ _ _ _ _ t.loop-i.invariant t.loop-i-test.taken _ _ u.add_multiple-m.ensures _ (omega (arith, e.if-x-m.false))
+    lower_asks _ _ _ (entry t).requires _ _ _ _ _ _ t.loop-i.invariant t.loop-i-test.true _ _ u.add_multiple-m.ensures _ (omega (arith, e.if-x-m.false))
 
 overflow_mul-i : tie.Need-overflow_mul-i invariant-loop-i decreases-loop-i
 overflow_mul-i c = omega (arith, rows_small (turn (upper c.before.before)))
@@ -208,7 +208,7 @@ returns-then-i-g c =
     let l = c in
     let u = upper l.before.before.before in
     let t = turn u in
-    stopped _ _ _ (entry t).requires _ _ _ _ _ _ t.loop-i.invariant t.loop-i-test.taken _ _ u.add_multiple-m.ensures _ _ l.add_multiple-n-in-loop-i.ensures c.if-i-g.true
+    stopped _ _ _ (entry t).requires _ _ _ _ _ _ t.loop-i.invariant t.loop-i-test.true _ _ u.add_multiple-m.ensures _ _ l.add_multiple-n-in-loop-i.ensures c.if-i-g.true
 
 loop-i-smaller : tie.Need-loop-i-smaller invariant-loop-i decreases-loop-i
 loop-i-smaller c = search rules
@@ -218,7 +218,7 @@ loop-i-preserved c =
     let l = c in
     let u = upper l.before.before.before in
     let t = turn u in
-    again _ _ _ (entry t).requires _ _ _ _ _ _ t.loop-i.invariant t.loop-i-test.taken _ _ u.add_multiple-m.ensures _ _ l.add_multiple-n-in-loop-i.ensures
+    again _ _ _ (entry t).requires _ _ _ _ _ _ t.loop-i.invariant t.loop-i-test.true _ _ u.add_multiple-m.ensures _ _ l.add_multiple-n-in-loop-i.ensures
     c.if-i-g.false l.add_multiple-n-in-loop-i.auto.out u.add_multiple-m.auto.out
 
 shape_of-x : tie.Need-shape_of-x invariant-loop-i decreases-loop-i

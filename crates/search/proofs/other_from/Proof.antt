@@ -64,7 +64,7 @@ returns-then-leader_at-v c =
     let u = view s.args.w.now in
     let f = terms (words_at u l.i) in
     let led : leader f ≡ suc s.args.v =
-    omega (arith, c.leader_at.ensures, eqb-true c.leader_at.result (s.args.v + 1) c.if-leader_at-v.true) in
+    omega (arith, c.leader_at.ensures, c.if-leader_at-v.true) in
     sym (ap (scan s.args.v s.args.place l.j) (all_turn u l.i (s.args.k - l.j) (some turn.before.before.before))
     ∙ scan_led s.args.v s.args.place l.j f (all_at u (l.i + 1 + size_at u l.i) (s.args.k - l.j - 1)) c.if-j-place.true led)
     ∙ l.invariant.1 ∙ scan_all s.args.v s.args.place (all_at u s.args.at s.args.k)
@@ -105,7 +105,7 @@ loop-j-preserved c =
     let step : scan v place j (all_at u i (k - j)) ≡ scan v place (j + 1) fs =
     ap (scan v place j) (all_turn u i (k - j) (some turn.before.before))
     ∙ ⊎_elim
-    (λ w. scan_unled v place j f fs w.if-j-place.true (λ (e : leader f ≡ suc v). eqb-false w.leader_at.result (v + 1) w.if-leader_at-v.false (omega (arith, w.leader_at.ensures))))
+    (λ w. scan_unled v place j f fs w.if-j-place.true (λ (e : leader f ≡ suc v). w.if-leader_at-v.false (omega (arith, w.leader_at.ensures))))
     (λ w. scan_pivot v place j f fs w.if-j-place.false) c.else-j-place.branch-raw in (
       (λ t. skip_to u (i + 1 + c.get0-n.ensures t) (less t)) ∙ sym (skip_turn u i (k - j) (some turn.before.before)) ∙ l.invariant.0,
       (λ t. scan v place (j + 1) (all_at u (i + 1 + c.get0-n.ensures t) (less t))) ∙ sym step ∙ l.invariant.1,

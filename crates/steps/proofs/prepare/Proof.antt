@@ -133,7 +133,7 @@ returns-in-Pivot c =
           let l = limits s in
           let g = is_pivot k b bs ss H R in
           subst
-          (λ (S : Stepped). Prepares l p S u.result u.new.1.1.1.1.0 u.new.1.1.1.1.1.0 (view u.new.0) (capacity s.args.w.now) bs ss)
+          (λ (S : Stepped). Prepares l p S u.result u.new.t u.new.i (view u.new.w) (capacity s.args.w.now) bs ss)
           (sym (step_by l p b bs ss _ g.0)) (u.ensures.0 b bs ss H R g.1)),
       u.ensures.1,
     )

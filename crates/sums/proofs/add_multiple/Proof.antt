@@ -108,7 +108,7 @@ loop-j-preserved-then-e-f c =
     let L = t.loop-j in (
       simp length-set L.invariant.0,
       turn_f L.invariant.1 P.1.1.0.0 P.1.0.0 t.loop-j-test.true (small t.before.before.before.before.before) c.if-i-f.true
-          (omega arith) (c.shared_slice_known-then-e-f-2-1.given (L.i + 1)).fits (ltb-true _ _ c.if-e-f.true),
+          (omega arith) (c.shared_slice_known-then-e-f-2-1.given (L.i + 1)).fits c.if-e-f.true,
     )
 
 offset_bounds-g-j-else-i-f : tie.Need-offset_bounds-g-j-else-i-f invariant-loop-j decreases-loop-j
@@ -192,14 +192,14 @@ met c =
     let H = L.invariant.1 in
     let in_g = t.loop-j-test.true in
     ⊎_elim
-    (λ w. subst_taken (taken_both H P.1.1.0.0 P.1.0.0 in_g (small t.before.before.before.before) w.if-i-f-2.true (eqb-true _ _ w.if-f-i.true)) w.i-is
+    (λ w. subst_taken (taken_both H P.1.1.0.0 P.1.0.0 in_g (small t.before.before.before.before) w.if-i-f-2.true w.if-f-i.true) w.i-is
     (w.s-is ∙ w.add-s.ensures ∙ ap (λ z. (z + get_or a.f.now L.i 0) % a.p) c.multiply-s.ensures))
     (λ w. ⊎_elim
-    (λ v. let ne = eqb-false (get_or a.f.now (L.i + 1) 0) (a.m + get_or a.g.now (L.j + 1) 0) v.2.left in
-    subst_taken (taken_alone H P.1.1.0.0 P.1.0.0 in_g (small t.before.before.before.before) v.0.taken (v.1.given (L.i + 1)).fits (omega (arith, not_above c.before.before.before v.0.taken)))
+    (λ v. let ne = v.if-f-i.false in
+    subst_taken (taken_alone H P.1.1.0.0 P.1.0.0 in_g (small t.before.before.before.before) v.if-i-f-2.true (v.shared_slice_known-then-i-f-2-1.given (L.i + 1)).fits (omega (arith, not_above c.before.before.before v.if-i-f-2.true)))
     w.i-is (w.s-is ∙ c.multiply-s.ensures))
-    (λ v. subst_taken (taken_last H P.1.1.0.0 P.1.0.0 in_g (small t.before.before.before.before) v.left) w.i-is (w.s-is ∙ c.multiply-s.ensures))
-    w.else-i-f-2.came)
+    (λ v. subst_taken (taken_last H P.1.1.0.0 P.1.0.0 in_g (small t.before.before.before.before) v.if-i-f-2.false) w.i-is (w.s-is ∙ c.multiply-s.ensures))
+    w.else-i-f-2.branch-raw)
     c.if-i-f-2.branch-raw
 
 loop-j-smaller : tie.Need-loop-j-smaller invariant-loop-j decreases-loop-j

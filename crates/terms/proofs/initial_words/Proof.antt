@@ -56,7 +56,7 @@ loop-i-preserved c =
     let s = start.args.f.now in
     let L = start.requires.1 in
     let at = c.loop-i in
-    let same = sym c.exponent.ensures ∙ eqb-true c.exponent.result c.exponent.result c.if-exponent-top.true ∙ at.invariant.3 in
+    let same = sym c.exponent.ensures ∙ c.if-exponent-top.true ∙ at.invariant.3 in
     (omega arith, omega arith, omega arith, at.invariant.3, front_next k s L at.i at.invariant.0 (omega arith) same at.invariant.4)
 
 returns-else-exponent-top : tie.Need-returns-else-exponent-top invariant-loop-i decreases-loop-i
@@ -67,7 +67,7 @@ returns-else-exponent-top c =
     let L = start.requires.1 in
     let at = c.loop-i in
     split_lower k s L at.i at.invariant.0 (omega arith)
-    (λ q. eqb-false c.exponent.result c.exponent.result c.if-exponent-top.false (c.exponent.ensures ∙ q ∙ sym at.invariant.3))
+    (λ q. c.if-exponent-top.false (c.exponent.ensures ∙ q ∙ sym at.invariant.3))
     at.invariant.4
 
 returns-after-loop-i : tie.Need-returns-after-loop-i invariant-loop-i decreases-loop-i

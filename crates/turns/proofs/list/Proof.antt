@@ -23,13 +23,13 @@ abbrev top_read : Reading → tie.After-get2-top
 top_read r = r.before
 
 abbrev end_read : Reading → tie.After-get1-end
-end_read r = (top_read r).before.before
+end_read r = (top_read r).before
 
 abbrev at_read : Reading → tie.After-get0-at
-at_read r = (end_read r).before.before
+at_read r = (end_read r).before
 
 abbrev start : Reading → tie.Start
-start r = (at_read r).before.before.before
+start r = (at_read r).before.before
 
 -- The words of the branch's own record are read.
 abbrev from_q : tie.After-get0-p → Reading
@@ -48,10 +48,10 @@ abbrev t_read : tie.After-get3-under → tie.After-get2-t
 t_read c = c.before
 
 abbrev q_read : tie.After-get3-under → tie.After-get1-q
-q_read c = (t_read c).before.before
+q_read c = (t_read c).before
 
 abbrev p_read : tie.After-get3-under → tie.After-get0-p
-p_read c = (q_read c).before.before
+p_read c = (q_read c).before
 
 -- The records are moved up; the branch's own is written; the control record is.
 abbrev from_move : tie.After-move_up → Reading

@@ -130,7 +130,7 @@ loop-i-preserved c =
             rest = t.rest;
             done = system_of t.s ∷ t.done;
             walk =
-                t.again size (c.loop-i.end - size) put.new.a (sized.ensures t.s t.stored) refl
+                t.again size (c.loop-i.end - size) put.new.out (sized.ensures t.s t.stored) refl
                 (put.ensures t.s t.stored);
           },
     )

@@ -138,7 +138,7 @@ returns c s h =
     let o₁ = put.new.w in
     let o₂ = first.new.out in
     let o₃ = second.new.out in
-    system_written s a.out.now o₁ o₂ o₃ a.at to a.next if1.first_t if2.first-u
+    system_written s a.out.now o₁ o₂ o₃ a.at to a.next if1.first_t if2.first_u
     put.ensures.1
     (heads_over o₁ o₂ (a.at + 1) (skip_to v from_t t - from_t) _ s.T first.ensures e.polys_t (omega (arith, k.skip-end.ensures)))
     (heads_over o₂ o₃ to (skip_to v (a.i + 1) u - (a.i + 1)) _ s.Q second.ensures e.polys_u (omega (arith, k.skip-from_t.ensures)))

@@ -30,19 +30,19 @@ abbrev pub q_read : Words → tie.After-get1-q
 q_read r = r.before
 
 abbrev pub p_read : Words → tie.After-get0-p
-p_read r = (q_read r).before.before
+p_read r = (q_read r).before
 
 abbrev pub top_read : Words → tie.After-get2-top
-top_read r = (p_read r).before.before
+top_read r = (p_read r).before
 
 abbrev pub end_read : Words → tie.After-get1-end
-end_read r = (top_read r).before.before
+end_read r = (top_read r).before
 
 abbrev pub at_read : Words → tie.After-get0-at
-at_read r = (end_read r).before.before
+at_read r = (end_read r).before
 
 abbrev pub start : Words → tie.Start
-start r = (at_read r).before.before.before.before.before
+start r = (at_read r).before.before.before.before
 
 -- The ends of the parts are known: of the front of P, of its back, of P, and of Q.
 abbrev pub from_front : tie.After-skip-front → Words
@@ -61,10 +61,10 @@ abbrev pub members_p_read : Parts → tie.After-skip-from_q
 members_p_read c = c.before
 
 abbrev pub back_read : Parts → tie.After-skip-back
-back_read c = (members_p_read c).before.before
+back_read c = (members_p_read c).before
 
 abbrev pub front_read : Parts → tie.After-skip-front
-front_read c = (back_read c).before.before
+front_read c = (back_read c).before
 
 abbrev pub words : Parts → Words
 words c = from_p (members_p_read c)

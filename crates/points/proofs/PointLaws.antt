@@ -3,7 +3,6 @@ use mathlib.Core.Path.{◌≡◌, refl, sym, ◌∙◌, ap}
 use mathlib.Core.Bool.{Bool, true, false, not}
 use mathlib.Core.List.{List}
 use Prim.Native.Nat.{ℕ}
-use borrow.Author.Tests.{not-true, not-false}
 use Rattle.polynomials.specs.Poly.{Poly}
 use Rattle.polynomials.specs.Value.{Point}
 use Rattle.tables.specs.Words.{word, records}
@@ -54,25 +53,25 @@ module _ (w x : List ℕ) (t : Input) (is_read : read_table w ≡ good t) where
   answer = rw (is_read, k.modulus, k.variables)
 
   module _ (r : Bool) (r-is : r ≡ is_point (word w 0 0) (word w 0 1) x) where
-    pub no_point : not r ≡ true → record { outcome = TrialRefused PointReason 0 } ≡ trial (try_input w x)
-    no_point h = rw (answer, ← r-is, not-true r h)
+    pub no_point : r ≡ false → record { outcome = TrialRefused PointReason 0 } ≡ trial (try_input w x)
+    no_point h = rw (answer, ← r-is, h)
 
-    module _ (h : not r ≡ false) where
+    module _ (h : r ≡ true) where
       pub point_residues : Point (word w 0 0) x
-      point_residues = ((point_is (word w 0 0) (word w 0 1) x).0 (sym r-is ∙ not-false r h)).1
+      point_residues = ((point_is (word w 0 0) (word w 0 1) x).0 (sym r-is ∙ h)).1
 
       module _ (a : Bool) (a_is : Tried a true (word w 0 2)) where
-        pub some_nonzero : not a ≡ true → record { outcome = No } ≡ trial (try_input w x)
+        pub some_nonzero : a ≡ false → record { outcome = No } ≡ trial (try_input w x)
         unfolding solves
-        some_nonzero h₂ = rw (answer, ← r-is, not-false r h, ← a_is t.P k.zeros, not-true a h₂)
+        some_nonzero h₂ = rw (answer, ← r-is, h, ← a_is t.P k.zeros, h₂)
 
-        module _ (h₂ : not a ≡ false) (b : Bool) (b-is : Tried b false (word w 0 3)) where
+        module _ (h₂ : a ≡ true) (b : Bool) (b-is : Tried b false (word w 0 3)) where
           answer_last : trial (try_input w x) ≡ yes_or_no b
           unfolding solves
-          answer_last = rw (answer, ← r-is, not-false r h, ← a_is t.P k.zeros, not-false a h₂, ← b-is t.Q k.nonzeros)
+          answer_last = rw (answer, ← r-is, h, ← a_is t.P k.zeros, h₂, ← b-is t.Q k.nonzeros)
 
-          pub some_zero : not b ≡ true → record { outcome = No } ≡ trial (try_input w x)
-          some_zero h₃ = rw (answer_last, not-true b h₃)
+          pub some_zero : b ≡ false → record { outcome = No } ≡ trial (try_input w x)
+          some_zero h₃ = rw (answer_last, h₃)
 
-          pub all_solved : not b ≡ false → record { outcome = Yes } ≡ trial (try_input w x)
-          all_solved h₃ = rw (answer_last, not-false b h₃)
+          pub all_solved : b ≡ true → record { outcome = Yes } ≡ trial (try_input w x)
+          all_solved h₃ = rw (answer_last, h₃)

@@ -1,4 +1,0 @@
-pub mod Held
-pub mod Locals
-pub mod Calls
-pub mod Readers

@@ -1,7 +1,4 @@
 // A walk along a chain: the table and the record number reached.
-//
-// The borrow checker covers no function over a struct that holds a reference, so each function here is proved by a walk of its code. `word`
-// and `step` take the reader apart and leave the work to a function on the table and a number.
 #![tactic(auto)]
 
 ghost use Rattle.std.specs.Prelude.{◌≡◌, ◌<◌, eqb};

@@ -1,0 +1,15 @@
+-- The polynomials from the record reached on decide. The measure is the count of records that the reader can still reach.
+use Rattle.std.proofs.Common.{◌≡◌}
+use Rattle.tables.specs.Words.{records}
+use Rattle.tables.specs.laws.Linked.{left}
+use Rattle.evaluation.proofs.ValueLaws.{MatchLeft}
+use Rattle.evaluation.proofs.all_match.Given as goal
+
+abbrev pub invariant-loop-r : goal.invariant-loop-r
+invariant-loop-r l = record {
+  on_table : l.r.table.now ≡ l.table;
+  still : MatchLeft l.table l.p l.n l.from l.first l.point l.zero l.r.at;
+}
+
+abbrev pub decreases-loop-r : goal.decreases-loop-r
+decreases-loop-r l = left (records l.table) l.r.at

@@ -1,13 +1,9 @@
 -- What the proofs of the jobs cite, on numbers and lists: small products, points, and answers that stand within their words.
-use mathlib.Core.Path.{◌≡◌, sym, ◌∙◌, subst}
-use mathlib.Core.List.{List}
-use Prim.Native.Nat.{ℕ, ◌*◌, ◌/◌, ◌%◌, ◌≤◌, ◌<◌}
-use native.Mathlib.Nat.{mod-lt, mul-le-mul, div-le_self, div-lt_iff_lt-mul}
+use Rattle.std.proofs.Common.{◌≡◌, ℕ, ◌*◌, ◌/◌, ◌%◌, ◌≤◌, ◌<◌, List, length, get_or, set, replicate, sym, ◌∙◌, subst, arith, mod-lt, mul-le-mul, div-le_self, div-lt_iff_lt-mul, length-set, length-take-le, get_or-set_same, get_or-set_other}
 use native.Mathlib.Decide.{ℕ_discrete, dec_lt}
-use native.Mathlib.Omega.{arith}
-use lib.ListN.{length, get_or, set, replicate, length-set, length-replicate, get_or-replicate}
-use lib.Seq.{length-take-le, get_or-set_same, get_or-set_other}
-use Rattle.io.specs.Counts.{IsPrefixLen}
+use Rattle.std.proofs.lemmas.List.{length-replicate}
+use lib.ListN.{get_or-replicate}
+use Rattle.std.specs.Counts.{IsPrefixLen}
 use Rattle.polynomials.specs.Value.{Point}
 use Rattle.polynomials.specs.Bounds.{Bounded, within, degree_passed, terms_passed}
 use Rattle.polynomials.specs.Working.{Forms}

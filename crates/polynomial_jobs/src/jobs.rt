@@ -9,14 +9,16 @@ ghost use Rattle.polynomials.specs.Working.{Holds, Forms, is_held};
 
 use crate::{operands, print};
 use polynomials::Formed;
+use std::io;
+use std::io::Write;
 
 // All jobs on f and g, where p is a prime and they hold polynomials.
-pub fn run(p: u32, f: &[u64], g: &[u64]) {
-    print::number(b"p", p as u64);
+pub fn run(out: &mut impl Write, p: u32, f: &[u64], g: &[u64]) -> io::Result<()> {
+    print::number(out, b"p", p as u64)?;
     if are_operands(p, f, g) {
-        all(p as u64, f, g);
+        all(out, p as u64, f, g)
     } else {
-        print::line(b"skip");
+        print::line(out, b"skip")
     }
 }
 
@@ -31,24 +33,24 @@ fn are_operands(p: u32, f: &[u64], g: &[u64]) -> bool
     false
 }
 
-fn all(p: u64, f: &[u64], g: &[u64])
+fn all(out: &mut impl Write, p: u64, f: &[u64], g: &[u64]) -> io::Result<()>
     requires prime { Prime p × (p < 2147483648) }
     requires holds { Holds p f.now }
     requires holds_2 { Holds p g.now }
 {
-    print::polynomial(b"f", f);
-    print::polynomial(b"g", g);
-    product(p, f, g);
-    difference(p, f, g);
-    print::truth(b"equal", forms::equal(f, g));
-    monic(p, f);
-    split(p, f);
-    divide(p, f, g);
-    divide(p, g, f);
-    values(p, f);
+    print::polynomial(out, b"f", f)?;
+    print::polynomial(out, b"g", g)?;
+    product(out, p, f, g)?;
+    difference(out, p, f, g)?;
+    print::truth(out, b"equal", forms::equal(f, g))?;
+    monic(out, p, f)?;
+    split(out, p, f)?;
+    divide(out, p, f, g)?;
+    divide(out, p, g, f)?;
+    values(out, p, f)
 }
 
-fn product(p: u64, f: &[u64], g: &[u64])
+fn product(out: &mut impl Write, p: u64, f: &[u64], g: &[u64]) -> io::Result<()>
     requires le_p { (1 ≤ p) × (p < 2147483648) }
     requires holds { Holds p f.now }
     requires holds_2 { Holds p g.now }
@@ -56,38 +58,38 @@ fn product(p: u64, f: &[u64], g: &[u64])
     let mut x = [0u64; 1024];
     let mut z = [0u64; 1024];
     let answer = products::product(p, f, g, &mut x, &mut z);
-    print::formed(b"product", answer, &x);
+    print::formed(out, b"product", answer, &x)
 }
 
-fn difference(p: u64, f: &[u64], g: &[u64])
+fn difference(out: &mut impl Write, p: u64, f: &[u64], g: &[u64]) -> io::Result<()>
     requires le_p { (1 ≤ p) × (p < 2147483648) }
     requires holds { Holds p f.now }
     requires holds_2 { Holds p g.now }
 {
     let mut x = [0u64; 1024];
     let answer = sums::difference(p, f, g, &mut x);
-    print::formed(b"difference", answer, &x);
+    print::formed(out, b"difference", answer, &x)
 }
 
-fn monic(p: u64, f: &[u64])
+fn monic(out: &mut impl Write, p: u64, f: &[u64]) -> io::Result<()>
     requires prime { Prime p × (p < 2147483648) }
     requires holds { Holds p f.now }
 {
     let mut x = [0u64; 512];
     let n = copy(f, &mut x);
-    make_monic(p, f, &mut x[..n]);
+    make_monic(out, p, f, &mut x[..n])
 }
 
 // Makes x, a copy of f, monic; and tells whether f was.
-fn make_monic(p: u64, f: &[u64], x: &mut [u64])
+fn make_monic(out: &mut impl Write, p: u64, f: &[u64], x: &mut [u64]) -> io::Result<()>
     requires prime { Prime p × (p < 2147483648) }
     requires holds { Holds p f.now }
     requires x_value { x.old ≡ f.now }
     ensures { terms x.new ≡ monic p (terms x.old) }
 {
     scaling::monic(p, x);
-    print::polynomial(b"monic", x);
-    print::truth(b"equal", forms::equal(x, f));
+    print::polynomial(out, b"monic", x)?;
+    print::truth(out, b"equal", forms::equal(x, f))
 }
 
 // Copies f to the first words of x; how many. The words behind stay.
@@ -100,37 +102,36 @@ fn copy(f: &[u64], x: &mut [u64]) -> usize
 }
 
 // Leading variable, initial and rest of f.
-fn split(p: u64, f: &[u64])
+fn split(out: &mut impl Write, p: u64, f: &[u64]) -> io::Result<()>
     requires { Holds p f.now }
 {
     let lead = terms::leader(f);
-    print::number(b"leader", lead as u64);
+    print::number(out, b"leader", lead as u64)?;
     if lead == 0 {
-        return;
+        return Ok(());
     }
     let mut x = [0u64; 512];
     let n = terms::initial(f, lead - 1, &mut x);
-    print::polynomial(b"initial", &x[..n]);
-    print::polynomial(b"rest", terms::rest(f, lead - 1));
+    print::polynomial(out, b"initial", &x[..n])?;
+    print::polynomial(out, b"rest", terms::rest(f, lead - 1))
 }
 
 // The division of f by t in the leading variable of t.
-fn divide(p: u64, f: &[u64], t: &[u64])
+fn divide(out: &mut impl Write, p: u64, f: &[u64], t: &[u64]) -> io::Result<()>
     requires le_p { (1 ≤ p) × (p < 2147483648) }
     requires holds { Holds p f.now }
     requires holds_2 { Holds p t.now }
 {
     let lead = terms::leader(t);
     if lead == 0 {
-        print::line(b"no divisor");
-        return;
+        return print::line(out, b"no divisor");
     }
     let mut i = [0u64; 512];
     let m = terms::initial(t, lead - 1, &mut i);
     let mut r = [0u64; 1024];
     let n = copy(f, &mut r);
     let answer = remainder(p, lead - 1, &i[..m], t, &mut r, n);
-    print::formed(b"remainder", answer, &r);
+    print::formed(out, b"remainder", answer, &r)
 }
 
 // Rounds on the first m words of r, until the degree is below that of t: each lowers it, so that there are at most 255.
@@ -171,12 +172,12 @@ fn round(p: u64, k: u32, d: u64, i: &[u64], t: &[u64], r: &mut [u64], n: usize) 
 }
 
 // The values of f at the origin and at a random point.
-fn values(p: u64, f: &[u64])
+fn values(out: &mut impl Write, p: u64, f: &[u64]) -> io::Result<()>
     requires le_p { (2 ≤ p) × (p < 2147483648) }
     requires holds { Holds p f.now }
 {
     let origin = [0u32; 8];
     let x = operands::point(p, 1 + (f.len() / 2) as u64);
-    print::number(b"value", values::value(p, f, &origin));
-    print::number(b"value", values::value(p, f, &x));
+    print::number(out, b"value", values::value(p, f, &origin))?;
+    print::number(out, b"value", values::value(p, f, &x))
 }

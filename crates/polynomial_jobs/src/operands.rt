@@ -3,7 +3,7 @@
 // A monomial is made from a number: its digits in a base are the exponents, v1's first, each times a scale. Falling numbers give
 // falling monomials as long as no exponent passes 255.
 ghost use Rattle.std.specs.Prelude.{◌≡◌, ◌≤◌, ◌<◌, length};
-ghost use Rattle.io.specs.Counts.{IsPrefixLen};
+ghost use Rattle.std.specs.Counts.{IsPrefixLen};
 ghost use Rattle.polynomials.specs.Value.{Point};
 ghost use Rattle.polynomial_jobs.specs.Operands.{Shaped};
 

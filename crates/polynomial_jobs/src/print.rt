@@ -1,48 +1,43 @@
 // Lines: a tag, and what is told. A term is its coefficient and, in hexadecimal, its monomial.
 ghost use Rattle.polynomial_jobs.specs.Answers.{Inside};
 
-use libc::STDOUT_FILENO;
 use polynomials::Formed;
+use std::io;
+use std::io::Write;
 
-pub fn line(text: &[u8]) {
-    io::write_all(STDOUT_FILENO, text);
-    io::write_all(STDOUT_FILENO, b"\n");
+pub fn line(out: &mut impl Write, text: &[u8]) -> io::Result<()> {
+    out.write_all(text)?;
+    out.write_all(b"\n")
 }
 
-pub fn number(tag: &[u8], n: u64) {
-    io::write_all(STDOUT_FILENO, tag);
-    io::write_all(STDOUT_FILENO, b" ");
-    io::print_decimal(STDOUT_FILENO, n);
-    io::write_all(STDOUT_FILENO, b"\n");
+pub fn number(out: &mut impl Write, tag: &[u8], n: u64) -> io::Result<()> {
+    out.write_all(tag)?;
+    writeln!(out, " {n}")
 }
 
-pub fn truth(tag: &[u8], b: bool) {
-    number(tag, if b { 1 } else { 0 });
+pub fn truth(out: &mut impl Write, tag: &[u8], b: bool) -> io::Result<()> {
+    number(out, tag, if b { 1 } else { 0 })
 }
 
 // The number of terms, and then up to six terms, or the checksum of more.
-pub fn polynomial(tag: &[u8], f: &[u64]) {
-    io::write_all(STDOUT_FILENO, tag);
-    io::write_all(STDOUT_FILENO, b" ");
-    io::print_decimal(STDOUT_FILENO, (f.len() / 2) as u64);
+pub fn polynomial(out: &mut impl Write, tag: &[u8], f: &[u64]) -> io::Result<()> {
+    out.write_all(tag)?;
+    write!(out, " {}", f.len() / 2)?;
     if f.len() <= 12 {
-        terms(f);
+        terms(out, f)?;
     } else {
-        io::write_all(STDOUT_FILENO, b" #");
-        io::print_decimal(STDOUT_FILENO, checksum(f));
+        write!(out, " #{}", checksum(f))?;
     }
-    io::write_all(STDOUT_FILENO, b"\n");
+    out.write_all(b"\n")
 }
 
-fn terms(f: &[u64]) {
+fn terms(out: &mut impl Write, f: &[u64]) -> io::Result<()> {
     let mut i = 0;
     while i + 1 < f.len() {
-        io::write_all(STDOUT_FILENO, b" ");
-        io::print_decimal(STDOUT_FILENO, f[i]);
-        io::write_all(STDOUT_FILENO, b":");
-        io::print_hex(STDOUT_FILENO, f[i + 1], 1);
+        write!(out, " {}:{:x}", f[i], f[i + 1])?;
         i += 2;
     }
+    Ok(())
 }
 
 fn checksum(f: &[u64]) -> u64 {
@@ -56,17 +51,17 @@ fn checksum(f: &[u64]) -> u64 {
 }
 
 // A polynomial that was formed in the first words of s, or its refusal.
-pub fn formed(tag: &[u8], answer: Formed, s: &[u64])
+pub fn formed(out: &mut impl Write, tag: &[u8], answer: Formed, s: &[u64]) -> io::Result<()>
     requires { Inside answer s.now }
 {
     match answer {
-        Formed::Words(n) => polynomial(tag, &s[..n]),
-        Formed::OverDegree => refusal(tag, 10),
-        Formed::OverTerms => refusal(tag, 9),
+        Formed::Words(n) => polynomial(out, tag, &s[..n]),
+        Formed::OverDegree => refusal(out, tag, 10),
+        Formed::OverTerms => refusal(out, tag, 9),
     }
 }
 
-fn refusal(tag: &[u8], reason: u64) {
-    io::write_all(STDOUT_FILENO, tag);
-    number(b" refusal", reason);
+fn refusal(out: &mut impl Write, tag: &[u8], reason: u64) -> io::Result<()> {
+    out.write_all(tag)?;
+    number(out, b" refusal", reason)
 }

@@ -1,6 +1,8 @@
 // The processor time of repeated calls.
 ghost use Rattle.std.specs.Prelude.{◌≡◌, ◌<◌, min, max};
 
+use std::time::CpuClock;
+
 // Nanoseconds of a call.
 #[derive(Clone, Copy)]
 pub struct Timing {
@@ -8,35 +10,38 @@ pub struct Timing {
     pub mean: u64,
 }
 
-fn at_least_zero(t: i64) -> u64 {
-    if t < 0 {
-        return 0;
-    }
-    t as u64
-}
-
 // The processor time used so far, in microseconds; 0 if the clock fails. A year has fewer than 2^45 of them.
-fn now() -> u64
+fn now<C: CpuClock>(clock: &C) -> u64
     ensures { result < 35184372088832 }
 {
-    let t = at_least_zero(libc::clock());
-    if t < 35184372088832 {
-        return t;
+    let Ok(t) = clock.process_cpu_time() else {
+        return 0;
+    };
+    let micros = t.as_micros();
+    if micros < 35184372088832 {
+        return micros as u64;
     }
     0
 }
 
 // The microseconds of so many calls.
-fn batch(table: &[u32], work: &mut [u32], output: &mut [u32], limit: u32, calls: u32) -> u64
+fn batch<C: CpuClock>(
+    clock: &C,
+    table: &[u32],
+    work: &mut [u32],
+    output: &mut [u32],
+    limit: u32,
+    calls: u32,
+) -> u64
     ensures { result < 35184372088832 }
 {
-    let before = now();
+    let before = now(clock);
     let mut left = calls;
     while 0 < left {
         elimination::eliminate(table, work, output, limit);
         left -= 1;
     }
-    let after = now();
+    let after = now(clock);
     if after < before {
         return 0;
     }
@@ -75,7 +80,8 @@ fn least(a: u64, b: u64) -> u64
 }
 
 // Times so many calls of `eliminate`, in batches of as many calls each.
-pub fn measure(
+pub fn measure<C: CpuClock>(
+    clock: &C,
     table: &[u32],
     work: &mut [u32],
     output: &mut [u32],
@@ -88,7 +94,7 @@ pub fn measure(
     let mut total: u64 = 0;
     let mut left = batches;
     while 0 < left {
-        let time = batch(table, work, output, limit, calls);
+        let time = batch(clock, table, work, output, limit, calls);
         best = least(best, time);
         total += time;
         left -= 1;

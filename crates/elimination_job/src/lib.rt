@@ -1,7 +1,7 @@
 // A job of `elimination_jobs`: its shape, read from the input; its run; its first line.
 #![tactic(auto)]
 
-ghost use Rattle.std.specs.Prelude.{◌≡◌, [], ◌∷◌, ◌+◌, ◌≤◌, min, length, replicate};
+ghost use Rattle.std.specs.Prelude.{◌≡◌, [], ◌∷◌, ◌+◌, ◌≤◌, min, length, replicate, IfOk, IsOkAnd};
 ghost use Rattle.rules.specs.Eliminate.{eliminated, output_after};
 ghost use Rattle.delivery.specs.Answer.{answer_of};
 ghost use Rattle.lines.specs.Text.{LineAdded};
@@ -10,6 +10,8 @@ ghost use Rattle.elimination_job.specs.Heading.{heading_of, nonzero, Shaped};
 use elimination::{Answer, Outcome};
 use input::{Filled, Input, Word, Words};
 use lines::text;
+use std::io;
+use std::io::{Read, Write};
 
 // What a job asks: words of the table, of the work area and of the output; what the latter two hold before; the words that the list is read
 // from; the number of points.
@@ -40,17 +42,17 @@ pub struct Heading {
 }
 
 // Reads the next job up to its points, its table to the start of the slice.
-pub fn read(bytes: &mut [u8], from: Input, table: &mut [u32]) -> Job
+pub fn read<R: Read>(reader: &mut R, bytes: &mut [u8], from: Input, table: &mut [u32]) -> Job
     ensures { Shaped result table.new }
 {
     let mut head = [0u32; 5];
-    let Filled::Full(behind) = input::fill(bytes, from, &mut head) else {
+    let Filled::Full(behind) = input::fill(reader, bytes, from, &mut head) else {
         return Job::End;
     };
-    let Words::First(n, after) = input::counted(bytes, behind, table) else {
+    let Words::First(n, after) = input::counted(reader, bytes, behind, table) else {
         return Job::End;
     };
-    let Word::Read(points, rest) = input::next(bytes, after) else {
+    let Word::Read(points, rest) = input::next(reader, bytes, after) else {
         return Job::End;
     };
     Job::Next(
@@ -129,10 +131,16 @@ pub fn run(table: &[u32], work: &mut [u32], output: &mut [u32], limit: u32, fill
 }
 
 // Adds the first line to the text.
-pub fn print(text: &mut [u8], end: usize, heading: Heading) -> usize
+pub fn print<W: Write>(
+    out: &mut W,
+    text: &mut [u8],
+    end: usize,
+    heading: Heading,
+) -> io::Result<usize>
     requires { (end ≤ length text.old) × (128 ≤ length text.old) }
-    ensures upper_bound { result ≤ length text.new }
-    ensures line_added { end + 212 ≤ length text.old → LineAdded (heading.outcome ∷ heading.steps ∷ heading.value ∷ heading.nonzero ∷ []) end text.old result text.new }
+    ensures upper_bound { IfOk result (λ last. last ≤ length text.new) }
+    ensures line_added { end + 212 ≤ length text.old
+        → IsOkAnd result (λ last. LineAdded (heading.outcome ∷ heading.steps ∷ heading.value ∷ heading.nonzero ∷ []) end text.old last text.new) }
 {
     let numbers = [
         heading.outcome,
@@ -140,7 +148,7 @@ pub fn print(text: &mut [u8], end: usize, heading: Heading) -> usize
         heading.value,
         heading.nonzero,
     ];
-    text::print_line(text, end, &numbers)
+    text::print_line(out, text, end, &numbers)
 }
 
 // The lesser of two lengths.

@@ -1,12 +1,12 @@
-// Words from standard input by way of a buffer. What standard input holds is free: of a word that is read the contracts say where it stands in the
-// buffer, of words that stood in the buffer already that they are taken in order, none skipped, and of a buffer filled anew that its first is taken.
+// Words from a reader by way of a buffer. What the reader gives is free: of a word that is read the contracts say where it stands in the buffer,
+// of words that stood in the buffer already that they are taken in order, none skipped, and of a buffer filled anew that its first is taken.
 #![tactic(auto)]
 
-ghost use Rattle.std.specs.Prelude.{◌≡◌, ◌+◌, length};
+ghost use Rattle.std.specs.Prelude.{◌≡◌, ◌+◌, ◌≤◌, length};
 ghost use Rattle.decoding.specs.Words.{word_at};
 ghost use Rattle.input.specs.Input.{Reached, Anew, Enough, Left, Ended, Taken, Within, Counted};
 
-use libc::STDIN_FILENO;
+use std::io::Read;
 
 // The bytes of a buffer that are read and not yet used: from `at` up to `end`.
 #[derive(Clone, Copy)]
@@ -41,8 +41,24 @@ pub fn begin() -> Input
     Input { at: 0, end: 0 }
 }
 
+// Reads until the buffer is full, the input ends or a read fails; answers how many bytes it put to the buffer's start.
+pub fn read_full<R: Read>(reader: &mut R, buffer: &mut [u8]) -> usize
+    ensures { result ≤ length buffer.new }
+{
+    let mut done = 0;
+    while done < buffer.len() {
+        match reader.read(&mut buffer[done..]) {
+            Ok(0) | Err(_) => {
+                return done;
+            }
+            Ok(n) => done += n,
+        }
+    }
+    done
+}
+
 // The next word. The buffer is filled anew when it holds no whole word more, so its length is to be a multiple of 4.
-pub fn next(buffer: &mut [u8], input: Input) -> Word
+pub fn next<R: Read>(reader: &mut R, buffer: &mut [u8], input: Input) -> Word
     ensures reached { Reached result buffer.new }
     ensures value { Left input buffer.old → (result ≡ Word.Read (word_at buffer.old input.at) (record { at = input.at + 4; end = input.end }))
         × (buffer.new ≡ buffer.old) }
@@ -53,7 +69,7 @@ pub fn next(buffer: &mut [u8], input: Input) -> Word
     if end <= buffer.len() && at <= end && 4 <= end - at {
         return Word::Read(decoding::word_at(buffer, at), Input { at: at + 4, end });
     }
-    let n = io::read_full(STDIN_FILENO, buffer);
+    let n = read_full(reader, buffer);
     if n < 4 {
         return Word::End;
     }
@@ -61,14 +77,14 @@ pub fn next(buffer: &mut [u8], input: Input) -> Word
 }
 
 // Reads as many words as the slice has.
-pub fn fill(buffer: &mut [u8], input: Input, words: &mut [u32]) -> Filled
+pub fn fill<R: Read>(reader: &mut R, buffer: &mut [u8], input: Input, words: &mut [u32]) -> Filled
     ensures ended { Ended result words.new buffer.new }
     ensures taken { Enough (length words.old) input buffer.old → Taken input buffer.old result buffer.new words.new }
 {
     let mut rest = input;
     let mut i = 0;
     while i < words.len() {
-        let Word::Read(x, after) = next(buffer, rest) else {
+        let Word::Read(x, after) = next(reader, buffer, rest) else {
             return Filled::CutShort;
         };
         words[i] = x;
@@ -79,18 +95,18 @@ pub fn fill(buffer: &mut [u8], input: Input, words: &mut [u32]) -> Filled
 }
 
 // Reads a count, and as many words to the start of the slice.
-pub fn counted(buffer: &mut [u8], input: Input, words: &mut [u32]) -> Words
+pub fn counted<R: Read>(reader: &mut R, buffer: &mut [u8], input: Input, words: &mut [u32]) -> Words
     ensures within { Within result words.old words.new }
     ensures counted { Left input buffer.old → Counted input buffer.old words.old result buffer.new words.new }
 {
-    let Word::Read(count, after) = next(buffer, input) else {
+    let Word::Read(count, after) = next(reader, buffer, input) else {
         return Words::CutShort;
     };
     let n = count as usize;
     if words.len() < n {
         return Words::CutShort;
     }
-    let Filled::Full(rest) = fill(buffer, after, &mut words[..n]) else {
+    let Filled::Full(rest) = fill(reader, buffer, after, &mut words[..n]) else {
         return Words::CutShort;
     };
     Words::First(n, rest)

@@ -1,62 +1,46 @@
 -- Laws about numbers in decimal, and text that grows at its end.
-use mathlib.Core.Path.{◌≡◌, refl, sym, ◌∙◌, ap}
-use mathlib.Core.Bool.{true, false}
-use mathlib.Core.List.{List, [], ◌∷◌, ◌++◌, append_assoc}
-use Prim.Native.Nat.{ℕ, zero, suc, ◌+◌, ◌-◌, ◌*◌, ◌/◌, ◌%◌, ◌^◌, ◌≤◌, ◌<◌}
-use native.Mathlib.Omega.{arith}
-use native.Mathlib.Nat.{pow-suc, pow-le-pow_right}
-use native.Mathlib.Decide.{dec_le}
-use native.Mathlib.Numerals.{add-one, sub-one}
-use borrow.Author.Tests.{eq-eqb, ne_eqb}
-use lib.ListN.{length, take, drop, set, get_or, length-append}
-use lib.Seq.{take_at, take-length, take-suc-set, drop-cons, drop-length, length-take-le}
-use Rattle.io.specs.Digits.{hex_digit_ascii, last_digits, IsDigitCount}
+use Rattle.std.proofs.Common.{◌≡◌, refl, sym, ◌∙◌, ap, true, false, List, [], ◌∷◌, ◌++◌, append_assoc, ℕ, zero, suc, ◌+◌, ◌-◌, ◌*◌, ◌/◌, ◌%◌, ◌≤◌, ◌<◌, eqb, arith, add-one, length, take, drop, get_or, length-append, drop-cons, eq-eqb}
+use native.Mathlib.Numerals.{sub-one}
+use borrow.Author.Tests.{ne_eqb}
+use Rattle.std.proofs.Math.ListN.{set}
+use Rattle.std.proofs.Math.Seq.{take_at, take-length, take-suc-set, drop-length, length-take-le}
+use Rattle.std.proofs.lemmas.List.{drop-set}
 use Rattle.input.specs.declared.Input.{Input}
 use Rattle.lines.specs.declared.Turn.{Turn}
 use Rattle.lines.specs.declared.Turn.TheVariants.{Next, End}
 use Rattle.lines.specs.Text.{digits_of, decimal, rest_text, line_text, Ends}
 
 -- ── numbers ──
--- A number of k + 1 digits without its last.
-shorter : (k n : ℕ) → n < 10 ^ suc k → n / 10 < 10 ^ k
-shorter k n h = let e = pow-suc 10 k in omega arith
-
-longer : (k n : ℕ) → 10 ^ suc k ≤ n → 10 ^ k ≤ n / 10
-longer k n h = let e = pow-suc 10 k in omega arith
-
-some_digits : (k n : ℕ) → 10 ^ k ≤ n → n ≡ 0 → ⊥
-some_digits k n h e = let p : 10 ^ 0 ≤ 10 ^ k = pow-le-pow_right (omega arith) {i = 0} {j = k} (omega arith) in omega arith
-
-tail : (k n : ℕ) → 10 ^ (suc k - 1) ≤ n → 0 < k → 10 ^ (k - 1) ≤ n / 10
-tail zero n h z = absurd (omega arith)
-tail (suc k) n h z = rw (sub-one (suc k)) (longer k n (rw (sub-one (suc (suc k))) at h))
-
--- As many digits as n has, and no fewer.
-digits_all : (k most n : ℕ) → k ≤ most → n < 10 ^ k → (0 < k → 10 ^ (k - 1) ≤ n) → last_digits 10 k n ≡ digits_of most n
-unfolding digits_of
-digits_all zero zero n l h f = refl
-digits_all zero (suc most) n l h f =
-    sym (ap (λ b. elim b as (λ b. List ℕ) [ true ↦ [] | false ↦ digits_of most (n / 10) ++ (hex_digit_ascii (n % 10) ∷ []) ]) (eq-eqb n 0 (omega arith)))
-digits_all (suc k) zero n l h f = absurd (omega arith)
-digits_all (suc k) (suc most) n l h f =
-    ap (λ (x : List ℕ). x ++ (hex_digit_ascii (n % 10) ∷ [])) (digits_all k most (n / 10) (omega arith) (shorter k n h) (tail k n (f (omega arith))))
-    ∙ sym (ap (λ b. elim b as (λ b. List ℕ) [ true ↦ [] | false ↦ digits_of most (n / 10) ++ (hex_digit_ascii (n % 10) ∷ []) ]) (ne_eqb n 0 (some_digits (suc k - 1) n (f (omega arith)))))
-
--- 64 bits hold no number of more than 20 digits.
-pub few_digits : (k n : ℕ) → IsDigitCount 10 1 n k → n < 2 ^ 64 → k ≤ 20
-few_digits k n f h =
-    elim (dec_le k 20) [
-      | yes l ↦ l
-      | no l ↦
-          let p : 10 ^ 20 ≤ 10 ^ (k - 1) = pow-le-pow_right (omega arith) {i = 20} {j = k - 1} (omega arith) in
-          absurd (omega (arith, f.2 (omega arith)))
-    ]
-
-pub decimal_digits : (k n : ℕ) → IsDigitCount 10 1 n k → k ≤ 20 → last_digits 10 k n ≡ decimal n
+-- The last digit is put first.
+pub first_digit : (digits : List ℕ) (n : ℕ) → length digits ≡ 20
+    → digits_of 19 (n / 10) ++ drop 19 (set digits 19 (48 + n % 10)) ≡ decimal n
 unfolding decimal
-decimal_digits zero n f l = absurd (omega (arith, f.0))
-decimal_digits (suc k) n f l =
-    ap (λ (x : List ℕ). x ++ (hex_digit_ascii (n % 10) ∷ [])) (digits_all k 19 (n / 10) (omega arith) (shorter k n f.1) (λ z. tail k n (f.2 (omega arith)) z))
+first_digit digits n h =
+    ap (λ (t : List ℕ). digits_of 19 (n / 10) ++ t)
+    (drop-set digits 19 (48 + n % 10) (omega arith)
+    ∙ ap (λ (t : List ℕ). (48 + n % 10) ∷ t) (ap (λ (k : ℕ). drop k digits) (sym h) ∙ drop-length digits))
+
+-- Then the digit before those that are put: what is left of the number is without it.
+pub next_digit : (digits : List ℕ) (from n : ℕ) → 0 < from → from ≤ length digits → 0 < n
+    → digits_of (from - 1) (n / 10) ++ drop (from - 1) (set digits (from - 1) (48 + n % 10)) ≡ digits_of from n ++ drop from digits
+unfolding digits_of
+next_digit digits zero n f l h = absurd (omega arith)
+next_digit digits (suc from) n f l h =
+    rw (sub-one (suc from)) (
+    let q : eqb n 0 ≡ false = ne_eqb n 0 (λ z. omega arith) in
+    ap (λ (t : List ℕ). digits_of from (n / 10) ++ t) (drop-set digits from (48 + n % 10) (omega arith))
+    ∙ ap (λ (k : ℕ). digits_of from (n / 10) ++ ((48 + n % 10) ∷ drop k digits)) (add-one from)
+    ∙ sym (append_assoc (digits_of from (n / 10)) ((48 + n % 10) ∷ []) (drop (suc from) digits))
+    ∙ sym (ap (λ b. elim b as (λ b. List ℕ) [ true ↦ [] | false ↦ digits_of from (n / 10) ++ ((48 + n % 10) ∷ []) ] ++ drop (suc from) digits) q)
+    )
+
+-- Nothing is left, or there is no room.
+pub none_left : (from n : ℕ) {x : List ℕ} → (0 < from → n ≡ 0) → digits_of from n ++ x ≡ x
+unfolding digits_of
+none_left zero n h = refl
+none_left (suc from) n {x} h =
+    let z : eqb n 0 ≡ true = eq-eqb n 0 (h (omega arith)) in
+    ap (λ b. elim b as (λ b. List ℕ) [ true ↦ [] | false ↦ digits_of from (n / 10) ++ ((48 + n % 10) ∷ []) ] ++ x) z
 
 -- ── text ──
 -- The bytes x were copied over the text's rest, of which y is what was not lent.

@@ -1,17 +1,16 @@
 -- Numbers in decimal, and lines of them, as bytes.
 use Rattle.std.specs.Prelude.{◌≡◌, refl, true, false, List, [], ◌∷◌, ◌++◌, ℕ, zero, suc, ◌+◌, ◌*◌, ◌/◌, ◌%◌, ◌≤◌, eqb, length, take}
-use Rattle.io.specs.Digits.{hex_digit_ascii}
 use Rattle.lines.specs.declared.Turn.{Turn}
 use Rattle.lines.specs.declared.Turn.TheVariants.{Next, End}
 
 -- The digits of n, none for 0; so many at most.
 unfoldable pub digits_of : ℕ → ℕ → List ℕ
 digits_of zero n = []
-digits_of (suc most) n = elim (eqb n 0) [ true ↦ [] | false ↦ digits_of most (n / 10) ++ (hex_digit_ascii (n % 10) ∷ []) ]
+digits_of (suc most) n = elim (eqb n 0) [ true ↦ [] | false ↦ digits_of most (n / 10) ++ ((48 + n % 10) ∷ []) ]
 
 -- A number of at most 20 digits. 0 is a digit.
 unfoldable pub decimal : ℕ → List ℕ
-decimal n = digits_of 19 (n / 10) ++ (hex_digit_ascii (n % 10) ∷ [])
+decimal n = digits_of 19 (n / 10) ++ ((48 + n % 10) ∷ [])
 
 -- The numbers after the first of a line, each behind a blank, and the line's end.
 unfoldable pub rest_text : List ℕ → List ℕ

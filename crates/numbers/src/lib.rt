@@ -16,6 +16,7 @@ pub struct Line {
 }
 
 // Document 01's number of a refusal.
+#[tactic(auto, unfolding(tables::specs::Reason::number))]
 pub fn number(why: Reason) -> u32
     ensures { result ≡ Reason·number why }
 {

@@ -19,7 +19,7 @@ fn put_records(text: &mut [u8], end: usize, list: &[u32], n: usize) -> usize
     while i < n {
         let from = 4 * i;
         let to = from + 4;
-        last = text::print_line(text, last, &list[from..to]);
+        last = text::put_line(text, last, &list[from..to]);
         i += 1;
     }
     last
@@ -34,11 +34,11 @@ fn put_answer(text: &mut [u8], answer: Answer, output: &[u32]) -> usize
     match outcome {
         Outcome::Refused(why, record) => {
             let first = [numbers::number(why), answer.steps, record];
-            text::print_line(text, 0, &first)
+            text::put_line(text, 0, &first)
         }
         Outcome::Systems(count) => {
             let first = [0, answer.steps, count];
-            let end = text::print_line(text, 0, &first);
+            let end = text::put_line(text, 0, &first);
             put_records(text, end, output, extent::written_records(output))
         }
     }
@@ -60,11 +60,11 @@ pub fn respond(
     let refused = [1, 0, 0];
     if 65536 < bytes.len() {
         moves::clear(work);
-        return text::print_line(text, 0, &refused);
+        return text::put_line(text, 0, &refused);
     }
     if bytes.len() % 4 != 0 {
         moves::clear(work);
-        return text::print_line(text, 0, &refused);
+        return text::put_line(text, 0, &refused);
     }
     decoding::decode(bytes, words);
     let n = bytes.len() / 4;

@@ -4,13 +4,15 @@
 // the point has, the words. The run ends with the input, or at a job that is cut short or too long for the buffers.
 #![tactic(auto)]
 
-ghost use Rattle.std.specs.Prelude.{◌≡◌, [], ◌∷◌, ◌+◌, ◌≤◌, length};
+ghost use Rattle.std.specs.Prelude.{◌≡◌, [], ◌∷◌, ◌+◌, ◌≤◌, length, IfOk, IsOkAnd};
 ghost use Rattle.lines.specs.Text.{LineAdded, Ends};
 ghost use Rattle.table_jobs.specs.Line.{line};
 
 use input::{Input, Word, Words};
 use lines::{Turn, text};
 use numbers::Line;
+use std::io;
+use std::io::{Read, Write};
 
 // The line of a job.
 fn answer(kind: u32, table: &[u32], numbers: &[u32]) -> Line
@@ -32,53 +34,63 @@ fn answer(kind: u32, table: &[u32], numbers: &[u32]) -> Line
 }
 
 // Adds a line to the text.
-fn print(text: &mut [u8], end: usize, line: Line) -> usize
+fn print<W: Write>(out: &mut W, text: &mut [u8], end: usize, line: Line) -> io::Result<usize>
     requires { (end ≤ length text.old) × (128 ≤ length text.old) }
-    ensures upper_bound { result ≤ length text.new }
-    ensures line_added { end + 170 ≤ length text.old → LineAdded (line.outcome ∷ line.value ∷ []) end text.old result text.new }
+    ensures upper_bound { IfOk result (λ last. last ≤ length text.new) }
+    ensures line_added { end + 170 ≤ length text.old
+        → IsOkAnd result (λ last. LineAdded (line.outcome ∷ line.value ∷ []) end text.old last text.new) }
 {
     let numbers = [line.outcome, line.value];
-    text::print_line(text, end, &numbers)
+    text::print_line(out, text, end, &numbers)
 }
 
 // Runs the next job.
-fn run_job(
+fn run_job<R: Read, W: Write>(
+    reader: &mut R,
+    out: &mut W,
     bytes: &mut [u8],
     from: Input,
     table: &mut [u32],
     numbers: &mut [u32],
     text: &mut [u8],
     end: usize,
-) -> Turn
+) -> io::Result<Turn>
     requires { (end ≤ length text.old) × (128 ≤ length text.old) }
-    ensures { Ends result text.new }
+    ensures { IfOk result (λ turn. Ends turn text.new) }
 {
-    let Word::Read(kind, behind) = input::next(bytes, from) else {
-        return Turn::End(end);
+    let Word::Read(kind, behind) = input::next(reader, bytes, from) else {
+        return Ok(Turn::End(end));
     };
-    let Words::First(n, after) = input::counted(bytes, behind, table) else {
-        return Turn::End(end);
+    let Words::First(n, after) = input::counted(reader, bytes, behind, table) else {
+        return Ok(Turn::End(end));
     };
-    let Words::First(m, rest) = input::counted(bytes, after, numbers) else {
-        return Turn::End(end);
+    let Words::First(m, rest) = input::counted(reader, bytes, after, numbers) else {
+        return Ok(Turn::End(end));
     };
     let line = answer(kind, &table[..n], &numbers[..m]);
-    Turn::Next(rest, print(text, end, line))
+    Ok(Turn::Next(rest, print(out, text, end, line)?))
 }
 
 // Runs all jobs; answers where the text that is not yet written ends. A proved loop has to end, and nothing says that the input does: the
 // turns are counted down from a number that no run uses up.
-fn run_jobs(bytes: &mut [u8], table: &mut [u32], numbers: &mut [u32], text: &mut [u8]) -> usize
+fn run_jobs<R: Read, W: Write>(
+    reader: &mut R,
+    out: &mut W,
+    bytes: &mut [u8],
+    table: &mut [u32],
+    numbers: &mut [u32],
+    text: &mut [u8],
+) -> io::Result<usize>
     requires { 128 ≤ length text.old }
-    ensures { result ≤ length text.new }
+    ensures { IfOk result (λ last. last ≤ length text.new) }
 {
     let mut rest = input::begin();
     let mut end = 0;
     let mut turns = u64::MAX;
     while turns > 0 {
-        match run_job(bytes, rest, table, numbers, text, end) {
+        match run_job(reader, out, bytes, rest, table, numbers, text, end)? {
             Turn::End(last) => {
-                return last;
+                return Ok(last);
             }
             Turn::Next(after, last) => {
                 rest = after;
@@ -87,15 +99,24 @@ fn run_jobs(bytes: &mut [u8], table: &mut [u32], numbers: &mut [u32], text: &mut
         }
         turns -= 1;
     }
-    end
+    Ok(end)
 }
 
 // The table's buffer has room for one record more than a table may have.
-fn main() {
-    let mut bytes = io::large_buffer();
-    let mut text = io::large_buffer();
+fn main(rt: HostRuntime) -> io::Result<()> {
+    let mut reader = rt.stdin();
+    let mut out = rt.stdout();
+    let mut bytes = [0u8; 65536];
+    let mut text = [0u8; 65536];
     let mut table = [0u32; 262148];
     let mut numbers = [0u32; 16];
-    let end = run_jobs(&mut bytes, &mut table, &mut numbers, &mut text);
-    text::write(&text, end);
+    let end = run_jobs(
+        &mut reader,
+        &mut out,
+        &mut bytes,
+        &mut table,
+        &mut numbers,
+        &mut text,
+    )?;
+    text::write(&mut out, &text, end)
 }

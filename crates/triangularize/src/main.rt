@@ -3,17 +3,17 @@
 // or the refusal's record; after an outcome of 0, each written record on a line.
 #![tactic(auto)]
 
-use libc::STDIN_FILENO;
 use lines::text;
+use std::io;
 
 // One byte more than is accepted is read. The longest text has 4,096 lines of 85 bytes and one of 64; 128 bytes more are free.
-fn main() {
+fn main(rt: HostRuntime) -> io::Result<()> {
     let mut bytes = [0u8; 65537];
     let mut words = [0u32; 16384];
     let mut work = [0u32; 16384];
     let mut output = [0u32; 16384];
     let mut text = [0u8; 348352];
-    let n = io::read_full(STDIN_FILENO, &mut bytes);
+    let n = input::read_full(&mut rt.stdin(), &mut bytes);
     let end = responses::respond(&bytes[..n], &mut words, &mut work, &mut output, &mut text);
-    text::write(&text, end);
+    text::write(&mut rt.stdout(), &text, end)
 }

@@ -1,13 +1,15 @@
 // Points against a table and its list, tried for `elimination_jobs`.
 #![tactic(auto)]
 
-ghost use Rattle.std.specs.Prelude.{◌≡◌, [], ◌∷◌, ◌+◌, ◌≤◌, length};
+ghost use Rattle.std.specs.Prelude.{◌≡◌, [], ◌∷◌, ◌+◌, ◌≤◌, length, IfOk, IsOkAnd};
 ghost use Rattle.lines.specs.Text.{LineAdded, Ends};
 ghost use Rattle.tries.specs.Tried.{tried};
 
 use input::{Input, Words};
 use lines::{Turn, text};
 use numbers::Line;
+use std::io;
+use std::io::{Read, Write};
 
 // What the table and what the list answer.
 #[derive(Clone, Copy)]
@@ -31,20 +33,22 @@ fn try_both(table: &[u32], systems: &[u32], numbers: &[u32]) -> Tried
 }
 
 // Adds a point's line to the text.
-fn print(text: &mut [u8], end: usize, tried: Tried) -> usize
+fn print<W: Write>(out: &mut W, text: &mut [u8], end: usize, tried: Tried) -> io::Result<usize>
     requires { (end ≤ length text.old) × (128 ≤ length text.old) }
-    ensures upper_bound { result ≤ length text.new }
+    ensures upper_bound { IfOk result (λ last. last ≤ length text.new) }
     ensures line_added { end + 212 ≤ length text.old
-        → LineAdded (tried.trial.outcome ∷ tried.trial.value ∷ tried.place.outcome ∷ tried.place.value ∷ []) end text.old result text.new }
+        → IsOkAnd result (λ last. LineAdded (tried.trial.outcome ∷ tried.trial.value ∷ tried.place.outcome ∷ tried.place.value ∷ []) end text.old last text.new) }
 {
     let a = tried.trial;
     let b = tried.place;
     let numbers = [a.outcome, a.value, b.outcome, b.value];
-    text::print_line(text, end, &numbers)
+    text::print_line(out, text, end, &numbers)
 }
 
 // Tries the next point.
-fn run_one(
+fn run_one<R: Read, W: Write>(
+    reader: &mut R,
+    out: &mut W,
     bytes: &mut [u8],
     from: Input,
     table: &[u32],
@@ -52,19 +56,21 @@ fn run_one(
     numbers: &mut [u32],
     text: &mut [u8],
     end: usize,
-) -> Turn
+) -> io::Result<Turn>
     requires { (end ≤ length text.old) × (128 ≤ length text.old) }
-    ensures { Ends result text.new }
+    ensures { IfOk result (λ turn. Ends turn text.new) }
 {
-    let Words::First(m, rest) = input::counted(bytes, from, numbers) else {
-        return Turn::End(end);
+    let Words::First(m, rest) = input::counted(reader, bytes, from, numbers) else {
+        return Ok(Turn::End(end));
     };
     let tried = try_both(table, systems, &numbers[..m]);
-    Turn::Next(rest, print(text, end, tried))
+    Ok(Turn::Next(rest, print(out, text, end, tried)?))
 }
 
 // Tries so many points of at most 16 numbers.
-pub fn run_all(
+pub fn run_all<R: Read, W: Write>(
+    reader: &mut R,
+    out: &mut W,
     bytes: &mut [u8],
     from: Input,
     table: &[u32],
@@ -72,18 +78,18 @@ pub fn run_all(
     count: u32,
     text: &mut [u8],
     end: usize,
-) -> Turn
+) -> io::Result<Turn>
     requires { (end ≤ length text.old) × (128 ≤ length text.old) }
-    ensures { Ends result text.new }
+    ensures { IfOk result (λ turn. Ends turn text.new) }
 {
     let mut numbers = [0u32; 16];
     let mut rest = from;
     let mut last = end;
     let mut left = count;
     while 0 < left {
-        match run_one(bytes, rest, table, systems, &mut numbers, text, last) {
+        match run_one(reader, out, bytes, rest, table, systems, &mut numbers, text, last)? {
             Turn::End(to) => {
-                return Turn::End(to);
+                return Ok(Turn::End(to));
             }
             Turn::Next(after, to) => {
                 rest = after;
@@ -92,5 +98,5 @@ pub fn run_all(
         }
         left -= 1;
     }
-    Turn::Next(rest, last)
+    Ok(Turn::Next(rest, last))
 }

@@ -119,21 +119,21 @@ abbrev pub PivotCrowded : Type 0
 PivotCrowded = Of tie.In-Crowded
 
 abbrev pub crowded_in : PivotCrowded → StepPrepared
-crowded_in m = m.before.before
+crowded_in m = m.before
 
 -- It answered that the step stops.
 abbrev pub StepStopped : Type 0
 StepStopped = Of tie.In-Stop
 
 abbrev pub stopped_in : StepStopped → StepPrepared
-stopped_in m = m.before.before.before
+stopped_in m = m.before
 
 -- It answered members to be divided.
 abbrev pub MembersFound : Type 0
 MembersFound = Of tie.In-Members
 
 abbrev pub to_prepared : MembersFound → StepPrepared
-to_prepared m = m.before.before.before
+to_prepared m = m.before
 
 abbrev pub run_of : MembersFound → RunTurn
 run_of m = to_run (to_prepared m)
@@ -149,7 +149,7 @@ abbrev pub to_found : MembersTurn → MembersFound
 to_found m = m.before
 
 -- `take` is called; it has answered: the next member is in r.
-abbrev pub take_due : Of tie.After-take-arg-in-members-1 → Of tie.In-Members
+abbrev pub take_due : Of tie.After-take-arg-in-members-1 → Of tie.In-members
 take_due m = m.before.before
 
 abbrev pub MemberTaken : Type 0
@@ -158,7 +158,7 @@ MemberTaken = Of tie.After-slice_known-in-members-2-1
 abbrev pub take_call : MemberTaken → Of tie.After-take-n
 take_call m = m.before.before.before.before
 
-abbrev pub to_left : MemberTaken → Of tie.In-Members
+abbrev pub to_left : MemberTaken → Of tie.In-members
 to_left m = take_due (take_call m).before
 
 abbrev pub to_members : MemberTaken → MembersTurn
@@ -192,8 +192,8 @@ abbrev pub tried_of : RoundTried → RoundDue
 tried_of m = m.before.before
 
 -- `round_anywhere` is called; it has answered.
-abbrev pub round_due : Of tie.After-round-anywhere-arg6 → RoundTried
-round_due m = m.before.before.before.before.before.before
+abbrev pub round_due : Of tie.After-round_anywhere-arg-in-division-3-1 → RoundTried
+round_due m = m.before.before.before.before
 
 abbrev pub RoundDone : Type 0
 RoundDone = Of tie.After-slice_known-in-division-4-1
@@ -215,13 +215,13 @@ abbrev pub WordsFormed : Type 0
 WordsFormed = Of tie.In-Words
 
 abbrev pub to_rounded : WordsFormed → RoundDone
-to_rounded m = m.before.before.before
+to_rounded m = m.before
 
 abbrev pub degree_in : Of tie.In-OverDegree → RoundDone
-degree_in m = m.before.before
+degree_in m = m.before
 
 abbrev pub terms_in : Of tie.In-OverTerms → RoundDone
-terms_in m = m.before.before
+terms_in m = m.before
 
 -- The member is divided.
 abbrev pub MemberDivided : Type 0
@@ -254,7 +254,7 @@ abbrev pub done_in : StepDone → StepPrepared
 done_in m = m.before
 
 -- ── the slices there ──
--- What a call left (`last`), and that it kept lengths (`kept`), have a part for each of its parameters, in their order.
+-- What a call left (`new`), and that it kept lengths (`auto`), have a field for each slice that it may write.
 abbrev pub at_entry : Entry → Slices
 at_entry m =
     let a = m.args in
@@ -269,7 +269,7 @@ abbrev pub at_prepared : StepPrepared → Slices
 at_prepared m =
     let a = at_turn (to_run m) in
     let l = (prepare_call m).prepare.new in
-    slices l.0 l.1.1.0 l.1.1.1.0 l.1.1.1.1.0 a.x a.y a.z
+    slices l.w l.t l.i l.r a.x a.y a.z
 
 abbrev pub at_found : MembersFound → Slices
 at_found m = at_prepared (to_prepared m)
@@ -284,7 +284,7 @@ abbrev pub at_taken : MemberTaken → Slices
 at_taken m =
     let a = at_members (to_members m) in
     let l = (take_call m).take-n.new in
-    slices l.0 a.t a.i l.1.1.1.1.0 a.x a.y a.z
+    slices l.w a.t a.i l.r a.x a.y a.z
 
 abbrev pub at_division : DivisionTurn → Slices
 at_division m =
@@ -295,14 +295,14 @@ at_division m =
 abbrev pub at_rounded : RoundDone → Slices
 at_rounded m =
     let a = at_division (round_of m) in
-    let l = (round_call m).round_anywhere.new.r in
-    slices a.w a.t a.i l.0 l.1.1.0 l.1.1.1.0 l.1.1.1.1.0
+    let l = (round_call m).round_anywhere.new in
+    slices a.w a.t a.i l.r l.x l.y l.z
 
 abbrev pub at_put : MemberPut → Slices
 at_put m =
     let a = at_division (put_of m) in
     let l = (put_call m).put_back.new in
-    slices l.0 a.t a.i l.1.1.1.1.0 a.x a.y a.z
+    slices l.w a.t a.i l.r a.x a.y a.z
 
 abbrev pub at_done : StepDone → Slices
 at_done m =

@@ -10,7 +10,7 @@ use Rattle.polynomials.specs.Packed.{bytes, word, exponents, term, terms}
 use Rattle.polynomials.specs.laws.Packed.{word_bytes, length_bytes, bytes_words}
 use Rattle.rules.specs.Room.{polynomials_size}
 use Rattle.rules.specs.Written.{index_of, terms_words, heads_words}
-use Rattle.rules.specs.laws.Lengths.{length_terms, length_heads}
+use Rattle.rules.proofs.laws.Lengths.{length_terms, length_heads}
 use Rattle.records.specs.Records.{Rec, zero_record}
 use Rattle.stored.specs.Stored.{size_at, pairs_of, words_at, skip_to, polys_at}
 use Rattle.stored.proofs.Laws.{skip_le}

@@ -11,7 +11,7 @@ use Rattle.tables.specs.Read.{Input}
 use Rattle.tables.specs.declared.Reason.{Reason}
 use Rattle.tables.specs.declared.Reason.TheVariants.{Output}
 use Rattle.rules.specs.Written.{list_words, list_records}
-use Rattle.rules.specs.laws.Lengths.{length_list}
+use Rattle.rules.proofs.laws.Lengths.{length_list}
 use Rattle.rules.specs.Run.{Ended, finished, refused, run_steps}
 use Rattle.rules.specs.Eliminate.{Eliminated, listed, turned_back, delivered}
 use Rattle.branches.specs.Area.{Stored, Held}

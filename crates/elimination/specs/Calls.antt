@@ -6,7 +6,7 @@ use Rattle.tables.specs.Read.{System}
 use Rattle.tables.specs.declared.Reason.{Reason}
 use Rattle.rules.specs.Eliminate.{Eliminated, listed, turned_back, steps_of, eliminated, output_after}
 use Rattle.rules.specs.Cause.{Cause}
-use Rattle.rules.specs.Claims.{steps_within, refused_cause, cause_refuses, accepted_alike}
+use Rattle.rules.proofs.Claims.{steps_within, refused_cause, cause_refuses, accepted_alike}
 use Rattle.run.specs.declared.Outcome.TheVariants.{Systems, Refused}
 use Rattle.run.specs.declared.Answer.{Answer}
 use Rattle.delivery.specs.Answer.{answer_of}

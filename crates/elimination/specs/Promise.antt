@@ -17,8 +17,9 @@ use Rattle.tables.specs.declared.Placing.{Placing}
 use Rattle.tables.specs.Solved.{PointOf, Solves, Solved, First}
 use Rattle.rules.specs.Written.{list_records}
 use Rattle.rules.specs.Eliminate.{Eliminated, listed, turned_back, eliminated, output_after}
-use Rattle.rules.specs.laws.Promised.{good_iff}
-use Rattle.rules.specs.Promise.{ListPromise, PointPromise, promise}
+use Rattle.rules.proofs.laws.Promised.{good_iff}
+use Rattle.rules.specs.Promise.{ListPromise, PointPromise}
+use Rattle.rules.proofs.Promise.{promise}
 use Rattle.run.specs.declared.Answer.{Answer}
 use Rattle.run.specs.declared.Outcome.TheVariants.{Systems}
 use Rattle.delivery.specs.Answer.{answer_of}

@@ -11,8 +11,8 @@ use lib.Seq.{take-append-le, drop-append-le}
 use Rattle.tables.specs.Read.{System, Listing}
 use Rattle.rules.specs.Written.{list_records}
 use Rattle.rules.specs.Eliminate.{Eliminated, listed, turned_back, eliminated, output_after}
-use Rattle.rules.specs.laws.Lengths.{length_list}
-use Rattle.rules.specs.laws.WrittenAgain.{listed_delivered}
+use Rattle.rules.proofs.laws.Lengths.{length_list}
+use Rattle.rules.proofs.laws.WrittenAgain.{listed_delivered}
 use Rattle.run.specs.declared.Answer.{Answer}
 use Rattle.delivery.specs.Answer.{answer_of}
 use Rattle.extent.specs.Extent.{extent}

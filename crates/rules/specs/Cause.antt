@@ -1,21 +1,18 @@
 -- What a refusal of an elimination comes from. "A job that meets a limit stops with that limit's number, and no number comes without its
 -- cause" (demand 1): the claims `refused_cause` and `cause_refuses` of Claims.antt, and of a step `stopped_cause` and `cause_stops`. Quoted
 -- are document 01's "Eliminate" and "Room".
-use Rattle.std.specs.Prelude.{◌≡◌, refl, ◌⊎◌, List, [], ◌∷◌, ℕ, zero, suc, ◌+◌, ◌/◌, ◌≤◌, ◌<◌}
-use Rattle.std.proofs.Common.{arith}
-use Rattle.residues.specs.Prime.{is_modulus, is_prime, no_divisor_from}
+use Rattle.std.specs.Prelude.{◌≡◌, ◌⊎◌, List, [], ◌∷◌, ℕ, zero, suc, ◌+◌, ◌/◌, ◌≤◌, ◌<◌}
 use Rattle.polynomials.specs.Poly.{Poly}
 use Rattle.polynomials.specs.Bounds.{within, degree_passed, terms_passed}
-use Rattle.tables.specs.Words.{is_whole, follow}
 use Rattle.tables.specs.Read.{good, Input, System, read_heads, read_header, read_table}
 use Rattle.tables.specs.Read as tables
 use Rattle.tables.specs.declared.Reason.{Reason}
 use Rattle.tables.specs.declared.Reason.TheVariants.{Terms, Degree, Room, Steps, Output}
-use Rattle.rules.specs.Branch.{Branch, put_all, some_one, some_zero, Chosen}
-use Rattle.rules.specs.Room.{Limits, State, polynomials_size, branch_size, branches_size, systems_size, live}
+use Rattle.rules.specs.Branch.{Branch, Chosen}
+use Rattle.rules.specs.Room.{Limits, State, polynomials_size, live}
 use Rattle.rules.specs.Rule.{split, divide, close, rule_of}
-use Rattle.rules.specs.Step.{next, stopped, remainder_by, split_open, split_aside, divided, closed, with_q, state, apply, step}
-use Rattle.rules.specs.Run.{first_branch, first_state}
+use Rattle.rules.specs.Step.{next, stopped, remainder_by, split_open, split_aside, divided, closed, with_q, state, step}
+use Rattle.rules.specs.Run.{first_state}
 use Rattle.rules.specs.Written.{list_records}
 use Rattle.rules.specs.Eliminate.{room_of, limits_of}
 
@@ -79,34 +76,3 @@ module _ (work p : ℕ) (waiting : List Branch) (listed : List System) where
         room_of work < live (state l p waiting listed (divided l p g r b)) → Met b Room
     -- 5. The remainders of the members of Q by the pivot.
     closing : (k : ℕ) (f : Chosen) (why : Reason) → rule_of b ≡ close k f → MetReplacing k f.poly b.Q (closed l p f b) why → Met b why
-
--- ── examples ──
--- A table with P and Q empty. Its first branch takes one record, and the list of its one system two.
-abbrev empty : List ℕ
-empty = 7 ∷ 1 ∷ 0 ∷ 0 ∷ []
-
-abbrev t : Input
-t = record { modulus = 7; variables = 1; P = []; Q = [] }
-
-empty_is_read : read_table empty ≡ good t
-unfolding read_table read_header read_heads follow is_whole is_modulus is_prime no_divisor_from
-empty_is_read = refl
-
--- A work area of one record lends none.
-no_room : Cause empty 4 8 1 0 Room 0
-unfolding first_branch put_all live branches_size branch_size polynomials_size systems_size room_of
-no_room = in_first_branch t empty_is_read (omega arith)
-
--- "the same, limit 0": "refusal 12, 0 steps".
-no_step : Cause empty 8 8 0 0 Steps 0
-unfolding first_branch put_all live branches_size branch_size polynomials_size systems_size room_of
-no_step = at_limit 0 (first_state t) (first_branch t) [] (record { input = t; accepted = empty_is_read; has_room = omega arith; by_steps = refl }) refl refl
-
--- One record of output, after one step.
-short_output : Cause empty 8 4 1 1 Output 0
-unfolding first_branch put_all live branches_size branch_size polynomials_size systems_size room_of step apply rule_of some_one some_zero list_records
-short_output =
-    at_end 1 end (record { input = t; accepted = empty_is_read; has_room = omega arith; by_steps = (first_branch t, [], end, refl, refl, refl) }) (omega arith) refl (omega arith)
-  where
-    end : State
-    end = record { branches = []; systems = record { T = []; U = [] } ∷ [] }

@@ -1,5 +1,5 @@
 -- "Eliminate. The refusals of reading, then the run .., at the end 13 if the output has fewer whole records than the list needs."
-use Rattle.std.specs.Prelude.{◌≡◌, refl, true, false, List, ◌++◌, ℕ, ◌-◌, ◌/◌, min, ltb, length, drop}
+use Rattle.std.specs.Prelude.{true, false, List, ◌++◌, ℕ, ◌-◌, ◌/◌, min, ltb, length, drop}
 use Rattle.polynomials.specs.Bounds.{at_most, standard}
 use Rattle.tables.specs.Read.{good, Input, System, read_table}
 use Rattle.tables.specs.Read as tables
@@ -12,23 +12,6 @@ use Rattle.rules.specs.Written.{list_words, list_records}
 -- "The work area has R = its words divided by 4, rounded down, at most 65,536, and lends R−1 records (none if R is 0)."
 unfoldable pub room_of : ℕ → ℕ
 room_of words = min (words / 4) 65536 - 1
-
--- Three words, one record, eleven and three words, more than may be used.
-no_record : room_of 3 ≡ 0
-unfolding room_of
-no_record = refl
-
-one_record : room_of 4 ≡ 0
-unfolding room_of
-one_record = refl
-
-eleven_records : room_of 47 ≡ 10
-unfolding room_of
-eleven_records = refl
-
-most_records : room_of 1000000 ≡ 65535
-unfolding room_of
-most_records = refl
 
 -- The limits of a call with a work area of so many words.
 unfoldable pub limits_of : ℕ → Limits

@@ -7,9 +7,7 @@ pub mod Written
 pub mod Eliminate
 pub mod Cause
 pub mod Writable
-pub mod laws
 pub mod Solutions
-pub mod Claims
 pub mod Promise
 pub mod Jobs
 pub mod Ahead

@@ -1,6 +1,6 @@
 -- "A written list is laid out as header, then for each system: its record, its T heads, its U heads, each head followed by its terms."
-use Rattle.std.specs.Prelude.{◌≡◌, refl, List, [], ◌∷◌, ◌++◌, ℕ, suc, ◌+◌, length, take, drop}
-use Rattle.polynomials.specs.Poly.{Term, Poly}
+use Rattle.std.specs.Prelude.{List, [], ◌∷◌, ◌++◌, ℕ, suc, ◌+◌, length, take, drop}
+use Rattle.polynomials.specs.Poly.{Poly}
 use Rattle.polynomials.specs.Packed.{word}
 use Rattle.tables.specs.Read.{System, Listing}
 use Rattle.rules.specs.Room.{polynomials_size, systems_size}
@@ -37,18 +37,3 @@ list_words l = l.modulus ∷ l.variables ∷ index_of l.systems 1 ∷ length l.s
 -- The records that a list needs.
 unfoldable pub list_records : List System → ℕ
 list_records ss = 1 + systems_size ss
-
--- ── examples ──
--- c v1^a v2^b.
-abbrev term : ℕ → ℕ → ℕ → Term
-term c a b = record { coef = c; exps = a ∷ b ∷ 0 ∷ 0 ∷ 0 ∷ 0 ∷ 0 ∷ 0 ∷ [] }
-
--- The list that document 01 prints: T = v1 v2 + 6, U = v1.
-printed : list_words (record { modulus = 7; variables = 2; systems = record { T = (term 1 1 1 ∷ term 6 0 0 ∷ []) ∷ []; U = (term 1 1 0 ∷ []) ∷ [] } ∷ [] })
-    ≡ 7 ∷ 2 ∷ 1 ∷ 1 ∷ 2 ∷ 5 ∷ 0 ∷ 0 ∷ 3 ∷ 0 ∷ 0 ∷ 0 ∷ 1 ∷ 0 ∷ 257 ∷ 4 ∷ 6 ∷ 0 ∷ 0 ∷ 0 ∷ 6 ∷ 0 ∷ 0 ∷ 0 ∷ 1 ∷ 0 ∷ 1 ∷ 0 ∷ []
-unfolding list_words systems_words heads_words terms_words polynomials_size systems_size word
-printed = refl
-
-no_system : list_words (record { modulus = 7; variables = 1; systems = [] }) ≡ 7 ∷ 1 ∷ 0 ∷ 0 ∷ []
-unfolding list_words systems_words
-no_system = refl

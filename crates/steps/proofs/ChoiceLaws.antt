@@ -18,9 +18,9 @@ use Rattle.rules.specs.Branch.{Branch, Chosen, some_one, some_zero, is_one, high
 use Rattle.rules.specs.Rule.{Rule, drop, list, rule_with, rule_of, rule_of_p}
 use Rattle.rules.specs.Step.{Stepped, step, apply}
 use Rattle.rules.specs.Room.{Limits}
-use Rattle.rules.specs.laws.Lists.{At}
-use Rattle.rules.specs.laws.Pivot.{pivot_stands, pivot_leads}
-use Rattle.rules.specs.laws.Rising as rising
+use Rattle.rules.proofs.laws.Lists.{At}
+use Rattle.rules.proofs.laws.Pivot.{pivot_stands, pivot_leads}
+use Rattle.rules.proofs.laws.Rising as rising
 use Rattle.branches.specs.Area.{Stored, with_open}
 use Rattle.survey.specs.Survey.{choice, choice_of_p}
 use Rattle.survey.proofs.Choices.{leaders_at_most_8}

@@ -21,7 +21,7 @@ use Rattle.rules.specs.Branch.{Chosen, Found, none, found, other}
 use Rattle.rules.specs.Rule.{Rule, split, divide_or_close, rule_with}
 use Rattle.rules.specs.Room.{Limits}
 use Rattle.rules.specs.Step.{Stepped, apply, replace, after_division, remainder_by, within_room, divided, state}
-use Rattle.rules.specs.laws.Pivot.{OtherIs, other_is}
+use Rattle.rules.proofs.laws.Pivot.{OtherIs, other_is}
 use Rattle.records.specs.Records.{Rec}
 use Rattle.branches.specs.Words.{is_one}
 use Rattle.branches.specs.Area.{Stored, Held, with_open, closed}

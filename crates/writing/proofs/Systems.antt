@@ -9,7 +9,7 @@ use Rattle.polynomials.specs.Poly.{Poly}
 use Rattle.polynomials.specs.Packed.{terms}
 use Rattle.rules.specs.Room.{polynomials_size, systems_size}
 use Rattle.rules.specs.Written.{index_of, heads_words, system_words}
-use Rattle.rules.specs.laws.Lengths.{length_heads, length_system}
+use Rattle.rules.proofs.laws.Lengths.{length_heads, length_system}
 use Rattle.records.specs.Records.{Rec, record_of, zero_record}
 use Rattle.stored.specs.Stored.{polys_records, skip_to, polys_at}
 use Rattle.stored.specs.laws.Stored.{polys_records_append, skip_to_polys_records, polys_at_polys_records}

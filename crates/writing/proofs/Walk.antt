@@ -9,7 +9,7 @@ use Rattle.residues.specs.Each.{Each}
 use Rattle.tables.specs.Read.{System}
 use Rattle.rules.specs.Room.{systems_size}
 use Rattle.rules.specs.Written.{index_of, system_words, systems_words, list_words, list_records}
-use Rattle.rules.specs.laws.Lengths.{length_list, length_system}
+use Rattle.rules.proofs.laws.Lengths.{length_list, length_system}
 use Rattle.records.specs.Records.{Rec, record_of}
 use Rattle.branches.specs.Area.{Stored, Held, branch_records, systems_records, StorableBranch}
 use Rattle.representation.specs.Represent.{system_of, AllListed}

@@ -7,7 +7,7 @@ use mathlib.Core.List.{map}
 use lib.ListN.{length}
 use Rattle.polynomials.specs.Packed.{terms}
 use Rattle.rules.specs.Written.{heads_words}
-use Rattle.rules.specs.laws.Lengths.{length_heads}
+use Rattle.rules.proofs.laws.Lengths.{length_heads}
 use Rattle.records.specs.Records.{view}
 use Rattle.records.proofs.Rows.{length_view}
 use Rattle.stored.specs.Stored.{size_at, skip_to, polys_at}

@@ -6,7 +6,7 @@ use mathlib.Core.Logic.{⊎_elim}
 use lib.ListN.{length}
 use Rattle.polynomials.specs.Packed.{terms}
 use Rattle.rules.specs.Written.{terms_words}
-use Rattle.rules.specs.laws.Lengths.{length_terms}
+use Rattle.rules.proofs.laws.Lengths.{length_terms}
 use Rattle.records.specs.Records.{view}
 use Rattle.records.proofs.Rows.{length_view}
 use Rattle.stored.specs.Stored.{size_at, words_at}

@@ -3,7 +3,7 @@ use mathlib.Core.Path.{◌≡◌, sym, ap, ◌∙◌}
 use Prim.Native.Nat.{ℕ, ◌/◌}
 use borrow.Author.Rules.{rules}
 use lib.ListN.{length, replicate}
-use Rattle.rules.specs.laws.Calls.{call_not_read, call_read}
+use Rattle.rules.proofs.laws.Calls.{call_not_read, call_read}
 use Rattle.tables.specs.Read.{Input, good, read_table}
 use Rattle.tables.specs.Solve.{reading}
 use Rattle.tables.specs.declared.Reading.{Reading}

@@ -12,10 +12,10 @@ use Rattle.tables.specs.Words.{word, records, follow, Followed, end, to, astray}
 use Rattle.tables.specs.Read.{System, Listing}
 use Rattle.rules.specs.Room.{polynomials_size, systems_size}
 use Rattle.rules.specs.Written.{index_of, terms_words, heads_words, system_words, systems_words, list_words, list_records}
-use Rattle.rules.specs.laws.Lengths.{length_terms, length_heads, length_systems, length_size, length_systems_size}
+use Rattle.rules.proofs.laws.Lengths.{length_terms, length_heads, length_systems, length_size, length_systems_size}
 use Rattle.tables.specs.laws.Chains.{follow_to}
-use Rattle.rules.specs.laws.Stands.{Stands, Holds, stands_whole, first_record, stands_left, stands_right}
-use Rattle.rules.specs.laws.ReadAgain.{next_head, next_system}
+use Rattle.rules.proofs.laws.Stands.{Stands, Holds, stands_whole, first_record, stands_left, stands_right}
+use Rattle.rules.proofs.laws.ReadAgain.{next_head, next_system}
 use Rattle.extent.specs.Extent.{chain, chain_last, behind, system_last, list_last, extent}
 
 module _ (w : List ℕ) where

@@ -15,7 +15,7 @@ use Rattle.rules.specs.Branch.{Chosen}
 use Rattle.rules.specs.Room.{Limits, live}
 use Rattle.rules.specs.Rule.{drop, list, split}
 use Rattle.rules.specs.Step.{Stepped, next, stopped, within_room, split_open, split_aside, divided, state, apply}
-use Rattle.rules.specs.laws.Lists.{At}
+use Rattle.rules.proofs.laws.Lists.{At}
 use Rattle.branches.specs.Words.{put_p, put_q_before, remove}
 use Rattle.branches.specs.laws.Words.{put_q_before_none, each_remove}
 use Rattle.branches.specs.Area.{Stored, Area, size, with_open, put_into_p, without_p, split_area}

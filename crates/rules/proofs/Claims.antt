@@ -17,16 +17,17 @@ use Rattle.rules.specs.Run.{finished, run_steps, run_of}
 use Rattle.rules.specs.Eliminate.{limits_of, listed, turned_back, steps_of, eliminated}
 use Rattle.rules.specs.Cause.{Cause, Met}
 use Rattle.rules.specs.Jobs
+use Rattle.rules.proofs.Jobs as JobsHold
 use Rattle.rules.specs.Solutions.{Some, SolvesInput, SolvesSystem, NonZeroInitial, Proper}
-use Rattle.rules.specs.laws.Points
-use Rattle.rules.specs.laws.Initials
-use Rattle.rules.specs.laws.Rising as RisingLaws
-use Rattle.rules.specs.laws.Runs
-use Rattle.rules.specs.laws.Causes
-use Rattle.rules.specs.laws.Answers
-use Rattle.rules.specs.laws.AdmissibleRun
-use Rattle.rules.specs.laws.WrittenAgain
-use Rattle.rules.specs.laws.Unlimited
+use Rattle.rules.proofs.laws.Points
+use Rattle.rules.proofs.laws.Initials
+use Rattle.rules.proofs.laws.Rising as RisingLaws
+use Rattle.rules.proofs.laws.Runs
+use Rattle.rules.proofs.laws.Causes
+use Rattle.rules.proofs.laws.Answers
+use Rattle.rules.proofs.laws.AdmissibleRun
+use Rattle.rules.proofs.laws.WrittenAgain
+use Rattle.rules.proofs.laws.Unlimited
 
 -- A run that finished, from an input with a prime modulus and canonical polynomials.
 module _ (l : Limits) (limit : ℕ) (t : Input) (proper : Proper t) (n : ℕ) (ss : List System) (ended : run_of l limit t ≡ finished n ss) where
@@ -107,4 +108,4 @@ accepted_alike w work work' output output' limit limit' n n' ss ss' words words'
 
 -- The starred jobs of document 01.
 pub starred_jobs : Each Jobs.Holds Jobs.jobs
-starred_jobs = Jobs.jobs_hold
+starred_jobs = JobsHold.jobs_hold

@@ -8,7 +8,7 @@ use Rattle.residues.specs.laws.Each.{each_map}
 use Rattle.polynomials.specs.Poly.{Poly}
 use Rattle.polynomials.specs.Division.{degree, leader}
 use Rattle.rules.specs.Branch.{highest_leader, led_by, Chosen, better, prefer, pivot, remove, Found, none, found, behind, earliest, other}
-use Rattle.rules.specs.laws.Lists.{At, each_apart}
+use Rattle.rules.proofs.laws.Lists.{At, each_apart}
 
 -- ── the highest leading variable ──
 pub leaders_at_most : (fs : List Poly) → Each (λ g. leader g ≤ highest_leader fs) fs

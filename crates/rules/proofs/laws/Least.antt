@@ -13,7 +13,7 @@ use Rattle.polynomials.specs.Poly.{Poly}
 use Rattle.polynomials.specs.Division.{degree, leader}
 use Rattle.rules.specs.Branch.{led_by, Chosen, better, prefer, pivot}
 use Rattle.rules.specs.Ahead.{Ahead}
-use Rattle.rules.specs.laws.Lists.{At}
+use Rattle.rules.proofs.laws.Lists.{At}
 
 -- ── the test of a better pivot ──
 true_says : (c f x y z : Bool) → c && (not f || (x || (y && z))) ≡ true → (c ≡ true) × (f ≡ true → (x ≡ true) ⊎ ((y ≡ true) × (z ≡ true)))

@@ -15,10 +15,10 @@ use Rattle.rules.specs.Branch.{Branch, put_p, put_q, Chosen}
 use Rattle.rules.specs.Room.{Limits, State}
 use Rattle.rules.specs.Step.{remainder_by}
 use Rattle.rules.specs.Run.{finished, first_branch, run_of, first_state}
-use Rattle.rules.specs.laws.Lists.{each_apart}
-use Rattle.rules.specs.laws.Put.{put_p_keeps, put_q_keeps, put_all_keeps}
-use Rattle.rules.specs.laws.Taken.{Pivot, Replaced, remainder_by_is, Taken, by_drop, by_list, by_split, by_divide, by_close}
-use Rattle.rules.specs.laws.Runs.{run_of_keeps}
+use Rattle.rules.proofs.laws.Lists.{each_apart}
+use Rattle.rules.proofs.laws.Put.{put_p_keeps, put_q_keeps, put_all_keeps}
+use Rattle.rules.proofs.laws.Taken.{Pivot, Replaced, remainder_by_is, Taken, by_drop, by_list, by_split, by_divide, by_close}
+use Rattle.rules.proofs.laws.Runs.{run_of_keeps}
 
 -- G is kept by the operations of the rules, the divisor being led by v(k+1).
 pub record Closed (l : Limits) (p : ℕ) (G : Poly → Type 0) : Type 0 where

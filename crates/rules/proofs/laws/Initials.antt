@@ -13,11 +13,11 @@ use Rattle.rules.specs.Branch.{Branch}
 use Rattle.rules.specs.Room.{Limits, State}
 use Rattle.rules.specs.Run.{finished, first_branch, run_of}
 use Rattle.rules.specs.Solutions.{NonZero, SolvesSystem, NonZeroInitial, Proper}
-use Rattle.rules.specs.laws.Lists.{each_apart}
-use Rattle.rules.specs.laws.Taken.{after_close, Taken, by_drop, by_list, by_split, by_divide, by_close}
-use Rattle.rules.specs.laws.Runs.{run_of_keeps}
-use Rattle.rules.specs.laws.Kept.{OfBranch, OfState, pivot_variable, taken_keeps, first_keeps, canonical_by, canonical_closed}
-use Rattle.rules.specs.laws.Points.{SolvesBranch, initial_nonzero, list_same, split_both, divide_same, close_same}
+use Rattle.rules.proofs.laws.Lists.{each_apart}
+use Rattle.rules.proofs.laws.Taken.{after_close, Taken, by_drop, by_list, by_split, by_divide, by_close}
+use Rattle.rules.proofs.laws.Runs.{run_of_keeps}
+use Rattle.rules.proofs.laws.Kept.{OfBranch, OfState, pivot_variable, taken_keeps, first_keeps, canonical_by, canonical_closed}
+use Rattle.rules.proofs.laws.Points.{SolvesBranch, initial_nonzero, list_same, split_both, divide_same, close_same}
 
 module _ {ℓ} {K : Type ℓ} (F : Field K) (x : List K) (l : Limits) (t : Input) (proper : Proper t) (char : Contains F t.modulus) where
   abbrev p : ℕ

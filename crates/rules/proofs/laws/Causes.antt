@@ -17,9 +17,9 @@ use Rattle.rules.specs.Run.{Ended, finished, refused, run_steps, run, run_of, fi
 use Rattle.rules.specs.Eliminate.{room_of, limits_of, Eliminated, listed, turned_back, steps_of, delivered, eliminated}
 use Rattle.rules.specs.Cause.{Leads, Reached, OfStep, Cause, in_reading, in_first_branch, at_limit, in_step, at_end}
 use Rattle.rules.specs.Cause.{MetReplacing, degree_met, terms_met, room_met, met_later, Met, splitting, dividing_degree, dividing_terms, dividing_room, closing}
-use Rattle.rules.specs.laws.Taken.{tested}
-use Rattle.rules.specs.laws.Calls.{delivered_short, delivered_ends, call_read, call_not_read, call_ends}
-use Rattle.rules.specs.laws.Runs.{OverFirst, run_of_over, run_of_on, run_of_ends, run_none, run_out, run_next, run_of_steps}
+use Rattle.rules.proofs.laws.Taken.{tested}
+use Rattle.rules.proofs.laws.Calls.{delivered_short, delivered_ends, call_read, call_not_read, call_ends}
+use Rattle.rules.proofs.laws.Runs.{OverFirst, run_of_over, run_of_on, run_of_ends, run_none, run_out, run_next, run_of_steps}
 
 -- ── the room of a call ──
 module _ (work n : ℕ) where

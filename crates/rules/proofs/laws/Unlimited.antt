@@ -16,10 +16,10 @@ use Rattle.rules.specs.Run.{Ended, finished, refused, run_of, first_state}
 use Rattle.rules.specs.Written.{list_words}
 use Rattle.rules.specs.Eliminate.{limits_of, listed, eliminated}
 use Rattle.rules.specs.Cause.{Leads}
-use Rattle.rules.specs.laws.Taken.{remainder_by_is, room_next, within_room_next, after_division_next}
-use Rattle.rules.specs.laws.Calls.{listing}
-use Rattle.rules.specs.laws.Runs.{OverFirst, run_none, run_of_on, run_of_ends}
-use Rattle.rules.specs.laws.WrittenAgain.{listed_delivered}
+use Rattle.rules.proofs.laws.Taken.{remainder_by_is, room_next, within_room_next, after_division_next}
+use Rattle.rules.proofs.laws.Calls.{listing}
+use Rattle.rules.proofs.laws.Runs.{OverFirst, run_none, run_of_on, run_of_ends}
+use Rattle.rules.proofs.laws.WrittenAgain.{listed_delivered}
 
 -- ── a step ──
 module _ (l : Limits) where

@@ -16,10 +16,10 @@ use Rattle.rules.specs.Room.{Limits, State, polynomials_size, branch_size, branc
 use Rattle.rules.specs.Rule.{Rule, drop, list, split, divide, close, divide_or_close, rule_with, rule_of_p, rule_of}
 use Rattle.rules.specs.Step.{Stepped, next, within_room, split_open, split_aside, divided, closed, with_q, state, remainder_by, replace, apply, step}
 use Rattle.rules.specs.Run.{finished, run_of, first_state}
-use Rattle.rules.specs.laws.Lists.{At}
-use Rattle.rules.specs.laws.Pivot.{pivot_stands}
-use Rattle.rules.specs.laws.Taken.{tested, after_division_next}
-use Rattle.rules.specs.laws.Runs.{run_of_steps_keep}
+use Rattle.rules.proofs.laws.Lists.{At}
+use Rattle.rules.proofs.laws.Pivot.{pivot_stands}
+use Rattle.rules.proofs.laws.Taken.{tested, after_division_next}
+use Rattle.rules.proofs.laws.Runs.{run_of_steps_keep}
 
 -- ── sizes ──
 size_remove : (i : ℕ) (f : Poly) (fs : List Poly) → At i f fs → polynomials_size fs ≡ suc (length f + polynomials_size (remove i fs))

@@ -17,8 +17,8 @@ use Rattle.rules.specs.Branch.{Branch, put_q, member, is_one, some_one, some_zer
 use Rattle.rules.specs.Room.{Limits, State, polynomials_size, live}
 use Rattle.rules.specs.Rule.{Rule, drop, split, rule_of, rule_of_p, rule_with, divide_or_close}
 use Rattle.rules.specs.Step.{Stepped, next, stopped, within_room, after_division, remainder_by, split_open, split_aside, divided, closed, with_q, state, replace, apply, step}
-use Rattle.rules.specs.laws.Lists.{At}
-use Rattle.rules.specs.laws.Pivot.{pivot_stands, pivot_leads, OtherIs, other_is}
+use Rattle.rules.proofs.laws.Lists.{At}
+use Rattle.rules.proofs.laws.Pivot.{pivot_stands, pivot_leads, OtherIs, other_is}
 
 -- ── what a step leaves ──
 -- The pivot of a branch that rule 1 does not drop, in v(k+1).

@@ -22,11 +22,11 @@ use Rattle.rules.specs.Room.{Limits, State}
 use Rattle.rules.specs.Step.{split_open, split_aside, divided, remainder_by}
 use Rattle.rules.specs.Run.{finished, first_branch, run_of, first_state}
 use Rattle.rules.specs.Solutions.{Some, Zero, NonZero, SolvesInput, SolvesSystem, Proper}
-use Rattle.rules.specs.laws.Lists.{At, some_append, each_apart, each_remove_other}
-use Rattle.rules.specs.laws.Put.{each_of_member, one_is_nonzero, some_one_refutes, some_zero_refutes, put_p_zero, put_q_nonzero, put_all_p_zero, put_all_q_nonzero}
-use Rattle.rules.specs.laws.Taken.{Settled, after_close, Replaced, remainder_by_is, Taken, by_drop, by_list, by_split, by_divide, by_close}
-use Rattle.rules.specs.laws.Runs.{run_of_keeps}
-use Rattle.rules.specs.laws.Kept.{OfBranch, OfState, taken_keeps, first_keeps, canonical_by, canonical_closed}
+use Rattle.rules.proofs.laws.Lists.{At, some_append, each_apart, each_remove_other}
+use Rattle.rules.proofs.laws.Put.{each_of_member, one_is_nonzero, some_one_refutes, some_zero_refutes, put_p_zero, put_q_nonzero, put_all_p_zero, put_all_q_nonzero}
+use Rattle.rules.proofs.laws.Taken.{Settled, after_close, Replaced, remainder_by_is, Taken, by_drop, by_list, by_split, by_divide, by_close}
+use Rattle.rules.proofs.laws.Runs.{run_of_keeps}
+use Rattle.rules.proofs.laws.Kept.{OfBranch, OfState, taken_keeps, first_keeps, canonical_by, canonical_closed}
 
 module _ {ℓ} {K : Type ℓ} (F : Field K) (x : List K) where
   -- The point solves a branch.

@@ -13,12 +13,12 @@ use Rattle.rules.specs.Written.{list_words, list_records}
 use Rattle.rules.specs.Eliminate.{room_of, limits_of, Eliminated, listed, turned_back, delivered, eliminated}
 use Rattle.rules.specs.Writable.{Writable}
 use Rattle.rules.specs.Solutions.{Proper}
-use Rattle.rules.specs.laws.Calls.{listing, delivered_ends, call_ends}
-use Rattle.rules.specs.laws.ReadAgain.{read_again}
-use Rattle.rules.specs.laws.Kept.{OfSystem}
-use Rattle.rules.specs.laws.Rising as RisingLaws
-use Rattle.rules.specs.laws.AdmissibleRun.{admissible_run}
-use Rattle.rules.specs.laws.WithinRoom.{listed_within}
+use Rattle.rules.proofs.laws.Calls.{listing, delivered_ends, call_ends}
+use Rattle.rules.proofs.laws.ReadAgain.{read_again}
+use Rattle.rules.proofs.laws.Kept.{OfSystem}
+use Rattle.rules.proofs.laws.Rising as RisingLaws
+use Rattle.rules.proofs.laws.AdmissibleRun.{admissible_run}
+use Rattle.rules.proofs.laws.WithinRoom.{listed_within}
 
 -- ── what was listed ──
 -- The table was read, the run finished, the list has room in the output, and the words are the list's.

@@ -25,9 +25,9 @@ use Rattle.rules.specs.Room.{Limits}
 use Rattle.rules.specs.Step.{remainder_by}
 use Rattle.rules.specs.Run.{finished, run_of}
 use Rattle.tables.specs.Admissible.{Admissible}
-use Rattle.rules.specs.laws.Taken.{remainder_by_is}
-use Rattle.rules.specs.laws.Kept.{Closed, OfSystem, canonical_closed, listed_keep}
-use Rattle.rules.specs.laws.Rising.{places_closed}
+use Rattle.rules.proofs.laws.Taken.{remainder_by_is}
+use Rattle.rules.proofs.laws.Kept.{Closed, OfSystem, canonical_closed, listed_keep}
+use Rattle.rules.proofs.laws.Rising.{places_closed}
 
 -- ── at most 256 terms, no exponent over 255 ──
 abbrev Low : Poly → Type 0

@@ -29,12 +29,12 @@ use Rattle.rules.specs.Step.{remainder_by}
 use Rattle.rules.specs.Run.{finished, first_branch, run_of}
 use Rattle.tables.specs.Admissible.{Rising}
 use Rattle.rules.specs.Solutions.{Proper}
-use Rattle.rules.specs.laws.Lists.{At, each_apart}
-use Rattle.rules.specs.laws.Pivot.{leaders_at_most}
-use Rattle.rules.specs.laws.Put.{put_p_keeps, put_all_keeps}
-use Rattle.rules.specs.laws.Taken.{Pivot, remainder_by_is, Taken, by_drop, by_list, by_split, by_divide, by_close}
-use Rattle.rules.specs.laws.Runs.{run_of_keeps}
-use Rattle.rules.specs.laws.Kept.{Closed, OfBranch, OfState, taken_keeps, first_keeps, canonical_closed}
+use Rattle.rules.proofs.laws.Lists.{At, each_apart}
+use Rattle.rules.proofs.laws.Pivot.{leaders_at_most}
+use Rattle.rules.proofs.laws.Put.{put_p_keeps, put_all_keeps}
+use Rattle.rules.proofs.laws.Taken.{Pivot, remainder_by_is, Taken, by_drop, by_list, by_split, by_divide, by_close}
+use Rattle.rules.proofs.laws.Runs.{run_of_keeps}
+use Rattle.rules.proofs.laws.Kept.{Closed, OfBranch, OfState, taken_keeps, first_keeps, canonical_closed}
 
 -- ── leaders of results ──
 leader_monic : (p : ℕ) (f : Poly) → leader (monic p f) ≤ leader f

@@ -15,7 +15,7 @@ use Rattle.rules.specs.Room.{Limits, State, live}
 use Rattle.rules.specs.Step.{Stepped, next, stopped, step}
 use Rattle.rules.specs.Run.{Ended, finished, refused, run_steps, after_step, run, start, run_of, first_state}
 use Rattle.rules.specs.Cause.{Leads}
-use Rattle.rules.specs.laws.Taken.{within_room_is, Taken, step_taken}
+use Rattle.rules.proofs.laws.Taken.{within_room_is, Taken, step_taken}
 
 -- ── a run from a state ──
 module _ (l : Limits) (p n : ℕ) (s : State) where

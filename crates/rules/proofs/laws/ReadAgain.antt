@@ -26,9 +26,9 @@ use Rattle.rules.specs.Room.{polynomials_size, systems_size}
 use Rattle.rules.specs.Written.{index_of, terms_words, heads_words, system_words, systems_words, list_words, list_records}
 use Rattle.tables.specs.Admissible.{Rising, Admissible, AdmissibleListing}
 use Rattle.rules.specs.Writable.{Writable}
-use Rattle.rules.specs.laws.Stands.{Stands, Holds, stands_whole, first_record, stands_left, stands_right, link_reads}
-use Rattle.rules.specs.laws.Lengths.{length_terms, length_heads, length_systems, length_list, length_size, length_systems_size, length_system}
-use Rattle.rules.specs.laws.Held.{Held, held}
+use Rattle.rules.proofs.laws.Stands.{Stands, Holds, stands_whole, first_record, stands_left, stands_right, link_reads}
+use Rattle.rules.proofs.laws.Lengths.{length_terms, length_heads, length_systems, length_list, length_size, length_systems_size, length_system}
+use Rattle.rules.proofs.laws.Held.{Held, held}
 
 -- A test that does not refuse.
 passes : {A : Type 0} (b : Bool) (why : Reason) (at : ℕ) (r : Read A) → b ≡ false → unless b why at r ≡ r

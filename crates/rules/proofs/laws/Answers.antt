@@ -21,8 +21,8 @@ use Rattle.tables.specs.Solve.{is_root, all_zero, none_zero, solves, first_solve
 use Rattle.rules.specs.Room.{Limits}
 use Rattle.rules.specs.Run.{finished, run_of}
 use Rattle.rules.specs.Solutions.{Some, Zero, NonZero, SolvesSystem, NonZeroInitial, Proper}
-use Rattle.rules.specs.laws.Points.{zero_relation}
-use Rattle.rules.specs.laws.Initials.{initials}
+use Rattle.rules.proofs.laws.Points.{zero_relation}
+use Rattle.rules.proofs.laws.Initials.{initials}
 
 module _ (p : ℕ) (prime : Prime p) (x : List ℕ) where
   -- The prime field, and the point in it.

@@ -1,0 +1,5 @@
+pub mod laws
+pub mod Claims
+pub mod Promise
+pub mod Jobs
+pub mod Examples

@@ -12,7 +12,7 @@ use Rattle.tables.specs.Walk.{next}
 use Rattle.tables.specs.declared.Next.TheVariants.{End, To, Astray}
 use Rattle.tables.specs.laws.Chains.{next_end, next_to, next_astray, next_inside}
 use Rattle.extent.specs.Extent.{chain, chain_last, behind, system_last, list_last, extent}
-use Rattle.extent.specs.laws.Extent.{chain_follows, behind_some, behind_none, list_last_some, extent_some}
+use Rattle.extent.proofs.laws.Extent.{chain_follows, behind_some, behind_none, list_last_some, extent_some}
 
 -- What is left of a chain, from the index i that record `at` holds, ends where the whole does.
 pub record Walking (w : List ℕ) (last at i : ℕ) : Type 0 where

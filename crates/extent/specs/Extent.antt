@@ -1,5 +1,5 @@
 -- How many records a list takes that stands in the first words of an output, told by its chains.
-use Rattle.std.specs.Prelude.{◌≡◌, refl, true, false, List, [], ◌∷◌, ℕ, zero, suc, eqb, ltb, length}
+use Rattle.std.specs.Prelude.{true, false, List, ℕ, zero, suc, eqb, ltb, length}
 use Rattle.tables.specs.Words.{word, records, follow, end, to, astray}
 
 -- The last record of a chain, followed from the index i that record `at` holds; `at` itself where i leads nowhere.
@@ -26,8 +26,3 @@ list_last w s = elim (eqb s 0) [ true ↦ 0 | false ↦ system_last w s ]
 -- Word 2 of the header starts the chain of systems.
 unfoldable pub extent : List ℕ → ℕ
 extent w = elim (ltb (length w) 4) [ true ↦ 0 | false ↦ suc (list_last w (chain_last w 0 2)) ]
-
--- The list that document 01 prints takes 7 records, whatever follows.
-printed : extent (7 ∷ 2 ∷ 1 ∷ 1 ∷ 2 ∷ 5 ∷ 0 ∷ 0 ∷ 3 ∷ 0 ∷ 0 ∷ 0 ∷ 1 ∷ 0 ∷ 257 ∷ 4 ∷ 6 ∷ 0 ∷ 0 ∷ 0 ∷ 6 ∷ 0 ∷ 0 ∷ 0 ∷ 1 ∷ 0 ∷ 1 ∷ 0 ∷ 9 ∷ 9 ∷ 9 ∷ 9 ∷ []) ≡ 7
-unfolding extent chain behind follow
-printed = refl

@@ -16,7 +16,7 @@ use Rattle.rules.proofs.laws.WrittenAgain.{listed_delivered}
 use Rattle.run.specs.declared.Answer.{Answer}
 use Rattle.delivery.specs.Answer.{answer_of}
 use Rattle.extent.specs.Extent.{extent}
-use Rattle.extent.specs.laws.Extent.{extent_of_list}
+use Rattle.extent.proofs.laws.Extent.{extent_of_list}
 use Rattle.decoding.specs.Words.{words_of}
 use Rattle.lines.specs.Text.{line_text}
 use Rattle.responses.specs.Said.{records_text, said_of, said}

@@ -29,17 +29,17 @@ abbrev list : Followed → List ℕ
 list c = c.args.list.now
 
 abbrev Found : Type 0
-Found = tie.In-To-2 invariant-loop-k decreases-loop-k
+Found = tie.In-To invariant-loop-k decreases-loop-k
 
 abbrev followed : Found → Followed
-followed c = c.before.before
+followed c = c.before
 
 abbrev k : Found → ℕ
-k c = c.k-1.given.0.0
+k c = c.in-To.k
 
 -- ── what is known there ──
 leads_on : (c : Found) → let f = followed c in next (follow (list f) f.loop-k.at f.loop-k.index) ≡ To (k c)
-leads_on c = sym (followed c).follow.ensures ∙ c.k-1.given.1
+leads_on c = sym (followed c).follow.ensures ∙ c.in-To.is
 
 inside : (c : Found) → let f = followed c in (f.loop-k.at < k c) × (k c < records (list f))
 inside c = let f = followed c in next_inside (list f) f.loop-k.at f.loop-k.index (k c) (leads_on c)
@@ -60,16 +60,16 @@ enum_known-k : tie.Need-enum_known-k invariant-loop-k decreases-loop-k
 enum_known-k c = search rules
 
 word-index-requires-in-To : tie.Need-word-index-requires-in-To invariant-loop-k decreases-loop-k
-word-index-requires-in-To c κs = ((inside c.before).1, omega arith)
+word-index-requires-in-To c κs = ((inside c).1, omega arith)
 
 loop-k-smaller : tie.Need-loop-k-smaller invariant-loop-k decreases-loop-k
-loop-k-smaller c = let h = inside c.before.before in omega (arith, h.0, h.1)
+loop-k-smaller c = let h = inside c.before in omega (arith, h.0, h.1)
 
 loop-k-preserved : tie.Need-loop-k-preserved invariant-loop-k decreases-loop-k
 loop-k-preserved c =
     let d = c in
-    let l = (followed d.before.before).loop-k in
-    rw c.word-index-in-To.ensures (walking_on (list (followed d.before.before)) l.at l.index (k d.before.before) l.invariant (leads_on d.before.before))
+    let l = (followed d.before).loop-k in
+    rw c.word-index-in-To.ensures (walking_on (list (followed d.before)) l.at l.index (k d.before) l.invariant (leads_on d.before))
 
 enum_told-1 : tie.Need-enum_told-1 invariant-loop-k decreases-loop-k
 enum_told-1 c = search rules
@@ -78,7 +78,7 @@ returns-in-End : tie.Need-returns-in-End invariant-loop-k decreases-loop-k
 returns-in-End c =
     let f = c in
     let l = f.loop-k in
-    (walking_end (list f.before.before) l.at l.index l.invariant (sym f.follow.ensures ∙ c.enum_told-1.given.1), l.invariant.inside)
+    (walking_end (list f.before) l.at l.index l.invariant (sym f.follow.ensures ∙ c.in-End.is), l.invariant.inside)
 
 enum_told-in-Astray : tie.Need-enum_told-in-Astray invariant-loop-k decreases-loop-k
 enum_told-in-Astray c = search rules
@@ -87,7 +87,7 @@ returns-in-Astray : tie.Need-returns-in-Astray invariant-loop-k decreases-loop-k
 returns-in-Astray c =
     let f = c in
     let l = f.loop-k in
-    (walking_astray (list f.before.before) l.at l.index l.invariant (sym f.follow.ensures ∙ c.enum_told-in-Astray-1.given.1), l.invariant.inside)
+    (walking_astray (list f.before) l.at l.index l.invariant (sym f.follow.ensures ∙ c.in-Astray.is), l.invariant.inside)
 
 pub chain_last_spec : {M : Type 1} → statement M
 chain_last_spec =

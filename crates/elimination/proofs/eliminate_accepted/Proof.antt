@@ -66,7 +66,7 @@ abbrev to_start : tie.Else-not-start → tie.After-start
 to_start m = m.before.before.before.before
 
 found_room : (m : tie.Else-not-start) → (to_start m).start.result ≡ true
-found_room m = not-false (to_start m).start.result m.if-not-start.false
+found_room m = m.if-not-start.false
 
 -- ── the run is due ──
 module _ (m : tie.Else-not-start) where
@@ -110,9 +110,9 @@ module _ (m : tie.Joined-table-le128) where
   has_run : HasRun answer left
   has_run =
       ⊎_elim
-      (λ c. same_answer c.7 c.8 (c.3.auto.0, c.3.ensures.0, c.3.ensures.1))
-      (λ c. same_answer c.5 c.6 (c.2.auto.0, runs_from_0 _ _ _ _ _ c.2.ensures.0, c.2.ensures.1))
-      m.if-table-le128.came
+      (λ c. let r = c.run_short-ran in same_answer c.work-is c.ran-is (r.auto.work, r.ensures.0, r.ensures.1))
+      (λ c. let r = c.run_long-ran in same_answer c.work-is c.ran-is (r.auto.work, runs_from_0 _ _ _ _ _ r.ensures.0, r.ensures.1))
+      m.if-table-le128.branch-raw
 
   left_room : most (entry from_start) ≡ capacity left
   left_room = sym (same_capacity left (area from_start) has_run.0 ∙ same_room from_start)
@@ -156,15 +156,15 @@ slice_bounds-run_short-end c = search rules
 
 run_short-ran-requires : tie.Need-run_short-ran-requires
 run_short-ran-requires c κs =
-    let m = c in
-    (residues m.before.before.before.before, first m.before.before.before.before, omega (arith, (to_start m.before.before.before.before).start.auto.r))
+    let m = c.before.before.before.before in
+    (residues m, first m, omega (arith, (to_start m).start.auto.r))
 
 run_long-ran-requires : tie.Need-run_long-ran-requires
-run_long-ran-requires c κs = let m = c in (residues m.before.before.before, omega arith, first m.before.before.before)
+run_long-ran-requires c κs = let m = c.before.before.before in (residues m, omega arith, first m)
 
 -- The run is delivered.
-abbrev delivers : tie.After-deliver-arg2 → tie.Joined-table-le128
-delivers m = m.before.before
+abbrev delivers : tie.After-deliver-arg-1 → tie.Joined-table-le128
+delivers m = m.before
 
 deliver-requires : tie.Need-deliver-requires
 deliver-requires c κs =
@@ -182,12 +182,11 @@ shape_of-output c = search rules
 
 returns : tie.Need-returns
 returns c =
-    let d = c in
-    let n = delivers d.before in
+    let n = delivers c.before.before.before in
     let s = entry (from_start n) in
     let f = from_start n in
     let two = started_in_two s.requires.0 (most s) s.args.limit (view (area f)) (begun f s.requires.0 s.requires.1) (found_room (run_due n)) in (
-      λ t e. in_words s.args.work.now (room s) s.args.limit t (d.deliver.ensures t (due s t) e (ran n t e)),
+      λ t e. in_words s.args.work.now (room s) s.args.limit t (c.deliver.ensures t (due s t) e (ran n t e)),
       (
         λ t e. run_leaves t (most s) s.args.limit (view (area f)) (begun f t e) (found_room (run_due n))
             (subst (Left (due s t) t.modulus (view (left n))) (sym (left_room n)) (ran n t e).left),

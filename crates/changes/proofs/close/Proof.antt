@@ -89,7 +89,7 @@ module _ {b : Stored} {bs ss : List Stored} where
 opened : (m : Removed) → Entry m (start m).requires.0.0 (start m).requires.0.1 (start m).requires.0.2
 opened m = (start m).requires.0.3
 
--- ── the needs ──
+-- ── the goals ──
 remove_p-requires : tie.Need-remove_p-requires
 remove_p-requires c κs = let s = c in (s.requires.0, λ b bs ss H. (s.requires.1.0 b bs ss H).0)
 

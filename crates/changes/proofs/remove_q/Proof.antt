@@ -71,7 +71,7 @@ module _ {b : Stored} {bs ss : List Stored} where
 opened : (r : Reading) → Entry r (start r).requires.0.0 (start r).requires.0.1 (start r).requires.0.2
 opened r = (start r).requires.0.3
 
--- ── the needs ──
+-- ── the goals ──
 open_branch-b-requires : tie.Need-open_branch-b-requires
 open_branch-b-requires c κs = search rules
 

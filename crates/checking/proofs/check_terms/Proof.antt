@@ -65,7 +65,7 @@ accepts : (c : Accepted) → let f = found_of c in
     checked (read_term a.table.now a.p a.n l.m (before l.m l.last) (j f)) ≡ Good
 accepts c = sym c.check_term.ensures ∙ c.in_default.is
 
--- ── the needs ──
+-- ── the goals ──
 word-i-requires : tie.Need-word-i-requires invariant-loop-j decreases-loop-j
 word-i-requires c κs = search rules
 

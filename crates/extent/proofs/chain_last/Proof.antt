@@ -44,7 +44,7 @@ leads_on c = sym (followed c).follow.ensures ∙ c.in-To.is
 inside : (c : Found) → let f = followed c in (f.loop-k.at < k c) × (k c < records (list f))
 inside c = let f = followed c in next_inside (list f) f.loop-k.at f.loop-k.index (k c) (leads_on c)
 
--- ── the needs ──
+-- ── the goals ──
 word-index-requires : tie.Need-word-index-requires invariant-loop-k decreases-loop-k
 word-index-requires c κs = search rules
 

@@ -14,7 +14,7 @@ entry c = c.before.before.before.before.before.before.before.before
 abbrev gathered : tie.In-Words → tie.After-gather-ended
 gathered c = c.before.before.before.before.before
 
--- ── the needs ──
+-- ── the goals ──
 gather-ended-requires : tie.Need-gather-ended-requires
 gather-ended-requires c κs = let s = c in (s.requires.0, (s.requires.1.0, (s.requires.1.1.0, s.requires.1.1.1.0)))
 

@@ -11,7 +11,7 @@ use Rattle.keeping.proofs.keep_open.Statement.{statement}
 use Rattle.keeping.proofs.keep_open.Tie as tie
 use Known.*
 
--- ── the needs ──
+-- ── the goals ──
 get0-at-requires : tie.Need-get0-at-requires
 get0-at-requires c κs = search rules
 

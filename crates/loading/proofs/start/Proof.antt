@@ -77,7 +77,7 @@ zeros_in : (c : tie.Else-not-put_heads) (t : Input) → let k = zeros_put c in
     read_table s.args.table.now ≡ good t → Alone (p s) (most s) (with_zeros (p s) t) (view (work k))
 zeros_in c t e = let k = zeros_put c in (put k t e).alone c.if-not-put_heads.false
 
--- ── the needs ──
+-- ── the goals ──
 returns-then-work-lt8 : tie.Need-returns-then-work-lt8
 returns-then-work-lt8 c = (
   (λ t e.

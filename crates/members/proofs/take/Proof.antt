@@ -46,7 +46,7 @@ left_in_q c b bs ss H =
 is_in_p : (c : tie.Else-closing) (b : Stored) (bs ss : List Stored) → let s = entry_p c in Entry s b bs ss → s.args.place < length b.P
 is_in_p c b bs ss H = let s = entry_p c in has_p s.args.place s.args.left b c.if-closing.false (s.requires.1.0 b bs ss H)
 
--- ── the needs ──
+-- ── the goals ──
 count_q-requires : tie.Need-count_q-requires
 count_q-requires c κs = search rules
 

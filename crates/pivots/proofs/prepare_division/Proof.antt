@@ -33,7 +33,7 @@ moved_there : (c : tie.After-close) (b : Stored) (bs ss : List Stored) → Entry
     → HeldIn c.close.new.w (with_open (closed (start c).args.place b) bs ss)
 moved_there c b bs ss H = held_by _ _ (start c).args.w.now c.close.new.w (sym c.close.auto.w) (moved c b bs ss H)
 
--- ── the needs ──
+-- ── the goals ──
 degree-degree-requires : tie.Need-degree-degree-requires
 degree-degree-requires c κs = search rules
 

@@ -38,7 +38,7 @@ Entry r = PutAt (w r) (start r).args.to (start r).args.f.now (start r).args.p (s
 opened : (r : Reading) → Entry r (start r).requires.1.0 (start r).requires.1.1 (start r).requires.1.2
 opened r = (start r).requires.1.3
 
--- ── the needs ──
+-- ── the goals ──
 get1-end-requires : tie.Need-get1-end-requires
 get1-end-requires c κs = search rules
 

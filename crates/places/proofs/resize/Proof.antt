@@ -6,7 +6,7 @@ use borrow.Author.Rules.{rules}
 use Rattle.places.proofs.resize.Statement.{statement}
 use Rattle.places.proofs.resize.Tie as tie
 
--- ── the needs ──
+-- ── the goals ──
 get0-at-requires : tie.Need-get0-at-requires
 get0-at-requires c κs = search rules
 

@@ -39,7 +39,7 @@ Entry r = TakeAt (w r) (start r).args.from (start r).args.p (start r).args.q (st
 opened : (r : Reading) → Entry r (start r).requires.0 (start r).requires.1 (start r).requires.2
 opened r = (start r).requires.3
 
--- ── the needs ──
+-- ── the goals ──
 get1-end-requires : tie.Need-get1-end-requires
 get1-end-requires c κs = search rules
 

@@ -74,7 +74,7 @@ module _ {b : Stored} {bs ss : List Stored} where
 opened : (r : Reading) → Entry r (start r).requires.0.0 (start r).requires.0.1 (start r).requires.0.2
 opened r = (start r).requires.0.3
 
--- ── the needs ──
+-- ── the goals ──
 returns-then-f-eq0 : tie.Need-returns-then-f-eq0
 returns-then-f-eq0 c = let s = c in (λ b bs ss H. leaves_same H _ (kept_p s.args.f.now b (put_p_zero _ _ c.if-f-eq0.true)), refl)
 

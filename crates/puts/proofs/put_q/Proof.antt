@@ -89,7 +89,7 @@ opened r = (start r).requires.0.3
 inside : (c : tie.After-skip-from) → let r = from_skip c in skip_to (view (w r)) c.skip-from.result ((o r).q - left r) ≤ room (w r)
 inside c = let r = from_skip c in inside_room (w r) (seen_inside (opened r) (open_is r (opened r)) c.skip-from.ensures (left r))
 
--- ── the needs ──
+-- ── the goals ──
 is_one-requires : tie.Need-is_one-requires
 is_one-requires c κs = search rules
 

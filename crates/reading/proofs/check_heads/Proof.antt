@@ -52,7 +52,7 @@ leads_on c = sym (followed c).follow.ensures ∙ c.in-To.is
 inside : (c : Found) → ((followed c).loop-j.at < j c) × (j c < records (entry (followed c)).args.table.now)
 inside c = next_inside _ _ _ _ (leads_on c)
 
--- ── the needs ──
+-- ── the goals ──
 loop-j-init : tie.Need-loop-j-init invariant-loop-j decreases-loop-j
 loop-j-init c =
     let a = c.args in

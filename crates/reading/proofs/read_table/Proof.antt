@@ -25,11 +25,11 @@ header_checked c = c.before
 abbrev header_good : tie.After-check_heads → tie.In_default
 header_good c = c.before.before.before.before
 
-abbrev PGood : tie.After-check_heads-2 → tie.In_default-check_heads
-PGood c = c.before.before
+abbrev p_good : tie.After-check_heads-2 → tie.In_default-check_heads
+p_good c = c.before.before
 
-abbrev PChecked : tie.In_default-check_heads → tie.After-check_heads
-PChecked c = c.before
+abbrev p_checked : tie.In_default-check_heads → tie.After-check_heads
+p_checked c = c.before
 
 -- ── what is known there ──
 abbrev table : tie.In_default → List ℕ
@@ -41,7 +41,7 @@ header c = sym (header_checked c).check_header.ensures ∙ c.in_default.is
 readable : (c : tie.In_default) → Readable (table c) (word (table c) 0 0) (word (table c) 0 1)
 readable c = header_readable (table c) (header c)
 
--- ── the needs ──
+-- ── the goals ──
 check_header-requires : tie.Need-check_header-requires
 check_header-requires c κs = search rules
 
@@ -79,10 +79,10 @@ enum_told-in_default-check_heads : tie.Need-enum_told-in_default-check_heads
 enum_told-in_default-check_heads c = search rules
 
 bounds-table-3 : tie.Need-bounds-table-3
-bounds-table-3 c = omega (arith, readable_words (readable (header_good (PChecked c.before))))
+bounds-table-3 c = omega (arith, readable_words (readable (header_good (p_checked c.before))))
 
 check_heads-requires-2 : tie.Need-check_heads-requires-2
-check_heads-requires-2 c κs = let r = readable (header_good (PChecked c.before)) in (r, omega (arith, readable_words r))
+check_heads-requires-2 c κs = let r = readable (header_good (p_checked c.before)) in (r, omega (arith, readable_words r))
 
 enum_known-why-in-Refused-check_heads-2 : tie.Need-enum_known-why-in-Refused-check_heads-2
 enum_known-why-in-Refused-check_heads-2 c = search rules
@@ -90,8 +90,8 @@ enum_known-why-in-Refused-check_heads-2 c = search rules
 returns-in-Refused-check_heads-2 : tie.Need-returns-in-Refused-check_heads-2
 returns-in-Refused-check_heads-2 c =
     let q = c in
-    let g = PGood q.before in
-    let k = PChecked g in
+    let g = p_good q.before in
+    let k = p_checked g in
     let h = header_good k in
     table_refused_q (table h) (header h) (sym k.check_heads.ensures ∙ g.in_default-check_heads.is) (sym q.check_heads-2.ensures ∙ c.in-Refused-check_heads-2.is)
 
@@ -101,8 +101,8 @@ enum_told-in_default-check_heads-2 c = search rules
 returns : tie.Need-returns
 returns c =
     let q = c in
-    let g = PGood q.before in
-    let k = PChecked g in
+    let g = p_good q.before in
+    let k = p_checked g in
     let h = header_good k in
     table_accepted (table h) (header h) (sym k.check_heads.ensures ∙ g.in_default-check_heads.is) (sym q.check_heads-2.ensures ∙ c.in_default-check_heads-2.is)
 

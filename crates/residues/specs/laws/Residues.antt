@@ -5,6 +5,7 @@ use Rattle.std.proofs.Common.{◌∙◌, inl, inr, mod-lt, mod-eq_of_lt, add_ass
 use Prim.Native.Nat.{ℕ, zero, suc, ◌+◌, ◌-◌, ◌*◌, ◌%◌, ◌^◌, ◌≤◌, ◌<◌, Fin}
 use Rattle.std.proofs.Math.Nat.{pow-zero, pow-succ', mod-add-mod, add-mod-mod, mod-mod, mod_self, zero-mod}
 use Rattle.std.proofs.Math.Decide.{ℕ_discrete}
+use native.Mathlib.Fin.{val_path}
 use native.Mathlib.Omega.{arith}
 use Rattle.residues.specs.Prime.{Prime, is_prime, no_divisor_from}
 use Rattle.residues.specs.Residue.{sum, difference, product, inverse}
@@ -26,20 +27,20 @@ module _ (p : ℕ) (h : 1 ≤ p) where
     neg = λ a. residue (p - a.0);
     nil = residue 0;
     one = residue 1;
-    add_assoc = λ a b c. native.Mathlib.Fin.val_path (simp (residues, add_assoc));
-    add_comm = λ a b. native.Mathlib.Fin.val_path (ap (λ z. z % p) (add_comm a.0 b.0));
-    add_nil = λ a. native.Mathlib.Fin.val_path (simp (residues, add-zero) (mod-eq_of_lt a.1));
-    add_neg = λ a. native.Mathlib.Fin.val_path (simp residues (ap (λ z. z % p) (add-sub_of_le (le_of_lt a.1)) ∙ mod_self p ∙ sym (zero-mod p)));
-    mul_assoc = λ a b c. native.Mathlib.Fin.val_path (simp (residues, mul_assoc));
-    mul_comm = λ a b. native.Mathlib.Fin.val_path (ap (λ z. z % p) (mul_comm a.0 b.0));
-    mul_one = λ a. native.Mathlib.Fin.val_path (simp (residues, mul-one) (mod-eq_of_lt a.1));
-    mul_add = λ a b c. native.Mathlib.Fin.val_path (simp (residues, mul-add));
+    add_assoc = λ a b c. val_path (simp (residues, add_assoc));
+    add_comm = λ a b. val_path (ap (λ z. z % p) (add_comm a.0 b.0));
+    add_nil = λ a. val_path (simp (residues, add-zero) (mod-eq_of_lt a.1));
+    add_neg = λ a. val_path (simp residues (ap (λ z. z % p) (add-sub_of_le (le_of_lt a.1)) ∙ mod_self p ∙ sym (zero-mod p)));
+    mul_assoc = λ a b c. val_path (simp (residues, mul_assoc));
+    mul_comm = λ a b. val_path (ap (λ z. z % p) (mul_comm a.0 b.0));
+    mul_one = λ a. val_path (simp (residues, mul-one) (mod-eq_of_lt a.1));
+    mul_add = λ a b c. val_path (simp (residues, mul-add));
   }
 
   pub cast_residue : (n : ℕ) → cast Residues n ≡ residue n
   unfolding cast Residues
   cast_residue zero = refl
-  cast_residue (suc n) = ap (λ z. Residues.add Residues.one z) (cast_residue n) ∙ native.Mathlib.Fin.val_path (simp residues (ap (λ z. z % p) one_plus))
+  cast_residue (suc n) = ap (λ z. Residues.add Residues.one z) (cast_residue n) ∙ val_path (simp residues (ap (λ z. z % p) one_plus))
     where
       one_plus : 1 + n ≡ suc n
       one_plus = omega arith
@@ -50,16 +51,16 @@ module _ (p : ℕ) (h : 1 ≤ p) where
 
   pub cast_modulus : cast Residues p ≡ Residues.nil
   unfolding Residues
-  cast_modulus = cast_residue p ∙ native.Mathlib.Fin.val_path (mod_self p ∙ sym (zero-mod p))
+  cast_modulus = cast_residue p ∙ val_path (mod_self p ∙ sym (zero-mod p))
 
 -- A residue times its inverse is one.
 pub prime_field_inverse : (p : ℕ) (P : Prime p) (h : 1 ≤ p) (a : Fin p) → a ≢ residue p h 0 → (Residues p h).mul a (residue p h (inverse p a.0)) ≡ residue p h 1
 unfolding Residues
 prime_field_inverse p P h a n =
-    native.Mathlib.Fin.val_path (mul_mod_r a.0 (inverse p a.0) p ∙ inverse_ok p a.0 P (omega (arith, nonzero)) a.1 ∙ sym (mod-eq_of_lt P.two≤))
+    val_path (mul_mod_r a.0 (inverse p a.0) p ∙ inverse_ok p a.0 P (omega (arith, nonzero)) a.1 ∙ sym (mod-eq_of_lt P.two≤))
   where
     nonzero : a.0 ≢ 0
-    nonzero e = n (native.Mathlib.Fin.val_path (e ∙ sym (zero-mod p)))
+    nonzero e = n (val_path (e ∙ sym (zero-mod p)))
 
 pub one≤ : {p : ℕ} → Prime p → 1 ≤ p
 one≤ P = omega (arith, P.two≤)
@@ -71,7 +72,7 @@ PrimeField p P = record {
   ring = Residues p (one≤ P);
   inv = λ a. residue p (one≤ P) (inverse p a.0);
   one≢nil = λ e. one_not_zero (sym (mod-eq_of_lt P.two≤) ∙ ap (λ (z : Fin p). z.0) e ∙ zero-mod p);
-  zero_or_not = λ a. elim (ℕ_discrete a.0 0) [ yes e ↦ inl (native.Mathlib.Fin.val_path (e ∙ sym (zero-mod p))) | no n ↦ inr (λ e. n (ap (λ (z : Fin p). z.0) e ∙ zero-mod p)) ];
+  zero_or_not = λ a. elim (ℕ_discrete a.0 0) [ yes e ↦ inl (val_path (e ∙ sym (zero-mod p))) | no n ↦ inr (λ e. n (ap (λ (z : Fin p). z.0) e ∙ zero-mod p)) ];
   mul_inv = prime_field_inverse p P (one≤ P);
 }
   where

@@ -124,7 +124,7 @@ b₀ r = (start r).requires.0.0
 opened : (r : Reading) → Holds (w r) (b₀ r) (start r).requires.0.1 (start r).requires.0.2
 opened r = (start r).requires.0.3
 
--- ── the needs ──
+-- ── the goals ──
 open_branch-b-requires : tie.Need-open_branch-b-requires
 open_branch-b-requires c κs = search rules
 

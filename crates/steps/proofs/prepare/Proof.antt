@@ -44,7 +44,7 @@ is_pivot c b bs ss H R =
     chosen_pivot (entry m.before).args.p _ _ b.P b.Q b.T R.sound.branches.0.in_p R.monic.0 R.nonzero.0
     (sym (m.choose.ensures b bs ss H) ∙ c.in-Pivot.is)
 
--- ── the needs ──
+-- ── the goals ──
 choose-requires : tie.Need-choose-requires
 choose-requires c κs =
     let s = c in

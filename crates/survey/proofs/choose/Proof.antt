@@ -34,23 +34,23 @@ module _ (r : tie.After-open_branch-b) where
   open_is : {b : Stored} {bs ss : List Stored} → HeldIn area (with_open b bs ss) → o ≡ open_of b bs
   open_is {b} {bs} {ss} H = r.open_branch-b.ensures b bs ss H
 
-  PIs : {b : Stored} {bs ss : List Stored} → HeldIn area (with_open b bs ss) → polys_at (view area) o.first o.p ≡ b.P
-  PIs H = all_p H (open_is H)
+  p_part_is : {b : Stored} {bs ss : List Stored} → HeldIn area (with_open b bs ss) → polys_at (view area) o.first o.p ≡ b.P
+  p_part_is H = all_p H (open_is H)
 
-  PWithin : skip_to (view area) o.first o.p ≤ room area
-  PWithin = let s = r.requires.0 in inside_room area (end_p_inside s.3 (open_is s.3))
+  p_within : skip_to (view area) o.first o.p ≤ room area
+  p_within = let s = r.requires.0 in inside_room area (end_p_inside s.3 (open_is s.3))
 
-  PHolds : (p : ℕ) × AllHold p (polys_at (view area) o.first o.p)
-  PHolds =
+  p_all_hold : (p : ℕ) × AllHold p (polys_at (view area) o.first o.p)
+  p_all_hold =
       let s = r in
       let h = s.requires.0 in
       let u = s.requires.1 h.0 h.1 h.2 h.3 in
-      (u.0, subst (λ (fs : List (List ℕ)). AllHold u.0 fs) (sym (PIs h.3)) u.1)
+      (u.0, subst (λ (fs : List (List ℕ)). AllHold u.0 fs) (sym (p_part_is h.3)) u.1)
 
   -- The test of P, and that of Q from where P ends.
   one_is : {b : Stored} {bs ss : List Stored} → HeldIn area (with_open b bs ss)
       → some_one (map terms b.P) ≡ some_one (map terms (polys_at (view area) o.first o.p))
-  one_is H = ap (λ (fs : List (List ℕ)). some_one (map terms fs)) (sym (PIs H))
+  one_is H = ap (λ (fs : List (List ℕ)). some_one (map terms fs)) (sym (p_part_is H))
 
   zero_is : {b : Stored} {bs ss : List Stored} → HeldIn area (with_open b bs ss) → {from : ℕ} → from ≡ skip_to (view area) o.first o.p
       → some_zero (map terms b.Q) ≡ some_zero (map terms (polys_at (view area) from o.q))
@@ -63,13 +63,13 @@ overflow_cast-p : tie.Need-overflow_cast-p
 overflow_cast-p c = search rules
 
 has_one-requires : tie.Need-has_one-requires
-has_one-requires c κs = PWithin c.before
+has_one-requires c κs = p_within c.before
 
 returns-then-has_one : tie.Need-returns-then-has_one
 returns-then-has_one c b bs ss H = sym (choice_one (branch_of b) (one_is c.before.before.before H ∙ sym c.has_one.ensures ∙ c.if-has_one.true))
 
 skip-requires : tie.Need-skip-requires
-skip-requires c κs = PWithin c.before.before.before
+skip-requires c κs = p_within c.before.before.before
 
 overflow_cast-b : tie.Need-overflow_cast-b
 overflow_cast-b c = search rules
@@ -103,7 +103,7 @@ returns-then-p-eq0 c b bs ss H =
     sym (neither c.before b bs ss H ∙ choice_list (map terms b.P) (omega (arith, length-map b.P terms, p_is H (open_is r.before.before.before.before.before.before.before.before H), c.if-p-eq0.true)))
 
 highest_leader-h-requires : tie.Need-highest_leader-h-requires
-highest_leader-h-requires c κs = let r = c in (PWithin r.before.before.before.before.before.before.before.before, PHolds r.before.before.before.before.before.before.before.before)
+highest_leader-h-requires c κs = let r = c in (p_within r.before.before.before.before.before.before.before.before, p_all_hold r.before.before.before.before.before.before.before.before)
 
 overflow_sub-k : tie.Need-overflow_sub-k
 overflow_sub-k c = search rules
@@ -115,18 +115,18 @@ pivot_place-requires : tie.Need-pivot_place-requires
 pivot_place-requires c κs =
     let r = c in
     let most = leaders_at_most_8 (polys_at (view (area r.before.before.before.before.before.before.before.before.before.before)) (o r.before.before.before.before.before.before.before.before.before.before).first (o r.before.before.before.before.before.before.before.before.before.before).p) in
-    ((PWithin r.before.before.before.before.before.before.before.before.before.before, omega (arith, position c, c.highest_leader-h.ensures, most)), PHolds r.before.before.before.before.before.before.before.before.before.before)
+    ((p_within r.before.before.before.before.before.before.before.before.before.before, omega (arith, position c, c.highest_leader-h.ensures, most)), p_all_hold r.before.before.before.before.before.before.before.before.before.before)
 
 returns : tie.Need-returns
 returns c b bs ss H =
     let test = c in
     let r = test in
     let h : c.highest_leader-h.result ≡ highest_leader (map terms b.P) =
-    c.highest_leader-h.ensures ∙ ap (λ (fs : List (List ℕ)). highest_leader (map terms fs)) (PIs r.before.before.before.before.before.before.before.before.before.before.before H) in
+    c.highest_leader-h.ensures ∙ ap (λ (fs : List (List ℕ)). highest_leader (map terms fs)) (p_part_is r.before.before.before.before.before.before.before.before.before.before.before H) in
     let k = c.if-h-eq0.k in
     sym (neither test.before.before.before.before b bs ss H
     ∙ choice_pivot (map terms b.P) k c.pivot_place.result (omega (arith, length-map b.P terms, p_is H (open_is r.before.before.before.before.before.before.before.before.before.before.before H), test.if-p-eq0.false))
-    (position c.before ∙ ap (λ (n : ℕ). n - 1) h) (c.pivot_place.ensures ∙ ap (λ (fs : List (List ℕ)). pivot_place k (map terms fs)) (PIs r.before.before.before.before.before.before.before.before.before.before.before H)))
+    (position c.before ∙ ap (λ (n : ℕ). n - 1) h) (c.pivot_place.ensures ∙ ap (λ (fs : List (List ℕ)). pivot_place k (map terms fs)) (p_part_is r.before.before.before.before.before.before.before.before.before.before.before H)))
 
 pub choose_spec : {M : Type 1} → statement M
 choose_spec =

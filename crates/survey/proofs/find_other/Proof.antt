@@ -21,9 +21,9 @@ open_branch-b-requires c κs = search rules
 overflow_cast-b : tie.Need-overflow_cast-b
 overflow_cast-b c = search rules
 
-PIs : (r : tie.After-open_branch-b) {b : Stored} {bs ss : List Stored} → let w = r.args.w.now in
+p_part_is : (r : tie.After-open_branch-b) {b : Stored} {bs ss : List Stored} → let w = r.args.w.now in
     HeldIn w (with_open b bs ss) → polys_at (view w) r.open_branch-b.result.first r.open_branch-b.result.p ≡ b.P
-PIs r {b} {bs} {ss} H = all_p H (r.open_branch-b.ensures b bs ss H)
+p_part_is r {b} {bs} {ss} H = all_p H (r.open_branch-b.ensures b bs ss H)
 
 other_from-requires : tie.Need-other_from-requires
 other_from-requires c κs =
@@ -32,13 +32,13 @@ other_from-requires c κs =
     let o = s.requires.0.0 in
     let u = s.requires.1 o.0 o.1 o.2 o.3 in
     let within = inside_room s.args.w.now (end_p_inside o.3 (r.open_branch-b.ensures o.0 o.1 o.2 o.3)) in
-    ((within, s.requires.0.1), (u.0, subst (λ (fs : List (List ℕ)). AllHold u.0 fs) (sym (PIs r.before o.3)) u.1))
+    ((within, s.requires.0.1), (u.0, subst (λ (fs : List (List ℕ)). AllHold u.0 fs) (sym (p_part_is r.before o.3)) u.1))
 
 returns : tie.Need-returns
 returns c b bs ss H =
     let r = c in
     let s = r in
-    c.other_from.ensures ∙ ap (λ (fs : List (List ℕ)). other_place (other s.args.k s.args.place (map terms fs))) (PIs r.before.before H)
+    c.other_from.ensures ∙ ap (λ (fs : List (List ℕ)). other_place (other s.args.k s.args.place (map terms fs))) (p_part_is r.before.before H)
 
 pub find_other_spec : {M : Type 1} → statement M
 find_other_spec =

@@ -106,7 +106,7 @@ inside r = bounds_inside (opened r) (bounds r) (top_read r).get2-top.ensures
 own_inside : (r : Reading) → at r < room (w r)
 own_inside r = let h = inside r in omega (arith, h.0, h.1, h.2)
 
--- ── the needs ──
+-- ── the goals ──
 get0-at-requires : tie.Need-get0-at-requires
 get0-at-requires c κs = search rules
 

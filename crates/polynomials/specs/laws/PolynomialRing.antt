@@ -9,7 +9,7 @@ use Prim.Native.Nat.{ℕ, zero, suc, ◌≤◌, Ordering, Fin}
 use Rattle.std.proofs.Math.Bridge.{le_prop}
 use Rattle.std.proofs.Math.Decide.{map_dec, ℕ_discrete}
 use Rattle.residues.specs.Field.{CommRing}
-use Rattle.residues.specs.laws.Ring.{cast_one, add_nil, nil_add, mul_one, one_mul, add_neg}
+use Rattle.residues.specs.laws.Ring.{cast_one, add_nil, nil_add, one_mul}
 use Rattle.residues.specs.laws.Residues.{Residues, cast_modulus}
 use Rattle.polynomials.specs.Poly.{Exponents, Poly, order, join, sum, difference, product}
 use Rattle.polynomials.specs.Canonical.{Canonical, Under}

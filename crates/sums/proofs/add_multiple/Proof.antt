@@ -5,7 +5,6 @@ use Prim.Native.Nat.{◌+◌, ◌-◌, ◌*◌, ◌%◌, ◌≤◌, ◌<◌}
 use native.Mathlib.Nat.{mod-lt}
 use native.Mathlib.Omega.{arith}
 use lib.ListN.{length, get_or, length-set}
-use borrow.Author.Tests.{ltb-true, ltb-false, eqb-true, eqb-false}
 use Rattle.residues.specs.Residue.{product, sum}
 use Rattle.polynomials.specs.Packed.{Fits}
 use Rattle.sums.proofs.MergeLaws.{Word, Head, Taken, fits_below, start, next_canonical, next_fits, front_canonical}

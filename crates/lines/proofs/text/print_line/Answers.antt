@@ -1,5 +1,5 @@
 -- Where the line fits, `room` leaves the text as it is.
-use Rattle.std.proofs.Common.{arith, ◌≡◌, ◌+◌, ◌≤◌, ℕ, List, length, take, sym, ◌∙◌, refl}
+use Rattle.std.proofs.Common.{arith, ◌≡◌, take}
 use Rattle.lines.proofs.TextLaws.{line_none, lined_on, lined_end, lined_whole}
 use Rattle.lines.proofs.text.print_line.Goals as goal
 

@@ -37,15 +37,3 @@ module _ (w : List ℕ) (i k : ℕ) (h : k + 1 ≡ i) (l : i ≤ length w) {n : 
 
   pub counted_more : (get_or w k 0 ≡ 0 → ⊥) → n + 1 ≡ nonzero (drop k w)
   counted_more z = let s : n + 1 ≡ suc n = omega arith in s ∙ sym (from_k ∙ ap (λ b. elim b as (λ b. ℕ) [ true ↦ n | false ↦ suc n ]) (ne_eqb (get_or w k 0) 0 z))
-
--- ── the line ──
-pub heading_systems : (steps count k : ℕ) {o : Outcome} → o ≡ Systems count → ◌≡◌ {A = Heading} (record { outcome = 0; steps = steps; value = count; nonzero = k }) (heading steps o k)
-heading_systems steps count k e = ap (λ (o : Outcome). heading steps o k) (sym e)
-
-pub heading_refused : (steps at k : ℕ) {why : Reason} {o : Outcome} {n : ℕ} → o ≡ Refused why at → n ≡ number why
-    → ◌≡◌ {A = Heading} (record { outcome = n; steps = steps; value = at; nonzero = k }) (heading steps o k)
-heading_refused steps at k e f = ap (λ (n : ℕ). record { outcome = n; steps = steps; value = at; nonzero = k }) f ∙ ap (λ (o : Outcome). heading steps o k) (sym e)
-
--- ── the shape ──
-pub shaped : {r : Job} {s : Shape} {i : Input} (w : List ℕ) → Shaped r w → r ≡ Next s i → s.table ≤ length w
-shaped w h e = rw e at h

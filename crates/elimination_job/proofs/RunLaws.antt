@@ -25,11 +25,3 @@ module _ (w work output work₁ output₁ : List ℕ) (limit filling : ℕ) (ew 
   headed count left eh ea ec el =
       eh ∙ ap₂ (λ (a : Answer) (k : ℕ). heading_of a k) ea (ec ∙ ap nonzero el ∙ cleared (length work₁))
       ∙ lengths (λ m n. heading_of (answer_of (eliminated w m n limit)) 0)
-
-  pub listed_after : {after : List ℕ} → after ≡ output_after (eliminated w (length work₁) (length output₁) limit) output₁
-      → after ≡ output_after (eliminated w (length work) (length output) limit) (replicate (length output) filling)
-  listed_after e =
-      e ∙ lengths (λ m n. output_after (eliminated w m n limit) output₁) ∙ ap (output_after (eliminated w (length work) (length output) limit)) eo
-
-  pub cleared_after : {after : List ℕ} → after ≡ replicate (length work₁) 0 → after ≡ replicate (length work) 0
-  cleared_after e = e ∙ lengths (λ m n. replicate m 0)

@@ -1,14 +1,11 @@
 -- Laws about numbers in decimal, and text that grows at its end.
-use Rattle.std.proofs.Common.{◌≡◌, refl, sym, ◌∙◌, ap, true, false, List, [], ◌∷◌, ◌++◌, append_assoc, ℕ, zero, suc, ◌+◌, ◌-◌, ◌*◌, ◌/◌, ◌%◌, ◌≤◌, ◌<◌, eqb, arith, add-one, length, take, drop, get_or, length-append, drop-cons, eq-eqb}
+use Rattle.std.proofs.Common.{◌≡◌, refl, sym, ◌∙◌, ap, true, false, List, [], ◌∷◌, ◌++◌, append_assoc, ℕ, zero, suc, ◌+◌, ◌-◌, ◌*◌, ◌/◌, ◌%◌, ◌≤◌, ◌<◌, eqb, arith, add-one, length, take, drop, get_or, drop-cons, eq-eqb}
 use native.Mathlib.Numerals.{sub-one}
 use borrow.Author.Tests.{ne_eqb}
 use Rattle.std.proofs.Math.ListN.{set}
-use Rattle.std.proofs.Math.Seq.{take_at, take-length, take-suc-set, drop-length, length-take-le}
+use Rattle.std.proofs.Math.Seq.{drop-length}
 use Rattle.std.proofs.lemmas.List.{drop-set}
-use Rattle.input.specs.declared.Input.{Input}
-use Rattle.lines.specs.declared.Turn.{Turn}
-use Rattle.lines.specs.declared.Turn.TheVariants.{Next, End}
-use Rattle.lines.specs.Text.{digits_of, decimal, rest_text, line_text, Ends}
+use Rattle.lines.specs.Text.{digits_of, decimal, rest_text, line_text}
 
 -- ── numbers ──
 -- The last digit is put first.
@@ -41,19 +38,6 @@ none_left zero n h = refl
 none_left (suc from) n {x} h =
     let z : eqb n 0 ≡ true = eq-eqb n 0 (h (omega arith)) in
     ap (λ b. elim b as (λ b. List ℕ) [ true ↦ [] | false ↦ digits_of from (n / 10) ++ ((48 + n % 10) ∷ []) ] ++ x) z
-
--- ── text ──
--- The bytes x were copied over the text's rest, of which y is what was not lent.
-pub copied : (text part x rest y : List ℕ) (end k : ℕ) → end ≤ length text → length x ≡ k
-    → part ≡ take (length x) x ++ drop (length x) rest → take (end + k) (take end text ++ (part ++ y)) ≡ take end text ++ x
-copied text part x rest y end k h e q =
-    let z = drop (length x) rest in
-    ap (λ (p : List ℕ). take (end + k) (take end text ++ p)) (ap (λ (p : List ℕ). p ++ y) (q ∙ ap (λ (p : List ℕ). p ++ z) (take-length x)) ∙ append_assoc x z y)
-    ∙ ap (take (end + k)) (sym (append_assoc (take end text) x (z ++ y)))
-    ∙ take_at (take end text ++ x) (z ++ y) (end + k) (length-append (take end text) x ∙ omega (arith, length-take-le end text h))
-
-pub stored : (text : List ℕ) (end b : ℕ) → end + 1 ≤ length text → take (end + 1) (set text end b) ≡ take end text ++ (b ∷ [])
-stored text end b h = rw (add-one end) (take-suc-set text end b (omega arith))
 
 -- ── lines ──
 -- The text x and what is left of a line, from number i on, are the whole.
@@ -101,12 +85,3 @@ unfolding line_text
 lined_whole text x [] s h e q = absurd (omega arith)
 lined_whole text {end} x (n ∷ ns) s h e q =
     q ∙ ap (λ (t : List ℕ). t ++ rest_text ns) (e ∙ ap (λ (k : ℕ). take k text ++ decimal n) s) ∙ append_assoc (take end text) (decimal n) (rest_text ns)
-
--- ── turns ──
--- The text that a job leaves ends within the buffer.
-module _ {r : Turn} {end : ℕ} (text : List ℕ) (h : Ends r text) where
-  pub ends_next : {i : Input} → r ≡ Next i end → end ≤ length text
-  ends_next e = rw e at h
-
-  pub ends_end : r ≡ End end → end ≤ length text
-  ends_end e = rw e at h

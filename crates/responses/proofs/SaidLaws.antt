@@ -17,9 +17,6 @@ use Rattle.responses.specs.Said.{records_text, said_of}
 abbrev pub Recorded : List ℕ → ℕ → List ℕ → ℕ → List ℕ → Type 0
 Recorded w n whole i x = x ++ records_text w i (n - i) ≡ whole
 
-pub recorded_first : (w : List ℕ) (n : ℕ) (x : List ℕ) → Recorded w n (x ++ records_text w 0 n) 0 x
-recorded_first w n x = let e : n - 0 ≡ n = omega arith in ap (λ (k : ℕ). x ++ records_text w 0 k) e
-
 next_line : (w : List ℕ) (i k : ℕ) → 0 < k → records_text w i k ≡ line_text (take 4 (drop (4 * i) w)) ++ records_text w (suc i) (k - 1)
 unfolding records_text
 next_line w i zero h = absurd (omega arith)

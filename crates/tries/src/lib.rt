@@ -19,6 +19,7 @@ pub struct Tried {
 }
 
 // Tries a point against both.
+#[tactic(auto, unfolding(crate::specs::Tried::tried))]
 fn try_both(table: &[u32], systems: &[u32], numbers: &[u32]) -> Tried
     ensures { result ≡ tried table.now systems.now numbers.now }
 {

@@ -1,6 +1,5 @@
-use Rattle.std.proofs.Common.{◌≡◌, ◌<◌, sym, ap, arith}
+use Rattle.std.proofs.Common.{◌≡◌, sym, ap, arith}
 use Rattle.polynomials.specs.Poly.{Poly}
-use Rattle.tables.specs.Words.{records}
 use Rattle.tables.specs.Read.{good, read_head}
 use Rattle.tables.specs.Solve.{checked}
 use Rattle.tables.specs.laws.Chains.{checked_good, checked_refused, next_inside, whole_records, triangle_chain}
@@ -27,12 +26,11 @@ returns-in-Refused c =
     (ap checked (led_refused a.table.now a.p a.n c.loop-j.last _ (checked_refused _ (sym c.in-Refused.ensures))))
 
 pub leader_at-k-requires : goal.leader_at-k-requires
-leader_at-k-requires c =
-    (
-      c.requires.0,
-      (next_inside c.args.table.now c.loop-j.at c.loop-j.i c.in-To.j (sym c.in-To.ensures)).1,
-      checked_good _ (sym c.in_default.ensures),
-    )
+leader_at-k-requires c = (
+  c.requires.0,
+  (next_inside c.args.table.now c.loop-j.at c.loop-j.i c.in-To.j (sym c.in-To.ensures)).1,
+  checked_good _ (sym c.in_default.ensures),
+)
 
 pub overflow_cast-result-then-k-last : goal.overflow_cast-result-then-k-last
 overflow_cast-result-then-k-last c =

@@ -133,7 +133,9 @@ fn run_jobs<C: CpuClock, R: Read, W: Write>(
     let mut end = 0;
     let mut turns = u64::MAX;
     while turns > 0 {
-        match run_job(clock, reader, out, bytes, rest, table, work, output, text, end)? {
+        match run_job(
+            clock, reader, out, bytes, rest, table, work, output, text, end,
+        )? {
             Turn::End(last) => {
                 return Ok(last);
             }

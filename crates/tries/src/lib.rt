@@ -88,7 +88,17 @@ pub fn run_all<R: Read, W: Write>(
     let mut last = end;
     let mut left = count;
     while 0 < left {
-        match run_one(reader, out, bytes, rest, table, systems, &mut numbers, text, last)? {
+        match run_one(
+            reader,
+            out,
+            bytes,
+            rest,
+            table,
+            systems,
+            &mut numbers,
+            text,
+            last,
+        )? {
             Turn::End(to) => {
                 return Ok(Turn::End(to));
             }

@@ -10,7 +10,7 @@ loop-i-preserved-then-words-i-ne0 c =
     let l = c.loop-i in
     record {
       within = omega arith;
-      counted = counted_more c.args.words.now l.i (l.i - 1) (omega arith) (omega arith) l.invariant.counted c.if-words-i-ne0.true
+      counted = counted_more c.args.words.now l.i (l.i - 1) (omega arith) (omega arith) l.invariant.counted c.if-words-i-ne0.true;
     }
 
 pub loop-i-preserved : goal.loop-i-preserved
@@ -18,5 +18,5 @@ loop-i-preserved c =
     let l = c.loop-i in
     record {
       within = omega arith;
-      counted = counted_zero c.args.words.now l.i (l.i - 1) (omega arith) (omega arith) l.invariant.counted c.if-words-i-ne0.false
+      counted = counted_zero c.args.words.now l.i (l.i - 1) (omega arith) (omega arith) l.invariant.counted c.if-words-i-ne0.false;
     }

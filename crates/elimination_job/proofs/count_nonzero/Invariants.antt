@@ -6,7 +6,7 @@ use Rattle.elimination_job.proofs.count_nonzero.Given as goal
 abbrev pub invariant-loop-i : goal.invariant-loop-i
 invariant-loop-i l = record {
   within : l.count + l.i ≤ length l.words;
-  counted : l.count ≡ nonzero (drop l.i l.words)
+  counted : l.count ≡ nonzero (drop l.i l.words);
 }
 
 abbrev pub decreases-loop-i : goal.decreases-loop-i

@@ -5,7 +5,7 @@ use Rattle.elimination_job.proofs.fill.Given as goal
 abbrev pub invariant-loop-i : goal.invariant-loop-i
 invariant-loop-i l = record {
   within : l.i ≤ length l.initial.words;
-  filled : l.words ≡ replicate l.i l.x ++ drop l.i l.initial.words
+  filled : l.words ≡ replicate l.i l.x ++ drop l.i l.initial.words;
 }
 
 abbrev pub decreases-loop-i : goal.decreases-loop-i

@@ -45,7 +45,7 @@ loop-r-preserved c =
     rw (c.step-r.ensures, c.loop-r.invariant.on_table) (record {
       on_table = refl;
       still = match_on a.table.now a.p a.n a.from a.first a.point.now a.zero c.loop-r.r.at c.loop-r.invariant.still more c.value_at-root.result is_value
-        (agree (eqb c.value_at-root.result 0) a.zero c.if-root-zero.false);
+          (agree (eqb c.value_at-root.result 0) a.zero c.if-root-zero.false);
     })
 
 pub returns : goal.returns

@@ -12,7 +12,7 @@ loop-i-preserved c =
     record {
       within = omega arith;
       near = omega (arith, e.near, length-take k (drop (4 * l.i) w));
-      recorded = recorded_on w c.args.n l.i k (take l.last l.text) c.loop-i-test.true (omega arith) l.invariant.recorded e.is
+      recorded = recorded_on w c.args.n l.i k (take l.last l.text) c.loop-i-test.true (omega arith) l.invariant.recorded e.is;
     }
 
 pub returns : goal.returns

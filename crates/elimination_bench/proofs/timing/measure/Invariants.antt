@@ -9,7 +9,7 @@ invariant-loop-left g l = record {
   few : l.batches ≤ 16;
   within : l.left ≤ l.batches;
   best : l.best ≤ 35184372088832;
-  total : l.total + 35184372088832 * l.left ≤ 35184372088832 * l.batches
+  total : l.total + 35184372088832 * l.left ≤ 35184372088832 * l.batches;
 }
 
 abbrev pub decreases-loop-left : goal.decreases-loop-left

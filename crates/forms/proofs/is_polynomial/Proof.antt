@@ -4,7 +4,6 @@ use mathlib.Core.Logic.{⊎_elim}
 use Prim.Native.Nat.{◌+◌, ◌-◌, ◌%◌}
 use native.Mathlib.Omega.{arith}
 use borrow.Author.Rules.{rules}
-use borrow.Author.Tests.{leb-true, leb-false}
 use lib.ListN.{length, drop}
 use Rattle.polynomials.specs.Packed.{terms}
 use Rattle.polynomials.specs.Working.{is_canonical, is_held}
@@ -82,7 +81,7 @@ returns-then-f-i c =
     sym
     (sym c.loop-i.invariant.2
     ∙ no_fall c.args.p f i (omega arith) (omega arith)
-    (c.shared_slice_known-then-i-f-1.given (i + 1)).fits (c.shared_slice_known-then-i-f-1.given (i + 3)).fits (leb-true _ _ c.if-f-i.true))
+    (c.shared_slice_known-then-i-f-1.given (i + 1)).fits (c.shared_slice_known-then-i-f-1.given (i + 3)).fits c.if-f-i.true)
 
 overflow_add-i-in-loop-i : tie.Need-overflow_add-i-in-loop-i invariant-loop-i decreases-loop-i
 overflow_add-i-in-loop-i c = search rules
@@ -100,8 +99,8 @@ loop-i-preserved c =
       inv.1,
       ⊎_elim
           (λ w. sym (passed_falling p f i (omega arith) c.if-f-i-eq0.false c.if-p-f.false (omega (arith, w.if-i-f.true))
-          (w.shared_slice_known-then-i-f-1.given (i + 1)).fits (w.shared_slice_known-then-i-f-1.given (i + 3)).fits (leb-false _ _ w.if-f-i.false)) ∙ inv.2)
-          (λ w.if-i-f. sym (passed_last p f i (omega arith) c.if-f-i-eq0.false c.if-p-f.false w.if-i-f.false) ∙ inv.2)
+          (w.shared_slice_known-then-i-f-1.given (i + 1)).fits (w.shared_slice_known-then-i-f-1.given (i + 3)).fits w.if-f-i.false) ∙ inv.2)
+          (λ w. sym (passed_last p f i (omega arith) c.if-f-i-eq0.false c.if-p-f.false w.if-i-f.false) ∙ inv.2)
           c.else-i-f.branch-raw,
     )
 

@@ -8,16 +8,7 @@ use borrow.Author.Tests.{eq-eqb, ne_eqb}
 use lib.Dec.{eqb}
 use lib.ListN.{length, drop, get_or}
 use lib.Seq.{drop-cons, drop-length}
-use Rattle.tables.specs.Reason.{number}
-use Rattle.tables.specs.declared.Reason.{Reason}
-use Rattle.run.specs.declared.Outcome.{Outcome}
-use Rattle.run.specs.declared.Outcome.TheVariants.{Systems, Refused}
-use Rattle.elimination_job.specs.declared.Heading.{Heading}
-use Rattle.elimination_job.specs.declared.Shape.{Shape}
-use Rattle.elimination_job.specs.declared.Job.{Job}
-use Rattle.elimination_job.specs.declared.Job.TheVariants.{Next}
-use Rattle.elimination_job.specs.Heading.{nonzero, heading, Shaped}
-use Rattle.input.specs.declared.Input.{Input}
+use Rattle.elimination_job.specs.Heading.{nonzero}
 
 -- ── words that are not zero ──
 pub none_counted : (w : List ℕ) → 0 ≡ nonzero (drop (length w) w)

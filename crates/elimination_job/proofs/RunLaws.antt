@@ -3,7 +3,7 @@ use mathlib.Core.Path.{◌≡◌, refl, ◌∙◌, ap, ap₂}
 use mathlib.Core.List.{List}
 use Prim.Native.Nat.{ℕ, zero, suc}
 use lib.ListN.{length, replicate, length-replicate}
-use Rattle.rules.specs.Eliminate.{eliminated, output_after}
+use Rattle.rules.specs.Eliminate.{eliminated}
 use Rattle.run.specs.declared.Answer.{Answer}
 use Rattle.delivery.specs.Answer.{answer_of}
 use Rattle.elimination_job.specs.declared.Heading.{Heading}

@@ -1,12 +1,12 @@
 -- The text of an answer, and of the list in the output, is that of the elimination; the other buffers are as `Responded` says.
 use mathlib.Core.Path.{◌≡◌, refl, sym, ◌∙◌, ap, ap₂}
-use mathlib.Core.Bool.{Bool, true, false, not, ◌||◌, true≢false}
+use mathlib.Core.Bool.{Bool, true, false, not, ◌||◌}
 use mathlib.Core.List.{List, [], ◌∷◌, ◌++◌}
-use Prim.Native.Nat.{ℕ, zero, suc, ◌+◌, ◌*◌, ◌/◌, ◌%◌, ◌≤◌, ◌<◌}
+use Prim.Native.Nat.{ℕ, zero, suc, ◌+◌, ◌*◌, ◌%◌, ◌≤◌, ◌<◌}
 use native.Mathlib.Omega.{arith}
 use borrow.Author.Tests.{lt-ltb, le-ltb, eq-eqb, ne_eqb}
 use lib.Dec.{eqb, ltb}
-use lib.ListN.{length, take, drop, replicate, length-drop, take-append-drop}
+use lib.ListN.{length, take, drop, length-drop}
 use lib.Seq.{take-append-le, drop-append-le}
 use Rattle.tables.specs.Read.{System, Listing}
 use Rattle.rules.specs.Written.{list_records}
@@ -21,7 +21,6 @@ use Rattle.decoding.specs.Words.{words_of}
 use Rattle.lines.specs.Text.{line_text}
 use Rattle.responses.specs.Said.{records_text, said_of, said}
 use Rattle.responses.specs.Response.{answer_text, too_long_or_broken, response}
-use Rattle.responses.specs.Responded.{Responded}
 
 -- The lines of the first records say nothing of what follows.
 records_alone : (w rest : List ℕ) (i n : ℕ) → 4 * (i + n) ≤ length w → records_text (w ++ rest) i n ≡ records_text w i n

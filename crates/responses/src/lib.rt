@@ -44,6 +44,9 @@ fn put_answer(text: &mut [u8], answer: Answer, output: &[u32]) -> usize
     }
 }
 
+// The bytes of 4,096 records.
+const LONGEST: usize = 65536;
+
 // The text for the bytes read. More bytes than 4,096 records have, or a broken last word, are refusal 1. What stands in `text` behind the text is free,
 // as in `lines::text`: `triangularize` writes the text alone.
 pub fn respond(
@@ -58,7 +61,7 @@ pub fn respond(
     ensures responded { Responded bytes.now words.old work.old output.old words.new work.new output.new }
 {
     let refused = [1, 0, 0];
-    if 65536 < bytes.len() {
+    if LONGEST < bytes.len() {
         moves::clear(work);
         return text::put_line(text, 0, &refused);
     }

@@ -15,6 +15,7 @@ use std::io;
 use std::io::{Read, Write};
 
 // The line of a job.
+#[tactic(auto, using(crate::proofs::Laws::line_of_placing), unfolding(crate::specs::Line::line))]
 fn answer(kind: u32, table: &[u32], numbers: &[u32]) -> Line
     ensures { result ≡ line kind table.now numbers.now }
 {

@@ -2,11 +2,11 @@ use Rattle.std.proofs.Common.{arith, ◌/◌, length, take, sym}
 use Rattle.responses.proofs.ResponseLaws.{too_long, broken, whole_words, refused, answered}
 use Rattle.responses.proofs.respond.Goals as goal
 
-pub returns-then-bytes-gt65536-clause-response_made : goal.returns-then-bytes-gt65536-clause-response_made
-returns-then-bytes-gt65536-clause-response_made c =
+pub returns-then-bytes-gt-LONGEST-clause-response_made : goal.returns-then-bytes-gt-LONGEST-clause-response_made
+returns-then-bytes-gt-LONGEST-clause-response_made c =
     let b = c.args.bytes.now in
     let e = c.put_line.ensures in
-    (omega (arith, e.near), refused b (too_long b c.if-bytes-gt65536.true) e.is)
+    (omega (arith, e.near), refused b (too_long b c.if-bytes-gt-LONGEST.true) e.is)
 
 pub returns-then-bytes-ne0-clause-response_made : goal.returns-then-bytes-ne0-clause-response_made
 returns-then-bytes-ne0-clause-response_made c =
@@ -22,6 +22,6 @@ returns-clause-response_made c =
     let p = c.put_answer.ensures in (
       p.0,
       answered b (take (length b / 4) c.decode.new.words) a.output.now (length a.work.now) (length a.output.now)
-          (whole_words b c.if-bytes-gt65536.false c.if-bytes-ne0.false) c.decode.ensures.words_after (sym c.requires.1) (sym c.requires.2)
+          (whole_words b c.if-bytes-gt-LONGEST.false c.if-bytes-ne0.false) c.decode.ensures.words_after (sym c.requires.1) (sym c.requires.2)
           e.answer e.output_is p.1,
     )

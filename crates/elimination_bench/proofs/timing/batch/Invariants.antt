@@ -1,4 +1,3 @@
-use Rattle.std.proofs.Common.{ℕ}
 use Rattle.elimination_bench.proofs.timing.batch.Given as goal
 
 abbrev pub decreases-loop-left : goal.decreases-loop-left

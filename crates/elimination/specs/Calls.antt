@@ -1,5 +1,5 @@
 -- Demands 1 and 2 as claims about calls of `eliminate`, each known by its contract alone (`Eliminates`): whatever is refused has its cause and
--- loses nothing, and what is accepted depends on the table alone. They are drawn from the claims on the definitions in rules/specs/Claims.antt.
+-- loses nothing, and what is accepted depends on the table alone. They are drawn from the claims on the definitions in rules/proofs/Claims.antt.
 use Rattle.std.specs.Prelude.{◌≡◌, refl, ◌↔◌, List, ◌++◌, ℕ, ◌≤◌, length, take, drop}
 use Rattle.std.proofs.Common.{sym, ◌∙◌, ap, arith, take_at, drop_at}
 use Rattle.tables.specs.Read.{System}

@@ -1,4 +1,4 @@
--- What the choice of a pivot goes by, with an example of each tie.
+-- What the choice of a pivot goes by. `proofs/Examples.antt` has an example of each tie.
 use Rattle.std.specs.Prelude.{◌≡◌, ◌⊎◌, ℕ, ◌<◌, length}
 use Rattle.polynomials.specs.Division.{degree}
 use Rattle.rules.specs.Branch.{Chosen}

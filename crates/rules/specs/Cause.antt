@@ -1,5 +1,5 @@
 -- What a refusal of an elimination comes from. "A job that meets a limit stops with that limit's number, and no number comes without its
--- cause" (demand 1): the claims `refused_cause` and `cause_refuses` of Claims.antt, and of a step `stopped_cause` and `cause_stops`. Quoted
+-- cause" (demand 1): the claims `refused_cause` and `cause_refuses` of proofs/Claims.antt, and of a step `stopped_cause` and `cause_stops`. Quoted
 -- are document 01's "Eliminate" and "Room".
 use Rattle.std.specs.Prelude.{◌≡◌, ◌⊎◌, List, [], ◌∷◌, ℕ, zero, suc, ◌+◌, ◌/◌, ◌≤◌, ◌<◌}
 use Rattle.polynomials.specs.Poly.{Poly}

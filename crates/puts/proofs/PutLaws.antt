@@ -5,16 +5,16 @@ use mathlib.Core.List.{List, [], ◌∷◌, ◌++◌, append_assoc}
 use Prim.Native.Nat.{ℕ, ◌+◌, ◌-◌, ◌≤◌}
 use native.Mathlib.Omega.{arith}
 use lib.ListN.{length, take, drop, length-append, take-append-drop}
-use Rattle.records.specs.Records.{Rec}
+use Rattle.records.specs.Records.{Rec, view}
 use Rattle.stored.specs.Stored.{member, skip_to, polys_at}
 use Rattle.branches.specs.Words.{put_p, put_q, put_q_before, is_zero, is_one, unless}
-use Rattle.branches.specs.Area.{Stored, Held, Leaves, with_open, put_into_p, put_into_q}
+use Rattle.branches.specs.Area.{Stored, Held, HeldIn, Leaves, with_open, put_into_p, put_into_q}
 use Rattle.branches.specs.declared.Open.{Open}
 use Rattle.branches.specs.Open.{open_of}
 use Rattle.branches.proofs.AreaLaws.{place, at_of, parted_q}
 use Rattle.branches.proofs.OpenLaws.{q_is, in_q, skip_q, skip_q_inside}
-use Rattle.places.specs.Places.{More, Counts}
-use Rattle.places.proofs.PlaceLaws.{leaves_held}
+use Rattle.places.specs.Places.{More, Counts, PutAt}
+use Rattle.places.proofs.PlaceLaws.{leaves_held, counts_are}
 
 pub leaves_same : {v : List Rec} {most : ℕ} {b : Stored} {bs ss : List Stored} → Held v most (with_open b bs ss) → (c : Stored) → b ≡ c
     → Leaves most (with_open b bs ss) (with_open c bs ss) true v
@@ -112,3 +112,20 @@ module _ (left : ℕ) (f : List ℕ) (b : Stored) where
         let old = length-append xs ys in
         let whole = ap length (take-append-drop (seen left b) b.Q) in
         record { in_p = n.in_p; in_q = omega (arith, n.in_q); in_t = n.in_t }
+
+-- What is new goes in behind the members of Q that are looked at.
+module _ {w : List ℕ} {b : Stored} {bs ss : List Stored} (H : HeldIn w (with_open b bs ss)) {o : Open} (e : o ≡ open_of b bs)
+    {from to : ℕ} (s : from ≡ skip_to (view w) o.first o.p) (left : ℕ) (f : List ℕ) where
+  unfoldable pub put_in_q : is_one f ≡ false → member f (take (seen left b) b.Q) ≡ false → to ≡ skip_to (view w) from (o.q - left)
+      → PutAt w to f o.p (o.q + 1) o.t (put_into_q left f b) bs ss
+  put_in_q one found there =
+      let new = put_q_new f (take (seen left b) b.Q) one found in
+      record {
+        b = b;
+        held = H;
+        xs = b.P ++ take (seen left b) b.Q;
+        ys = drop (seen left b) b.Q ++ b.T;
+        adds = more_q left f b new;
+        there = there ∙ behind_seen H e s left;
+        counts = counts_q left f b new (counts_are H e);
+      }

@@ -34,7 +34,8 @@ pub fn put_q(w: &mut [u32], left: usize, f: &[u64]) -> bool
         Leaves (capacity w.old) (with_open b bs ss) (with_open (put_into_q left f.now b) bs ss) result (view w.new)) }
     ensures outside_stays { outside w.new ≡ outside w.old }
 {
-    if branches::is_one(f) {
+    let dropped = branches::is_one(f);
+    if dropped {
         return true;
     }
     let b = branches::open_branch(w);

@@ -9,7 +9,10 @@ use lib.Dec.{leb}
 use lib.ListN.{length, take}
 use lib.Seq.{take_all}
 use Rattle.polynomials.specs.Bounds.{at_most, over}
-use Rattle.tables.specs.Read.{Input}
+use Rattle.polynomials.specs.Poly.{Poly}
+use Rattle.tables.specs.Read.{Input, good, read_table}
+use Rattle.tables.specs.laws.Chains.{readable_words}
+use Rattle.tables.specs.laws.Accepted.{table_read}
 use Rattle.tables.specs.declared.Reason.TheVariants.{Room}
 use Rattle.rules.specs.Branch.{Branch}
 use Rattle.rules.specs.Room.{State, branch_size, branches_size, systems_size, live}
@@ -24,12 +27,25 @@ use Rattle.representation.specs.Ready.{limits_in}
 use Rattle.loading.specs.Started.{put_heads, Alone, Filled, first_put, Started}
 use Rattle.loading.proofs.FillLaws.{size_put_heads, put_heads_none}
 
+-- An accepted table has a header.
+pub table_words : (w : List ℕ) → (t : Input) × (read_table w ≡ good t) → 4 ≤ length w
+table_words w a = readable_words (table_read w a.0 a.1).readable
+
 -- ── the branch ──
 abbrev pub no_polynomial : Branch
 no_polynomial = record { P = []; Q = []; T = [] }
 
 pub alone_empty : {p most : ℕ} {v : List Rec} → Held v most (with_open empty [] []) → Alone p most no_polynomial v
 alone_empty {p = p} h = record { stored = empty; held = h; sound = empty_sound p; monic = tt; nonzero = tt; is = refl }
+
+-- The room of the words as they are now, m, is the room that there was at entry, most.
+module _ {p m most : ℕ} (same : m ≡ most) where
+  pub alone_in : {c : Branch} {v : List Rec} → Alone p most c v → Alone p m c v
+  alone_in {c = c} {v} = subst (λ (n : ℕ). Alone p n c v) (sym same)
+
+  pub filled_in : {in_q : Bool} {fs : List Poly} {c : Branch} {r : Bool} {u v : List Rec} → (Alone p m c u → Filled p m in_q fs c r v)
+      → Alone p most c u → Filled p most in_q fs c r v
+  filled_in {in_q = in_q} {fs} {c} {r} {u} {v} = subst (λ (n : ℕ). Alone p n c u → Filled p n in_q fs c r v) same
 
 -- With P's chain put.
 abbrev pub with_zeros : ℕ → Input → Branch

@@ -87,6 +87,7 @@ fn put_heads(
 }
 
 // The first branch of an accepted table, whatever the words of the work area were; whether there is room. r is scratch.
+#[tactic(auto, using(crate::proofs::StartLaws::table_words))]
 pub fn start(table: &[u32], work: &mut [u32], r: &mut [u64]) -> bool
     requires table_value { (t : Input) × (read_table table.now ≡ good t) }
     requires in_bounds { 512 ≤ length r.old }

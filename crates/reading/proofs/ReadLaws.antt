@@ -19,7 +19,7 @@ use Rattle.tables.specs.Words.{word, records, is_whole}
 use Rattle.tables.specs.Read.{Read, read_heads, read_header, read_table}
 use Rattle.tables.specs.Solve.{checked, reading}
 use Rattle.tables.specs.Walk.{accepted}
-use Rattle.tables.specs.laws.Chains.{checked_good, checked_refused, header_passes, header_refuses}
+use Rattle.tables.specs.laws.Chains.{checked_good, checked_refused, header_passes, header_refuses, header_readable, readable_words}
 
 -- ── the header ──
 module _ (w : List ℕ) where
@@ -55,6 +55,10 @@ module _ (w : List ℕ) where
   pub good_header : is_whole w ≡ true → is_modulus (word w 0 0) ≡ true → 1 ≤ word w 0 1 → word w 0 1 ≤ 8 → Good ≡ checked (read_header w accepted)
   unfolding read_header
   good_header e h l u = rw (e, h, le-leb 1 (word w 0 1) l, le-leb (word w 0 1) 8 u)
+
+-- An accepted header has its four words.
+pub header_words : (w : List ℕ) → checked (read_header w accepted) ≡ Good → 4 ≤ length w
+header_words w h = readable_words (header_readable w h)
 
 -- ── a table ──
 module _ (w : List ℕ) where

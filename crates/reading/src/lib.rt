@@ -62,6 +62,7 @@ pub fn check_heads(table: &[u32], p: u32, n: u32, from: usize, first: u32) -> Ch
 }
 
 // Whether the table is accepted, or the first broken rule in reading order. One pass over the chains.
+#[tactic(auto, using(crate::proofs::ReadLaws::header_words))]
 pub fn read_table(table: &[u32]) -> Reading
     ensures { result ≡ reading (read_table table.now) }
 {

@@ -22,7 +22,7 @@ use Rattle.tables.specs.Solve.{checked}
 use Rattle.tables.specs.Walk.{accepted, next}
 use Rattle.systems.specs.Count.{counted}
 use Rattle.tables.specs.Admissible.{Admissible}
-use Rattle.tables.specs.laws.Chains.{header_readable, readable_words, header_passes, header_refuses, next_end, next_to, next_astray, term_read}
+use Rattle.tables.specs.laws.Chains.{header_passes, header_refuses, next_end, next_to, next_astray, term_read}
 use Rattle.tables.specs.laws.Chains.{cons, Enough, whole_chain, chain_ends, chain_strays, chain_leads, read_led, systems_chain}
 use Rattle.tables.specs.laws.Linked.{chain_end, chain_next, terms_left}
 use Rattle.tables.specs.laws.Accepted.{head_admissible}
@@ -128,10 +128,6 @@ counted_good (refused why at) k e = let z : ◌≡◌ {A = ℕ} 0 1 = cc in absu
 counted_refused : (r : Read (List System)) {why : Reason} {at : ℕ} → counted r ≡ Refused why at → r ≡ refused why at
 counted_refused (good ss) e = let z : ◌≡◌ {A = ℕ} 0 1 = cc in absurd (omega arith)
 counted_refused (refused why at) e = cc
-
--- A table whose header is accepted has four words.
-pub header_words : (w : List ℕ) → checked (read_header w accepted) ≡ Good → 4 ≤ length w
-header_words w h = readable_words (header_readable w h)
 
 module _ (w : List ℕ) where
   abbrev pub listed : Read (List System)

@@ -106,7 +106,7 @@ fn check_systems(table: &[u32], p: u32, n: u32) -> Counted
 }
 
 // Whether the list is accepted.
-#[tactic(auto, using(crate::proofs::SystemLaws::header_words))]
+#[tactic(auto, using(reading::proofs::ReadLaws::header_words))]
 pub fn check_list(table: &[u32]) -> Checked
     ensures { result ≡ checked (read_list table.now) }
 {

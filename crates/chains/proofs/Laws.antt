@@ -85,6 +85,11 @@ polys_at_turn v i k k' e = ap (polys_at v i) e
 pub skip_to_turn : (v : List Rec) (i k k' : ℕ) → k ≡ suc k' → skip_to v i k ≡ skip_to v (i + 1 + size_at v i) k'
 skip_to_turn v i k k' e = ap (skip_to v i) e
 
+-- A turn's polynomial lies before the end.
+pub turn_inside : (v : List Rec) (i left end : ℕ) → 0 < left → skip_to v i left ≡ end → i + 1 + size_at v i ≤ end
+turn_inside v i zero end h e = absurd (omega arith)
+turn_inside v i (suc left) end h e = omega (arith, skip_le v (i + 1 + size_at v i) left)
+
 pub length_polys_at : (v : List Rec) (i k : ℕ) → length (map terms (polys_at v i k)) ≡ k
 length_polys_at v i zero = refl
 length_polys_at v i (suc k) = ap suc (length_polys_at v (i + 1 + size_at v i) k)

@@ -27,6 +27,7 @@ fn write_terms(w: &[u32], from: usize, out: &mut [u32], to: usize)
 }
 
 // Writes the k polynomials from record `from` of the work area on as a chain of heads from record `to` on, each followed by its terms.
+#[tactic(auto, using(crate::proofs::Laws::turn_inside, stored::proofs::Laws::skip_le))]
 pub fn write_heads(w: &[u32], from: usize, k: usize, out: &mut [u32], to: usize)
     requires k_bound { skip_to (view w.now) from k ≤ room w.now }
     requires from_in_bounds { (4 * (to + (skip_to (view w.now) from k - from)) ≤ length out.old) × (to + (skip_to (view w.now) from k - from) ≤ 65536) }

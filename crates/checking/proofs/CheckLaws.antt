@@ -1,14 +1,14 @@
 -- What the code tests of a head and its terms, as the definitions of reading say it.
-use mathlib.Core.Path.{◌≡◌, refl, sym, ◌∙◌, ap, subst}
+use mathlib.Core.Path.{◌≡◌, refl, sym, ◌∙◌, ap, ap₂, subst}
 use mathlib.Core.Logic.{◌≢◌}
-use mathlib.Core.Bool.{Bool, true, false, not, ◌&&◌, ◌||◌}
+use mathlib.Core.Bool.{Bool, true, false, not, ◌&&◌, ◌||◌, and-false}
 use mathlib.Core.List.{List, ◌∷◌}
 use Prim.Native.Nat.{ℕ, zero, suc, ◌+◌, ◌*◌, ◌/◌, ◌%◌, ◌^◌, ◌≤◌, ◌<◌, Ordering}
 use native.Mathlib.Nat.{pow-succ', div-one, div-div-eq-div-mul}
 use native.Mathlib.Numerals.{add-one}
 use native.Mathlib.Omega.{arith}
 use native.Mathlib.Decide.{ℕ_discrete}
-use borrow.Author.Tests.{lt-ltb, le-leb, lt-leb, eq-eqb, ne_eqb, eqb-true, eqb-false}
+use borrow.Author.Tests.{lt-ltb, le-ltb, le-leb, lt-leb, eq-eqb, ne_eqb, eqb-true, eqb-false}
 use mir.Syntax.{w32}
 use mir.Val.{Fits}
 use lib.Dec.{eqb, leb, ltb}
@@ -67,7 +67,7 @@ unfolding has_above not_zero bytes
 above_all n m e = rw e
 
 -- "Not below the term before", of monomials as numbers.
-pub falls_before : (m e last : ℕ) → e < 2 ^ 64 → last < 2 ^ 64 → not_below (bytes 8 e) (before m last) ≡ ltb 0 m && leb last e
+falls_before : (m e last : ℕ) → e < 2 ^ 64 → last < 2 ^ 64 → not_below (bytes 8 e) (before m last) ≡ ltb 0 m && leb last e
 unfolding not_below
 falls_before zero e last h k = refl
 falls_before (suc m) e last h k = go (order (bytes 8 e) (bytes 8 last)) (subst (λ (o : Ordering). Says o e last) (sym (order_bytes 8 e last h k)) (compare_says e last))
@@ -83,23 +83,45 @@ module _ (w : List ℕ) (p n m last i : ℕ) where
   unfolding read_term
   refused_terms h = rw (le-leb 256 m h)
 
-  pub refused_coefficient : m < 256 → eqb (word w i 0) 0 || leb p (word w i 0) ≡ true → Refused Coefficient i ≡ checked (read_term w p n m (before m last) i)
+  refused_coefficient : m < 256 → eqb (word w i 0) 0 || leb p (word w i 0) ≡ true → Refused Coefficient i ≡ checked (read_term w p n m (before m last) i)
   unfolding read_term
   refused_coefficient h c = rw (lt-leb 256 m h, c)
 
+  pub refused_zero : m < 256 → word w i 0 ≡ 0 → Refused Coefficient i ≡ checked (read_term w p n m (before m last) i)
+  refused_zero h z = refused_coefficient h (rw (eq-eqb (word w i 0) 0 z))
+
+  pub refused_residue : m < 256 → word w i 0 ≢ 0 → p ≤ word w i 0 → Refused Coefficient i ≡ checked (read_term w p n m (before m last) i)
+  refused_residue h s l = refused_coefficient h (rw (ne_eqb (word w i 0) 0 s, le-leb p (word w i 0) l))
+
   -- The term's monomial is e.
-  module _ (e : ℕ) (few : m < 256) (some : word w i 0 ≢ 0) (residue : word w i 0 < p) (packed : bytes 8 e ≡ exponents (word w i 1) (word w i 2)) where
+  module _ (e u v : ℕ) (packed : bytes 8 e ≡ exponents u v) (high : u ≡ word w i 1) (low : v ≡ word w i 2) (few : m < 256) (some : word w i 0 ≢ 0) (residue : word w i 0 < p) where
+    is : bytes 8 e ≡ exponents (word w i 1) (word w i 2)
+    is = packed ∙ ap₂ exponents high low
+
     pub refused_exponent : has_above n (bytes 8 e) ≡ true → Refused Exponent i ≡ checked (read_term w p n m (before m last) i)
     unfolding read_term
-    refused_exponent h = rw (lt-leb 256 m few, ne_eqb (word w i 0) 0 some, lt-leb p (word w i 0) residue, ← packed, h)
+    refused_exponent h = rw (lt-leb 256 m few, ne_eqb (word w i 0) 0 some, lt-leb p (word w i 0) residue, ← is, h)
 
-    pub refused_order : has_above n (bytes 8 e) ≡ false → not_below (bytes 8 e) (before m last) ≡ true → Refused Order i ≡ checked (read_term w p n m (before m last) i)
+    refused_not_below : has_above n (bytes 8 e) ≡ false → not_below (bytes 8 e) (before m last) ≡ true → Refused Order i ≡ checked (read_term w p n m (before m last) i)
     unfolding read_term
-    refused_order h b = rw (lt-leb 256 m few, ne_eqb (word w i 0) 0 some, lt-leb p (word w i 0) residue, ← packed, h, b)
+    refused_not_below h b = rw (lt-leb 256 m few, ne_eqb (word w i 0) 0 some, lt-leb p (word w i 0) residue, ← is, h, b)
 
-    pub good_term : has_above n (bytes 8 e) ≡ false → not_below (bytes 8 e) (before m last) ≡ false → Good ≡ checked (read_term w p n m (before m last) i)
+    good_term : has_above n (bytes 8 e) ≡ false → not_below (bytes 8 e) (before m last) ≡ false → Good ≡ checked (read_term w p n m (before m last) i)
     unfolding read_term
-    good_term h b = rw (lt-leb 256 m few, ne_eqb (word w i 0) 0 some, lt-leb p (word w i 0) residue, ← packed, h, b)
+    good_term h b = rw (lt-leb 256 m few, ne_eqb (word w i 0) 0 some, lt-leb p (word w i 0) residue, ← is, h, b)
+
+    module _ (h : has_above n (bytes 8 e) ≡ false) (word_e : e < 2 ^ 64) (word_last : last < 2 ^ 64) where
+      pub refused_order : 0 < m → last ≤ e → Refused Order i ≡ checked (read_term w p n m (before m last) i)
+      refused_order s l = refused_not_below h (falls_before m e last word_e word_last ∙ rw (lt-ltb 0 m s, le-leb last e l))
+
+      pub good_first : m ≡ 0 → Good ≡ checked (read_term w p n m (before m last) i)
+      good_first z = good_term h (falls_before m e last word_e word_last ∙ rw (le-ltb 0 m (omega arith)))
+
+      pub good_below : e < last → Good ≡ checked (read_term w p n m (before m last) i)
+      good_below l = good_term h (falls_before m e last word_e word_last ∙ rw (lt-leb last e l, and-false (ltb 0 m)))
+
+-- What each test of a term answers.
+pub ruleset term_tests = (refused_terms, refused_zero, refused_residue, refused_exponent, refused_order, good_first, good_below)
 
 -- The term in record j was accepted: one term more is behind.
 pub terms_on : (w : List ℕ) (p n m last : ℕ) {at i j : ℕ} {whole : Checked} (behind link : ℕ) → Reached (terms_chain w p n) (m, before m last) at i whole

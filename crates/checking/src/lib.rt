@@ -22,6 +22,7 @@ fn has_above(m: u64, n: u32) -> bool
 }
 
 // The term in record i, with m terms of its polynomial before it, the last of them of monomial `last`.
+#[tactic(auto, using(crate::proofs::CheckLaws::term_tests))]
 fn check_term(table: &[u32], p: u32, n: u32, m: u32, last: u64, i: usize) -> Checked
     requires { Readable table.now p n × (i < records table.now) }
     ensures { result ≡ checked (read_term table.now p n m (before m last) i) }

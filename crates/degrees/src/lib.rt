@@ -40,6 +40,7 @@ fn union(f: &[u64]) -> u64
 }
 
 // Whether the degrees in v(k+1) sum to over 255. No exponent of u is below a degree of f, and none of v below one of g: mostly these tell.
+#[tactic(auto, using(polynomials::specs::laws::Packed::byte_small, polynomials::specs::laws::Bounds::degree_small))]
 fn sum_over(f: &[u64], g: &[u64], u: u64, v: u64, k: u32) -> bool
     requires k_bound { (k < 8) × Pairs f.now × (degree k (terms f.now) ≤ get_or (bytes 8 u) k 0) }
     requires pairs { Pairs g.now × (degree k (terms g.now) ≤ get_or (bytes 8 v) k 0) }

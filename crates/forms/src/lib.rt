@@ -7,6 +7,7 @@ ghost use Rattle.polynomials.specs.Packed.{terms};
 ghost use Rattle.polynomials.specs.Working.{Pairs, is_held};
 
 // Whether f holds a polynomial: at most 256 terms that strictly fall, with coefficients 1 to p - 1.
+#[tactic(auto, using(crate::proofs::HeldLaws::held_tests))]
 pub fn is_polynomial(p: u64, f: &[u64]) -> bool
     ensures { result ≡ is_held p f.now }
 {

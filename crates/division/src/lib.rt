@@ -46,6 +46,7 @@ pub fn round(
 }
 
 // i times f, in the first words of x. The initial is 1 in many divisions: then f is copied.
+#[tactic(auto, using(crate::proofs::RoundLaws::copy_forms))]
 fn times_initial(p: u64, i: &[u64], f: &[u64], x: &mut [u64], z: &mut [u64]) -> Formed
     requires le_p { (1 ≤ p) × (p < 2147483648) }
     requires holds { Holds p i.now }

@@ -4,7 +4,6 @@ use mathlib.Core.Logic.{◌≢◌, ◌⊎◌, ⊎_elim}
 use mathlib.Core.List.{List, [], ◌∷◌}
 use mathlib.Core.Bool.{Bool, true, false}
 use Prim.Native.Nat.{ℕ, ◌≤◌, ◌<◌}
-use native.Mathlib.Nat.{mul-le-mul_right}
 use native.Mathlib.Omega.{arith}
 use lib.ListN.{length, get_or}
 use Rattle.polynomials.specs.Poly.{Poly, product}
@@ -25,9 +24,6 @@ module _ (a b : ℕ) where
   pub lent_exchanged : (x : ℕ) → lent_for_product a b ≤ x → lent_for_product b a ≤ x
   lent_exchanged x h = omega arith
 
-  pub row_lent : (x : ℕ) → 2 ≤ a → b ≤ 512 → lent_for_product a b ≤ x → b ≤ x
-  row_lent x h k l = omega (arith, mul-le-mul_right b h)
-
   -- A buffer too short for the gathering has room for any result.
   pub short_lent : (m n : ℕ) → (m < room_for a b) ⊎ (n < room_for a b) → (lent_for_product a b ≤ m) × (lent_for_product a b ≤ n) → 512 ≤ m
   short_lent m n short l = ⊎_elim (λ (h : m < room_for a b). omega (arith, l)) (λ (h : n < room_for a b). omega (arith, l)) short
@@ -40,10 +36,14 @@ module _ (p : ℕ) (f g : List ℕ) {D : Type 0} (asked : Factors p f g D) (sing
   pub single_asks : (r : ℕ) → length g ≤ r → Adds p (get_or f 0 0) (get_or f 1 0) g [] r
   single_asks r h = asks_row p f g asked only_place (rows_none p f g asked) r (omega arith)
 
-  pub single_formed : (x : List ℕ) (n : ℕ) → Written (row p f g 0 1 []) n x → Forms (tested standard (product p (terms f) (terms g))) (Words n) x
+  single_formed : (x : List ℕ) (n : ℕ) → Written (row p f g 0 1 []) n x → Forms (tested standard (product p (terms f) (terms g))) (Words n) x
   single_formed x n w =
       within_terms_formed (product p (terms f) (terms g)) n x (rows_with p f g asked only_place (rows_none p f g asked) w).written
       (omega (arith, asked.1.1.0.0.few, few_with p f g asked only_place (rows_none p f g asked) w))
+
+pub single_row : (p : ℕ) (f g x : List ℕ) (n : ℕ) → Written (row p f g 0 1 []) n x → 1 ≤ p → p < 2147483648 → Holds p f → Holds p g
+    → degrees_over (at_most 255) (terms f) (terms g) ≡ false → length f ≡ 2 → Forms (tested standard (product p (terms f) (terms g))) (Words n) x
+single_row p f g x n w l u hf hg d two = single_formed p f g ((l, u), ((hf, omega arith), ((hg, d), two))) two x n w
 
 -- The factors may change places.
 pub exchanged : (p : ℕ) → 1 ≤ p → (f g : Poly) (r : Formed) (x : List ℕ) → Forms (tested standard (product p g f)) r x → Forms (tested standard (product p f g)) r x

@@ -34,6 +34,7 @@ pub fn product(p: u64, f: &[u64], g: &[u64], x: &mut [u64], z: &mut [u64]) -> Fo
 
 // The product by the rows of the shorter factor, where no degree passes 255. Since it calls itself, LLVM inlines no large frame here:
 // each call would pay for it. So it calls both gatherings apart; one called by the other would be inlined there.
+#[tactic(auto, using(crate::proofs::ProductLaws::single_row))]
 fn rows(p: u64, f: &[u64], g: &[u64], x: &mut [u64], z: &mut [u64]) -> Formed
     requires le_p { (1 ≤ p) × (p < 2147483648) }
     requires holds { Holds p f.now × (0 < length f.now) }

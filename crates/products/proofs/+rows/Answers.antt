@@ -1,7 +1,7 @@
 -- A single row is the product, else the rows are gathered: in the lent buffers, in longer ones, in the longest; the last two ask for the same.
 use Rattle.std.proofs.Common.{◌∙◌, length, arith}
 use Rattle.polynomials.specs.laws.Product.{degrees_over_comm}
-use Rattle.products.proofs.ProductLaws.{exchanged, lent_exchanged, single_asks, single_formed}
+use Rattle.products.proofs.ProductLaws.{exchanged, lent_exchanged, single_asks}
 use Rattle.products.proofs.+rows.Goals as goal
 
 pub rows-requires : goal.rows-requires
@@ -24,22 +24,16 @@ pub add_multiple-requires-clause-c_lt_p : goal.add_multiple-requires-clause-c_lt
 add_multiple-requires-clause-c_lt_p t c =
     let a = c.args in
     let q = c.requires in
-    (single_asks a.p a.f.now a.g.now (q.le_p, (q.holds, (q.holds_2, q.g_nonzero))) c.if-f-eq2.true (length a.g.now) (omega arith)).0
+    (single_asks a.p a.f.now a.g.now (q.le_p, (q.holds, (q.holds_2, q.g_nonzero))) (omega arith) (length a.g.now) (omega arith)).0
 
 pub add_multiple-requires-clause-pairs : goal.add_multiple-requires-clause-pairs
 add_multiple-requires-clause-pairs t c =
     let a = c.args in
     let q = c.requires in
-    (single_asks a.p a.f.now a.g.now (q.le_p, (q.holds, (q.holds_2, q.g_nonzero))) c.if-f-eq2.true (length a.g.now) (omega arith)).1.0
+    (single_asks a.p a.f.now a.g.now (q.le_p, (q.holds, (q.holds_2, q.g_nonzero))) (omega arith) (length a.g.now) (omega arith)).1.0
 
 pub add_multiple-requires-clause-pairs_2 : goal.add_multiple-requires-clause-pairs_2
 add_multiple-requires-clause-pairs_2 t c =
     let a = c.args in
     let q = c.requires in
-    (single_asks a.p a.f.now a.g.now (q.le_p, (q.holds, (q.holds_2, q.g_nonzero))) c.if-f-eq2.true (length a.g.now) (omega arith)).1.1.0
-
-pub returns-then-f-eq2 : goal.returns-then-f-eq2
-returns-then-f-eq2 t c =
-    let a = c.args in
-    let q = c.requires in
-    single_formed a.p a.f.now a.g.now (q.le_p, (q.holds, (q.holds_2, q.g_nonzero))) c.if-f-eq2.true _ _ c.add_multiple.ensures
+    (single_asks a.p a.f.now a.g.now (q.le_p, (q.holds, (q.holds_2, q.g_nonzero))) (omega arith) (length a.g.now) (omega arith)).1.1.0

@@ -21,40 +21,55 @@ use Rattle.tables.specs.Solve.{checked, reading}
 use Rattle.tables.specs.Walk.{accepted}
 use Rattle.tables.specs.laws.Chains.{checked_good, checked_refused, header_passes, header_refuses, header_readable, readable_words}
 
--- ── the header ──
+-- ── the header, test by test ──
 module _ (w : List ℕ) where
-  pub ragged : length w % 4 ≢ 0 → is_whole w ≡ false
-  unfolding is_whole
-  ragged h = rw (ne_eqb (length w % 4) 0 h)
-
-  pub empty : length w ≡ 0 → is_whole w ≡ false
-  unfolding is_whole
-  empty h = let z : records w < 1 = omega arith in rw (eq-eqb (length w % 4) 0 (omega arith), lt-leb 1 (records w) z)
-
-  pub long : length w % 4 ≡ 0 → 262144 < length w → is_whole w ≡ false
-  unfolding is_whole
-  long e h = rw (eq-eqb (length w % 4) 0 e, le-leb 1 (records w) (omega arith), lt-leb (records w) 65536 (omega arith))
-
-  pub whole : length w % 4 ≡ 0 → length w ≢ 0 → length w ≤ 262144 → is_whole w ≡ true
+  whole : length w % 4 ≡ 0 → length w ≢ 0 → length w ≤ 262144 → is_whole w ≡ true
   unfolding is_whole
   whole e n h = rw (eq-eqb (length w % 4) 0 e, le-leb 1 (records w) (omega arith), le-leb (records w) 65536 (omega arith))
 
-  pub refused_shape : is_whole w ≡ false → Refused Shape 0 ≡ checked (read_header w accepted)
+  refused_shape : is_whole w ≡ false → Refused Shape 0 ≡ checked (read_header w accepted)
   unfolding read_header
   refused_shape e = rw e
 
-  pub refused_prime : is_whole w ≡ true → is_modulus (word w 0 0) ≡ false → Refused Prime 0 ≡ checked (read_header w accepted)
-  unfolding read_header
-  refused_prime e h = rw (e, h)
-
-  pub refused_variables : is_whole w ≡ true → is_modulus (word w 0 0) ≡ true → leb 1 (word w 0 1) && leb (word w 0 1) 8 ≡ false
+  refused_variables : is_whole w ≡ true → is_modulus (word w 0 0) ≡ true → leb 1 (word w 0 1) && leb (word w 0 1) 8 ≡ false
       → Refused Variables 0 ≡ checked (read_header w accepted)
   unfolding read_header
   refused_variables e h v = rw (e, h, v)
 
-  pub good_header : is_whole w ≡ true → is_modulus (word w 0 0) ≡ true → 1 ≤ word w 0 1 → word w 0 1 ≤ 8 → Good ≡ checked (read_header w accepted)
+  -- a record has four words
+  pub refused_ragged : length w % 4 ≢ 0 → Refused Shape 0 ≡ checked (read_header w accepted)
+  unfolding is_whole
+  refused_ragged h = refused_shape (rw (ne_eqb (length w % 4) 0 h))
+
+  pub refused_empty : length w ≡ 0 → Refused Shape 0 ≡ checked (read_header w accepted)
+  unfolding is_whole
+  refused_empty h = let z : records w < 1 = omega arith in refused_shape (rw (eq-eqb (length w % 4) 0 (omega arith), lt-leb 1 (records w) z))
+
+  pub refused_long : length w % 4 ≡ 0 → 262144 < length w → Refused Shape 0 ≡ checked (read_header w accepted)
+  unfolding is_whole
+  refused_long e h = refused_shape (rw (eq-eqb (length w % 4) 0 e, le-leb 1 (records w) (omega arith), lt-leb (records w) 65536 (omega arith)))
+
+  pub refused_prime : length w % 4 ≡ 0 → length w ≢ 0 → length w ≤ 262144 → is_modulus (word w 0 0) ≡ false
+      → Refused Prime 0 ≡ checked (read_header w accepted)
   unfolding read_header
-  good_header e h l u = rw (e, h, le-leb 1 (word w 0 1) l, le-leb (word w 0 1) 8 u)
+  refused_prime e n h prime = rw (whole e n h, prime)
+
+  pub refused_no_variable : length w % 4 ≡ 0 → length w ≢ 0 → length w ≤ 262144 → is_modulus (word w 0 0) ≡ true
+      → word w 0 1 < 1 → Refused Variables 0 ≡ checked (read_header w accepted)
+  refused_no_variable e n h prime l = refused_variables (whole e n h) prime (rw (lt-leb 1 (word w 0 1) l))
+
+  pub refused_nine_variables : length w % 4 ≡ 0 → length w ≢ 0 → length w ≤ 262144 → is_modulus (word w 0 0) ≡ true
+      → 8 < word w 0 1 → Refused Variables 0 ≡ checked (read_header w accepted)
+  refused_nine_variables e n h prime l =
+      refused_variables (whole e n h) prime (rw (le-leb 1 (word w 0 1) (omega arith), lt-leb (word w 0 1) 8 l))
+
+  pub good_header : length w % 4 ≡ 0 → length w ≢ 0 → length w ≤ 262144 → is_modulus (word w 0 0) ≡ true
+      → 1 ≤ word w 0 1 → word w 0 1 ≤ 8 → Good ≡ checked (read_header w accepted)
+  unfolding read_header
+  good_header e n h prime l u = rw (whole e n h, prime, le-leb 1 (word w 0 1) l, le-leb (word w 0 1) 8 u)
+
+-- What each test of the header answers.
+pub ruleset header_tests = (refused_ragged, refused_empty, refused_long, refused_prime, refused_no_variable, refused_nine_variables, good_header)
 
 -- An accepted header has its four words.
 pub header_words : (w : List ℕ) → checked (read_header w accepted) ≡ Good → 4 ≤ length w

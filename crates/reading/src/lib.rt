@@ -10,6 +10,7 @@ ghost use Rattle.tables.specs.Walk.{Readable, accepted};
 use tables::{Checked, Next, ReadOutcome, Reading, Reason};
 
 // The header: shape, prime and number of variables.
+#[tactic(auto, using(crate::proofs::ReadLaws::header_tests))]
 pub fn check_header(table: &[u32]) -> Checked
     ensures { result ≡ checked (read_header table.now accepted) }
 {

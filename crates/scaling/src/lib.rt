@@ -9,6 +9,7 @@ ghost use Rattle.polynomials.specs.Packed.{terms};
 ghost use Rattle.polynomials.specs.Working.{Pairs};
 
 // Makes f monic.
+#[tactic(auto, using(crate::proofs::ScaledLaws::monic_none))]
 pub fn monic(p: u64, f: &mut [u64])
     requires prime { Prime p × (p < 2147483648) }
     requires pairs { Pairs f.old × Canonical p (terms f.old) }

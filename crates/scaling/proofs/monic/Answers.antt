@@ -4,11 +4,8 @@ use Rattle.residues.specs.Residue.{product}
 use Rattle.residues.specs.laws.Inverse.{inverse_lt}
 use Rattle.polynomials.specs.Packed.{terms}
 use Rattle.polynomials.specs.laws.Merge.{scaled}
-use Rattle.scaling.proofs.ScaledLaws.{Scaled, scaled_none, scaled_next, scaled_turn, scaled_all, monic_none, monic_of}
+use Rattle.scaling.proofs.ScaledLaws.{Scaled, scaled_none, scaled_next, scaled_turn, scaled_all, monic_of}
 use Rattle.scaling.proofs.monic.Goals as goal
-
-pub returns-then-f-eq0 : goal.returns-then-f-eq0
-returns-then-f-eq0 c = monic_none c.args.p c.args.f.now c.if-f-eq0.true
 
 pub invert-c-requires : goal.invert-c-requires
 invert-c-requires c =

@@ -7,9 +7,10 @@ use Prim.Native.Nat.{Ordering}
 use Prim.Native.Nat.{ℕ, zero, suc, ◌+◌, ◌-◌, ◌*◌, ◌/◌, ◌%◌, ◌^◌, ◌≤◌, ◌<◌}
 use native.Mathlib.Nat.{pow-suc, div-lt_iff_lt-mul}
 use native.Mathlib.Omega.{arith}
+use native.Mathlib.Decide.{ℕ_discrete}
 use borrow.Author.Tests.{ltb-true, ltb-false}
 use lib.Dec.{ltb}
-use lib.ListN.{length, take, drop, get_or, set, length-drop, drop_of_length-le}
+use lib.ListN.{length, take, drop, get_or, set, length-set, length-drop, drop_of_length-le}
 use lib.Seq.{paste, length-paste, take-paste, take_all, length-take-le}
 use Rattle.residues.specs.laws.Pairs.{drop_pair}
 use Rattle.polynomials.specs.Poly.{Poly, order, join, keep, add_multiple, difference}
@@ -27,7 +28,7 @@ use Rattle.polynomials.specs.laws.Terms.{terms_at, terms_push_before, terms_appe
 
 -- ── words ──
 -- Monomials of which no exponent passes 255 have a sum that fits.
-pub fits_below : (n w v : ℕ) → Fits n w v → w < 256 ^ n → v < 256 ^ n → w + v < 256 ^ n
+fits_below : (n w v : ℕ) → Fits n w v → w < 256 ^ n → v < 256 ^ n → w + v < 256 ^ n
 fits_below zero w v f h k = omega arith
 fits_below (suc n) w v f h k = subst (λ z. w + v < z) (sym (pow-suc 256 n))
     ((div-lt_iff_lt-mul {k = 256} (omega arith)).0 (subst (λ z. z < 256 ^ n) high (fits_below n (w / 256) (v / 256) f.1 (fewer_bytes n w h) (fewer_bytes n v k))))
@@ -100,7 +101,7 @@ pub record Taken (p c m : ℕ) (g f : List ℕ) (i j i' s : ℕ) : Type 0 where
 pub subst_taken : {p c m : ℕ} {g f : List ℕ} {i j i' s x y : ℕ} → Taken p c m g f i j i' s → x ≡ i' → y ≡ s → Taken p c m g f i j x y
 subst_taken {p} {c} {m} {g} {f} {i} {j} {i'} {s} {x} {y} K e q = subst (λ x. Taken p c m g f i j x y) (sym e) (subst (λ y. Taken p c m g f i j i' y) (sym q) K)
 
-pub subst_head : {p c m : ℕ} {g f out x : List ℕ} {i j k y : ℕ} → Head p c m g f out i j k → x ≡ out → y ≡ k → Head p c m g f x i j y
+subst_head : {p c m : ℕ} {g f out x : List ℕ} {i j k y : ℕ} → Head p c m g f out i j k → x ≡ out → y ≡ k → Head p c m g f x i j y
 subst_head {p} {c} {m} {g} {f} {out} {x} {i} {j} {k} {y} H e q = subst (λ x. Head p c m g f x i j y) (sym e) (subst (λ y. Head p c m g f out i j y) (sym q) H)
 
 pub start : (p c m : ℕ) (g f out : List ℕ) → Canonical p (terms f) → Canonical p (terms g) → AllFit m g → Head p c m g f out 0 0 0
@@ -123,6 +124,10 @@ module _ {p c m : ℕ} {g f out : List ℕ} {i j k : ℕ} (H : Head p c m g f ou
 
   pub front_canonical : i < length f → Canonical p (term (get_or f i 0) (get_or f (i + 1) 0) ∷ terms (drop (i + 2) f))
   front_canonical in_f = subst (Canonical p) (terms_at f i (i_pair in_f)) H.f_canonical
+
+  -- the monomial of the next term of the multiple
+  pub small_next : Word m → Word (get_or g (j + 1) 0) → Word (m + get_or g (j + 1) 0)
+  small_next u v = fits_below 8 m (get_or g (j + 1) 0) next_fits.0 u v
 
   module _ (small : Word (m + get_or g (j + 1) 0)) where
     -- The term of f goes first.
@@ -183,7 +188,7 @@ module _ {p c m : ℕ} {g f out : List ℕ} {i j k : ℕ} (H : Head p c m g f ou
     }
 
   -- The sum is zero, and nothing is written.
-  pub turn_none : {i' s : ℕ} → Taken p c m g f i j i' s → s ≡ 0 → Head p c m g f out i' (j + 2) k
+  turn_none : {i' s : ℕ} → Taken p c m g f i j i' s → s ≡ 0 → Head p c m g f out i' (j + 2) k
   turn_none {i'} {s} K z = record {
     i_even = K.even;
     j_even = omega (arith, H.j_even);
@@ -198,7 +203,7 @@ module _ {p c m : ℕ} {g f out : List ℕ} {i j k : ℕ} (H : Head p c m g f ou
   }
 
   -- It is not, and is written.
-  pub turn_sum : {i' s : ℕ} → Taken p c m g f i j i' s → s ≢ 0 → k + 1 < length out → Head p c m g f (set (set out k s) (k + 1) (m + get_or g (j + 1) 0)) i' (j + 2) (k + 2)
+  turn_sum : {i' s : ℕ} → Taken p c m g f i j i' s → s ≢ 0 → k + 1 < length out → Head p c m g f (set (set out k s) (k + 1) (m + get_or g (j + 1) 0)) i' (j + 2) (k + 2)
   turn_sum {i'} {s} K z room = record {
     i_even = K.even;
     j_even = omega (arith, H.j_even);
@@ -212,6 +217,15 @@ module _ {p c m : ℕ} {g f out : List ℕ} {i j k : ℕ} (H : Head p c m g f ou
     same = terms_push_before out k s (m + get_or g (j + 1) 0) (left p c m g f i j) (left p c m g f i' (j + 2)) H.k_even room
         (K.sum ∙ keep_some s (bytes 8 (m + get_or g (j + 1) 0)) (left p c m g f i' (j + 2)) z) ∙ H.same;
   }
+
+  -- What is written goes by the sum.
+  pub turn_taken : {i' s k' : ℕ} {out' : List ℕ} → Taken p c m g f i j i' s → k + 1 < length out
+      → (s ≢ 0 → (out' ≡ set (set out k s) (k + 1) (m + get_or g (j + 1) 0)) × (k' ≡ k + 2)) → (s ≡ 0 → (out' ≡ out) × (k' ≡ k))
+      → (length out' ≡ length out) × Head p c m g f out' i' (j + 2) k'
+  turn_taken {i'} {s} K room some none = elim (ℕ_discrete s 0) [
+    | yes z ↦ let e = none z in (ap length e.0, subst_head (turn_none K z) e.0 e.1)
+    | no n ↦ let e = some n in (ap length e.0 ∙ simp length-set refl, subst_head (turn_sum K n room) e.0 e.1)
+  ]
 
 -- After the loop, with the rest of f copied behind the k words.
 pub finish : (p c m : ℕ) (g f out last : List ℕ) (i j k : ℕ) → Head p c m g f out i j k → Pairs f → length g ≤ j → k + (length f - i) ≤ length out →

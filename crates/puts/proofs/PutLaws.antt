@@ -1,5 +1,6 @@
 -- When a put into P or Q keeps the branch, and when it adds the polynomial.
 use mathlib.Core.Path.{◌≡◌, refl, sym, ap, ap₂, ◌∙◌, subst}
+use mathlib.Core.Logic.{◌≢◌}
 use mathlib.Core.Bool.{Bool, true, false, ◌||◌}
 use mathlib.Core.List.{List, [], ◌∷◌, ◌++◌, append_assoc}
 use Prim.Native.Nat.{ℕ, ◌+◌, ◌-◌, ◌≤◌}
@@ -12,7 +13,7 @@ use Rattle.branches.specs.Area.{Stored, Held, HeldIn, Leaves, with_open, put_int
 use Rattle.branches.specs.declared.Open.{Open}
 use Rattle.branches.specs.Open.{open_of}
 use Rattle.branches.proofs.AreaLaws.{place, at_of, parted_q}
-use Rattle.branches.proofs.OpenLaws.{q_is, in_q, skip_q, skip_q_inside}
+use Rattle.branches.proofs.OpenLaws.{end_p, q_is, in_q, skip_q, skip_q_inside}
 use Rattle.places.specs.Places.{More, Counts, PutAt}
 use Rattle.places.proofs.PlaceLaws.{leaves_held, counts_are}
 
@@ -46,6 +47,14 @@ module _ (f : List ℕ) (b : Stored) where
 
     pub counts_p : {p q t : ℕ} → Counts p q t b → Counts (p + 1) q t (put_into_p f b)
     counts_p n = record { in_p = omega (arith, n.in_p, ap length e, length-append b.P (f ∷ [])); in_q = n.in_q; in_t = n.in_t }
+
+-- What is new goes in behind P.
+module _ {w : List ℕ} {b : Stored} {bs ss : List Stored} (H : HeldIn w (with_open b bs ss)) {o : Open} (e : o ≡ open_of b bs) {to : ℕ} (f : List ℕ) where
+  unfoldable pub put_in_p : length f ≢ 0 → member f b.P ≡ false → to ≡ skip_to (view w) o.first o.p
+      → PutAt w to f (o.p + 1) o.q o.t (put_into_p f b) bs ss
+  put_in_p some found there =
+      let new = put_p_new f b.P some found in
+      record { b = b; held = H; xs = b.P; ys = b.Q ++ b.T; adds = more_p f b new; there = there ∙ end_p H e; counts = counts_p f b new (counts_are H e) }
 
 -- ── Q ──
 pub put_q_one : (f : List ℕ) (fs : List (List ℕ)) → is_one f ≡ true → put_q f fs ≡ fs

@@ -38,8 +38,8 @@ halved c =
     let n = c.before.before in
     let p = n.before.before.args.p in
     ⊎_elim
-    (λ w. halved_odd p n.loop-k.r n.loop-k.b n.loop-k.k c.if-k-eq1.r w.if-k-eq1.true (omega arith) (w.r-is ∙ w.multiply-r.ensures))
-    (λ w. halved_even p n.loop-k.r n.loop-k.b n.loop-k.k c.if-k-eq1.r w.if-k-eq1.false n.loop-k.invariant.1 w.r-is)
+    (λ w. halved_odd p n.loop-k.r n.loop-k.b n.loop-k.k c.if-k-eq1.r (omega (arith, w.if-k-eq1.true)) (omega arith) (w.r-is ∙ w.multiply-r.ensures))
+    (λ w. halved_even p n.loop-k.r n.loop-k.b n.loop-k.k c.if-k-eq1.r (omega (arith, w.if-k-eq1.false)) n.loop-k.invariant.1 w.r-is)
     c.if-k-eq1.branch-raw
 
 loop-k-smaller : tie.Need-loop-k-smaller invariant-loop-k decreases-loop-k

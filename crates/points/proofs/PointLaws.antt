@@ -2,7 +2,8 @@
 use mathlib.Core.Path.{◌≡◌, refl, sym, ◌∙◌, ap}
 use mathlib.Core.Bool.{Bool, true, false, not}
 use mathlib.Core.List.{List}
-use Prim.Native.Nat.{ℕ}
+use Prim.Native.Nat.{ℕ, ◌≤◌}
+use lib.ListN.{length}
 use Rattle.polynomials.specs.Poly.{Poly}
 use Rattle.polynomials.specs.Value.{Point}
 use Rattle.tables.specs.Words.{word, records}
@@ -14,7 +15,7 @@ use Rattle.tables.specs.declared.TrialOutcome.TheVariants.{Yes, No, Refused as T
 use Rattle.tables.specs.Read.{good, refused, unless, Input, read_heads, read_table}
 use Rattle.tables.specs.Solve.{is_point, solves, reading, yes_or_no, trial, try_input}
 use Rattle.evaluation.specs.Walks.{all_match}
-use Rattle.tables.specs.laws.Chains.{reading_good, reading_refused}
+use Rattle.tables.specs.laws.Chains.{reading_good, reading_refused, readable_words}
 use Rattle.tables.specs.laws.Accepted.{TableRead, table_read}
 use Rattle.tables.specs.Solved.{PointOf}
 use Rattle.tables.specs.laws.Solved.{point_is}
@@ -36,6 +37,10 @@ module _ (w x : List ℕ) (r : Reading) (e : r ≡ reading (read_table w)) where
 
   pub table_accepted : r.outcome ≡ Accepted → (t : Input) × (read_table w ≡ good t)
   table_accepted h = reading_good (read_table w) (ap (λ (s : Reading). s.outcome) (sym e) ∙ h)
+
+-- An accepted table has its header.
+pub accepted_words : (w : List ℕ) {r : Reading} → r ≡ reading (read_table w) → r.outcome ≡ Accepted → 4 ≤ length w
+accepted_words w {r} e h = let t = table_accepted w w r e h in readable_words (table_read w t.0 t.1).readable
 
 -- The answers, along the code's tests: is x a point, are all of P zero there, is none of Q? The code's p and n are the first words of the table.
 module _ (w x : List ℕ) (t : Input) (is_read : read_table w ≡ good t) where

@@ -24,6 +24,7 @@ pub fn is_point(p: u32, n: u32, point: &[u32]) -> bool
 }
 
 // Whether the point, v1's number first, solves the table's input. No buffer is written.
+#[tactic(auto, using(crate::proofs::PointLaws::accepted_words))]
 pub fn try_table(table: &[u32], point: &[u32]) -> Trial
     ensures { Tries table.now point.now result }
 {

@@ -1,10 +1,9 @@
 -- An accepted table's first words give p, n and the two chains that `all_match` tries.
-use Rattle.std.proofs.Common.{◌≡◌, List, ℕ, ◌≤◌, length, arith}
+use Rattle.std.proofs.Common.{◌≡◌, List, ℕ}
 use Rattle.tables.specs.Read.{Input, good, read_table}
 use Rattle.tables.specs.Solve.{reading}
 use Rattle.tables.specs.declared.Reading.{Reading}
 use Rattle.tables.specs.declared.ReadOutcome.TheVariants.{Accepted}
-use Rattle.tables.specs.laws.Chains.{readable_words}
 use Rattle.tables.specs.laws.Accepted.{some_record, TableRead, table_read}
 use Rattle.points.proofs.PointLaws.{table_refused, table_accepted, no_point, point_residues, some_nonzero, some_zero, all_solved}
 use Rattle.points.proofs.try_table.Goals as goal
@@ -17,29 +16,17 @@ module _ (w : List ℕ) {r : Reading} (e : r ≡ reading (read_table w)) (h : r.
   told : TableRead w input.0
   told = table_read w input.0 input.1
 
-  header : 4 ≤ length w
-  header = readable_words told.readable
-
 -- ── the goals ──
 pub returns-in-Refused : goal.returns-in-Refused
 returns-in-Refused c =
     let a = c.args in
     table_refused a.table.now a.point.now c.read_table-reading.result c.read_table-reading.ensures _ _ c.in-Refused.is
 
-pub bounds-table-0 : goal.bounds-table-0
-bounds-table-0 c = omega (arith, header c.args.table.now c.read_table-reading.ensures c.in_default.is)
-
-pub bounds-table-1 : goal.bounds-table-1
-bounds-table-1 c = omega (arith, header c.args.table.now c.read_table-reading.ensures c.in_default.is)
-
 pub returns-then-not-is_point : goal.returns-then-not-is_point
 returns-then-not-is_point c =
     let a = c.args in
     let t = input c.args.table.now c.read_table-reading.ensures c.in_default.is in
     no_point a.table.now a.point.now t.0 t.1 c.is_point.result c.is_point.ensures c.if-not-is_point.true
-
-pub bounds-table-2 : goal.bounds-table-2
-bounds-table-2 c = omega (arith, header c.args.table.now c.read_table-reading.ensures c.in_default.is)
 
 pub all_match-requires-clause-readable : goal.all_match-requires-clause-readable
 all_match-requires-clause-readable c =
@@ -59,9 +46,6 @@ returns-then-not-all_match c =
     let t = input c.args.table.now c.read_table-reading.ensures c.in_default.is in
     some_nonzero a.table.now a.point.now t.0 t.1 c.is_point.result c.is_point.ensures c.if-not-is_point.false
     c.all_match.result c.all_match.ensures c.if-not-all_match.true
-
-pub bounds-table-3 : goal.bounds-table-3
-bounds-table-3 c = omega (arith, header c.args.table.now c.read_table-reading.ensures c.in_default.is)
 
 pub all_match-requires-2-clause-readable : goal.all_match-requires-2-clause-readable
 all_match-requires-2-clause-readable c =

@@ -1,16 +1,10 @@
 -- Points: which are points of a table, what they solve, and the answers of the operations.
-use Rattle.std.specs.Prelude.{◌≡◌, Bool, true, false, not, ◌&&◌, List, [], ◌∷◌, ℕ, suc, eqb, ltb, length}
+use Rattle.std.specs.Prelude.{◌≡◌, Bool, true, false, not, ◌&&◌, List, [], ◌∷◌, ℕ, suc, eqb, ltb, length, Result, Ok, Err}
 use Rattle.polynomials.specs.Poly.{Poly}
 use Rattle.polynomials.specs.Value.{value_modulo}
 use Rattle.tables.specs.declared.Reason.TheVariants.{Point}
-use Rattle.tables.specs.declared.Checked.{Checked}
-use Rattle.tables.specs.declared.Checked.TheVariants.{Good, Refused as CheckedRefused}
-use Rattle.tables.specs.declared.Reading.{Reading}
-use Rattle.tables.specs.declared.ReadOutcome.TheVariants.{Accepted, Refused as ReadRefused}
-use Rattle.tables.specs.declared.Trial.{Trial}
-use Rattle.tables.specs.declared.TrialOutcome.TheVariants.{Yes, No, Refused as TrialRefused}
-use Rattle.tables.specs.declared.Placing.{Placing}
-use Rattle.tables.specs.declared.PlaceOutcome.TheVariants.{Place, Refused as PlaceRefused}
+use Rattle.tables.specs.declared.Reason.{Reason}
+use Rattle.tables.specs.declared.Refusal.{Refusal}
 use Rattle.tables.specs.Read.{Read, good, refused, then, unless, Input, System, read_table, read_list}
 
 -- "14 if the point, v1's number first, has not n numbers or one is at least p."
@@ -54,30 +48,23 @@ try_systems w x =
     then (read_list w) (λ l. unless (not (is_point l.modulus l.variables x)) Point 0 (good (first_solved l.modulus x 1 l.systems)))
 
 -- ── answers ──
-abbrev pub checked : {A : Type 0} → Read A → Checked
-checked (good a) = Good
-checked (refused why at) = CheckedRefused why at
+abbrev pub refusal : Reason → ℕ → Refusal
+refusal why at = record { reason = why; at = at }
 
-abbrev pub reading : Read Input → Reading
-reading (good t) = record { outcome = Accepted }
-reading (refused why at) = record { outcome = ReadRefused why at }
+-- What is read, or the refusal.
+abbrev pub answered : {A : Type 0} → Read A → Result A Refusal
+answered (good a) = Ok a
+answered (refused why at) = Err (refusal why at)
 
-abbrev pub yes_or_no : Bool → Trial
-yes_or_no true = record { outcome = Yes }
-yes_or_no false = record { outcome = No }
-
-abbrev pub trial : Read Bool → Trial
-trial (good b) = yes_or_no b
-trial (refused why at) = record { outcome = TrialRefused why at }
-
-abbrev pub placing : Read ℕ → Placing
-placing (good k) = record { outcome = Place k }
-placing (refused why at) = record { outcome = PlaceRefused why at }
+-- Whether it is accepted, or the refusal.
+abbrev pub checked : {A : Type 0} → Read A → Result (Unit {0}) Refusal
+checked (good a) = Ok tt
+checked (refused why at) = Err (refusal why at)
 
 -- ── calls ──
 -- What a trial of a point answers: the contracts of `try_table` and of `try_list` are these, and demand 3 knows the calls by them.
-abbrev pub Tries : List ℕ → List ℕ → Trial → Type 0
-Tries table x q = q ≡ trial (try_input table x)
+abbrev pub Tries : List ℕ → List ℕ → Result Bool Refusal → Type 0
+Tries table x q = q ≡ answered (try_input table x)
 
-abbrev pub Places : List ℕ → List ℕ → Placing → Type 0
-Places list x q = q ≡ placing (try_systems list x)
+abbrev pub Places : List ℕ → List ℕ → Result ℕ Refusal → Type 0
+Places list x q = q ≡ answered (try_systems list x)

@@ -1,19 +1,14 @@
-// Term tables: the definitions of the record format and of reading (`specs/`), and how an operation on a table answers.
+// Term tables: the definitions of the record format and of reading (`specs/`), and how an operation on a table is refused.
 //
 // A table is a lent run of 32-bit words in records of four, numbered from 0. Chains run by index to higher records; index 0 ends one.
 
 #![tactic(auto)]
 
-// Where an index leads.
-#[derive(Clone, Copy)]
-pub enum Next {
-    End,
-    To(usize),
-    Astray,
-}
+ghost use Rattle.std.specs.Prelude.{◌≡◌};
+ghost use Rattle.tables.specs.Reason.{number};
 
-// Why a call is refused. `specs/Reason.antt` gives document 01's number for each.
-#[derive(Clone, Copy)]
+// Why a call is refused.
+#[derive(Clone, Copy, Debug, PartialEq, Eq)]
 pub enum Reason {
     Shape,
     Prime,
@@ -32,46 +27,35 @@ pub enum Reason {
     Broken,
 }
 
-// What reading a part of a table finds.
-#[derive(Clone, Copy)]
-pub enum Checked {
-    Good,
-    Refused(Reason, u32),
+// A refusal: why, and at which record. Outside of reading the record is 0.
+#[derive(Clone, Copy, Debug, PartialEq, Eq)]
+pub struct Refusal {
+    pub reason: Reason,
+    pub at: u32,
 }
 
-// Whether a table is accepted.
-#[derive(Clone, Copy)]
-pub struct Reading {
-    pub outcome: ReadOutcome,
-}
+// The number of a refusal.
+impl From<Reason> for u32 {
+    ghost from_gives = { λ why n. n ≡ number why };
 
-#[derive(Clone, Copy)]
-pub enum ReadOutcome {
-    Accepted,
-    Refused(Reason, u32),
-}
-
-// Whether a point solves a table's input.
-#[derive(Clone, Copy)]
-pub struct Trial {
-    pub outcome: TrialOutcome,
-}
-
-#[derive(Clone, Copy)]
-pub enum TrialOutcome {
-    Yes,
-    No,
-    Refused(Reason, u32),
-}
-
-// The place of the first system of a list that a point solves, from 1; 0 for none.
-#[derive(Clone, Copy)]
-pub struct Placing {
-    pub outcome: PlaceOutcome,
-}
-
-#[derive(Clone, Copy)]
-pub enum PlaceOutcome {
-    Place(u32),
-    Refused(Reason, u32),
+    #[tactic(auto, unfolding(crate::specs::Reason::number))]
+    fn from(why: Reason) -> u32 {
+        match why {
+            Reason::Shape => 1,
+            Reason::Prime => 2,
+            Reason::Variables => 3,
+            Reason::Index => 4,
+            Reason::Head => 5,
+            Reason::Coefficient => 6,
+            Reason::Exponent => 7,
+            Reason::Order => 8,
+            Reason::Terms => 9,
+            Reason::Degree => 10,
+            Reason::Room => 11,
+            Reason::Steps => 12,
+            Reason::Output => 13,
+            Reason::Point => 14,
+            Reason::Broken => 15,
+        }
+    }
 }

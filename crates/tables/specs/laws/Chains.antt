@@ -1,5 +1,5 @@
 -- The header of a table, and its chains, step by step. Terms, heads, T chains and systems are read in one way, so the laws are said once, of any chain.
-use Rattle.std.specs.Prelude.{◌≡◌, refl, ◌≢◌, Bool, true, false, not, ◌&&◌, ◌||◌, List, [], ◌∷◌, ℕ, zero, suc, ◌+◌, ◌*◌, ◌%◌, ◌≤◌, ◌<◌, eqb, ltb, length}
+use Rattle.std.specs.Prelude.{◌≡◌, refl, ◌≢◌, Bool, true, false, not, ◌&&◌, ◌||◌, List, [], ◌∷◌, ℕ, zero, suc, ◌+◌, ◌*◌, ◌%◌, ◌≤◌, ◌<◌, eqb, ltb, length, Option, None, Some, Result, Ok, Err}
 use Rattle.std.proofs.Common.{sym, ◌∙◌, arith}
 use Rattle.std.proofs.Math.Path.{ap, fun_ext}
 use Rattle.std.proofs.Math.Bool.{and-eq-true_iff}
@@ -11,32 +11,21 @@ use Rattle.polynomials.specs.Division.{leader}
 use Rattle.polynomials.specs.laws.Bounds.{or_false_both}
 use Rattle.tables.specs.declared.Reason.{Reason}
 use Rattle.tables.specs.declared.Reason.TheVariants.{Shape, Prime, Variables, Index, Coefficient, Exponent, Order, Terms, Broken}
-use Rattle.tables.specs.declared.Checked.{Checked}
-use Rattle.tables.specs.declared.Checked.TheVariants.{Good, Refused as CheckedRefused}
-use Rattle.tables.specs.declared.ReadOutcome.TheVariants.{Accepted, Refused as ReadRefused}
-use Rattle.tables.specs.declared.Next.TheVariants.{End, To, Astray}
+use Rattle.tables.specs.declared.Refusal.{Refusal}
 use Rattle.tables.specs.Words.{word, records, is_whole, follow, Followed, end, to, astray, term_at}
 use Rattle.tables.specs.Read.{Read, good, refused, then, unless, Input, Before, after, not_below, has_above}
 use Rattle.tables.specs.Read.{read_term, read_terms, read_head, read_heads, read_triangle, read_system, read_systems, read_header}
-use Rattle.tables.specs.Solve.{checked, reading}
+use Rattle.tables.specs.Solve.{refusal, checked}
 use Rattle.tables.specs.Walk.{Readable, accepted, next}
 
 -- ── what was read ──
-pub checked_good : {A : Type 0} (r : Read A) → checked r ≡ Good → (a : A) × (r ≡ good a)
+pub checked_good : {A : Type 0} (r : Read A) → checked r ≡ Ok tt → (a : A) × (r ≡ good a)
 checked_good (good a) e = (a, refl)
-checked_good (refused why at) e = let z : ◌≡◌ {A = ℕ} 0 1 = cc in absurd (omega arith)
+checked_good (refused why at) e = cc
 
-pub checked_refused : {A : Type 0} (r : Read A) {why : Reason} {at : ℕ} → checked r ≡ CheckedRefused why at → r ≡ refused why at
-checked_refused (good a) e = let z : ◌≡◌ {A = ℕ} 0 1 = cc in absurd (omega arith)
+pub checked_refused : {A : Type 0} (r : Read A) {e : Refusal} → checked r ≡ Err e → r ≡ refused e.reason e.at
+checked_refused (good a) e = cc
 checked_refused (refused why at) e = cc
-
-pub reading_good : (r : Read Input) → (reading r).outcome ≡ Accepted → (t : Input) × (r ≡ good t)
-reading_good (good t) e = (t, refl)
-reading_good (refused why at) e = let z : ◌≡◌ {A = ℕ} 0 1 = cc in absurd (omega arith)
-
-pub reading_refused : (r : Read Input) {why : Reason} {at : ℕ} → (reading r).outcome ≡ ReadRefused why at → r ≡ refused why at
-reading_refused (good t) e = let z : ◌≡◌ {A = ℕ} 0 1 = cc in absurd (omega arith)
-reading_refused (refused why at) e = cc
 
 -- What was read passed the test.
 pub unless_good : {A : Type 0} (b : Bool) (why : Reason) (at : ℕ) (r : Read A) {a : A} → unless b why at r ≡ good a → (b ≡ false) × (r ≡ good a)
@@ -51,7 +40,7 @@ then_good (good a) k e = (a, refl, e)
 then_good (refused why at) k e = let z : ◌≡◌ {A = ℕ} 0 1 = cc in absurd (omega arith)
 
 -- ── the header ──
-header_tests : (a b c : Bool) → checked (unless a Shape 0 (unless b Prime 0 (unless c Variables 0 accepted))) ≡ Good → (a ≡ false) × (b ≡ false) × (c ≡ false)
+header_tests : (a b c : Bool) → checked (unless a Shape 0 (unless b Prime 0 (unless c Variables 0 accepted))) ≡ Ok tt → (a ≡ false) × (b ≡ false) × (c ≡ false)
 header_tests true b c e = let z : ◌≡◌ {A = ℕ} 0 1 = cc in absurd (omega arith)
 header_tests false true c e = let z : ◌≡◌ {A = ℕ} 0 1 = cc in absurd (omega arith)
 header_tests false false true e = let z : ◌≡◌ {A = ℕ} 0 1 = cc in absurd (omega arith)
@@ -67,23 +56,23 @@ header_read w r a e =
     let v = (and-eq-true_iff (leb 1 (word w 0 1)) (leb (word w 0 1) 8)).0 e₃.0 in
     (record { whole = e₁.0; prime = e₂.0; some = leb-true 1 (word w 0 1) v.0; few = leb-true (word w 0 1) 8 v.1 }, e₃.1)
 
-pub header_readable : (w : List ℕ) → checked (read_header w accepted) ≡ Good → Readable w (word w 0 0) (word w 0 1)
+pub header_readable : (w : List ℕ) → checked (read_header w accepted) ≡ Ok tt → Readable w (word w 0 0) (word w 0 1)
 header_readable w e = let g = checked_good (read_header w accepted) e in (header_read w accepted g.0 g.1).0
 
 -- What is read behind an accepted header is what follows it.
-pub header_passes : {A : Type 0} (w : List ℕ) (r : Read A) → checked (read_header w accepted) ≡ Good → read_header w r ≡ r
+pub header_passes : {A : Type 0} (w : List ℕ) (r : Read A) → checked (read_header w accepted) ≡ Ok tt → read_header w r ≡ r
 unfolding read_header
 header_passes w r e =
     let h = header_tests (not (is_whole w)) (not (is_modulus (word w 0 0))) (not (leb 1 (word w 0 1) && leb (word w 0 1) 8)) e in
     rw (h.0, h.1, h.2)
 
 -- A refused header refuses what follows.
-pub header_refuses : {A : Type 0} (w : List ℕ) (r : Read A) {why : Reason} {at : ℕ} → checked (read_header w accepted) ≡ CheckedRefused why at → read_header w r ≡ refused why at
+pub header_refuses : {A : Type 0} (w : List ℕ) (r : Read A) {e : Refusal} → checked (read_header w accepted) ≡ Err e → read_header w r ≡ refused e.reason e.at
 unfolding read_header
-header_refuses {A} w r {why} {at} = go (not (is_whole w)) (not (is_modulus (word w 0 0))) (not (leb 1 (word w 0 1) && leb (word w 0 1) 8))
+header_refuses {A} w r {e} = go (not (is_whole w)) (not (is_modulus (word w 0 0))) (not (leb 1 (word w 0 1) && leb (word w 0 1) 8))
   where
-    go : (a b c : Bool) → checked (unless a Shape 0 (unless b Prime 0 (unless c Variables 0 accepted))) ≡ CheckedRefused why at
-        → unless a Shape 0 (unless b Prime 0 (unless c Variables 0 r)) ≡ refused why at
+    go : (a b c : Bool) → checked (unless a Shape 0 (unless b Prime 0 (unless c Variables 0 accepted))) ≡ Err e
+        → unless a Shape 0 (unless b Prime 0 (unless c Variables 0 r)) ≡ refused e.reason e.at
     go true b c e = cc
     go false true c e = cc
     go false false true e = cc
@@ -142,23 +131,24 @@ followed_end w at i e = go (eqb i 0) (ltb at i && ltb i (records w)) (eqb-true i
     go false true u e = let z : ◌≡◌ {A = ℕ} 0 1 = cc in absurd (omega arith)
     go false false u e = let z : ◌≡◌ {A = ℕ} 0 1 = cc in absurd (omega arith)
 
-pub next_end : (f : Followed) → next f ≡ End → f ≡ end
-next_end end e = refl
-next_end (to j) e = let z : ◌≡◌ {A = ℕ} 0 1 = cc in absurd (omega arith)
-next_end astray e = let z : ◌≡◌ {A = ℕ} 0 1 = cc in absurd (omega arith)
+pub next_end : (at : ℕ) (f : Followed) → next at f ≡ Ok None → f ≡ end
+next_end at end e = refl
+next_end at (to j) e = cc
+next_end at astray e = cc
 
-pub next_to : (f : Followed) {j : ℕ} → next f ≡ To j → f ≡ to j
-next_to end e = let z : ◌≡◌ {A = ℕ} 0 1 = cc in absurd (omega arith)
-next_to (to j) e = cc
-next_to astray e = let z : ◌≡◌ {A = ℕ} 0 1 = cc in absurd (omega arith)
+pub next_to : (at : ℕ) (f : Followed) {j : ℕ} → next at f ≡ Ok (Some j) → f ≡ to j
+next_to at end e = cc
+next_to at (to j) e = cc
+next_to at astray e = cc
 
-pub next_inside : (w : List ℕ) (at i j : ℕ) → next (follow w at i) ≡ To j → (at < j) × (j < records w)
-next_inside w at i j e = let q = followed w at i j (next_to (follow w at i) e) in (q.1, q.2)
+pub next_inside : (w : List ℕ) (at i j : ℕ) → next at (follow w at i) ≡ Ok (Some j) → (at < j) × (j < records w)
+next_inside w at i j e = let q = followed w at i j (next_to at (follow w at i) e) in (q.1, q.2)
 
-pub next_astray : (f : Followed) → next f ≡ Astray → f ≡ astray
-next_astray end e = let z : ◌≡◌ {A = ℕ} 0 1 = cc in absurd (omega arith)
-next_astray (to j) e = let z : ◌≡◌ {A = ℕ} 0 1 = cc in absurd (omega arith)
-next_astray astray e = refl
+-- A refusal is that of an index astray.
+pub next_astray : (at : ℕ) (f : Followed) {r : Refusal} → next at f ≡ Err r → (f ≡ astray) × (r ≡ refusal Index at)
+next_astray at end e = cc
+next_astray at (to j) e = cc
+next_astray at astray e = (refl, cc)
 
 -- ── chains ──
 -- The first member, then the others.
@@ -230,7 +220,7 @@ module _ {A S : Type 0} {w : List ℕ} {step : S → ℕ → Read A} {on : S →
 
   -- ── a loop that checks a chain ──
   -- What is read from here decides what is read of the whole chain.
-  pub record Reached (s : S) (at i : ℕ) (whole : Checked) : Type 0 where
+  pub record Reached (s : S) (at i : ℕ) (whole : Result (Unit {0}) Refusal) : Type 0 where
     pub fuel : ℕ
     pub enough : Enough w at fuel
     pub same : checked (X fuel s at i) ≡ whole
@@ -238,22 +228,23 @@ module _ {A S : Type 0} {w : List ℕ} {step : S → ℕ → Read A} {on : S →
   pub reached_first : (s : S) (at i : ℕ) → at < records w → Reached s at i (checked (X (records w) s at i))
   reached_first s at i h = record { fuel = records w; enough = whole_chain w at h; same = refl }
 
-  pub reached_end : {s : S} {at i : ℕ} {whole : Checked} → Reached s at i whole → next (follow w at i) ≡ End → Good ≡ whole
-  reached_end {s} {at} {i} r e = sym (ap checked (chain_ends r.fuel s at i (next_end (follow w at i) e))) ∙ r.same
+  pub reached_end : {s : S} {at i : ℕ} {whole : Result (Unit {0}) Refusal} → Reached s at i whole → next at (follow w at i) ≡ Ok None → Ok tt ≡ whole
+  reached_end {s} {at} {i} r e = sym (ap checked (chain_ends r.fuel s at i (next_end at (follow w at i) e))) ∙ r.same
 
-  pub reached_astray : {s : S} {at i : ℕ} {whole : Checked} → Reached s at i whole → next (follow w at i) ≡ Astray → CheckedRefused Index at ≡ whole
-  reached_astray {s} {at} {i} r e = sym (ap checked (chain_strays s at i r.enough (next_astray (follow w at i) e))) ∙ r.same
+  pub reached_astray : {s : S} {at i : ℕ} {e : Refusal} {whole : Result (Unit {0}) Refusal} → Reached s at i whole → next at (follow w at i) ≡ Err e → Err e ≡ whole
+  reached_astray {s} {at} {i} {e} r h =
+      let a = next_astray at (follow w at i) h in ap Err a.1 ∙ sym (ap checked (chain_strays s at i r.enough a.0)) ∙ r.same
 
-  pub reached_refused : {s : S} {at i j : ℕ} {why : Reason} {k : ℕ} {whole : Checked} → Reached s at i whole → next (follow w at i) ≡ To j
-      → checked (step s j) ≡ CheckedRefused why k → CheckedRefused why k ≡ whole
-  reached_refused {s} {at} {i} {j} {why} {k} r e h =
-      let u = chain_leads s at i r.enough (next_to (follow w at i) e) in
+  pub reached_refused : {s : S} {at i j : ℕ} {e : Refusal} {whole : Result (Unit {0}) Refusal} → Reached s at i whole → next at (follow w at i) ≡ Ok (Some j)
+      → checked (step s j) ≡ Err e → Err e ≡ whole
+  reached_refused {s} {at} {i} {j} r e h =
+      let u = chain_leads s at i r.enough (next_to at (follow w at i) e) in
       sym (ap checked (u.2 ∙ ap (λ x. cons x (λ a. X u.0 (on s a) j (word w j 3))) (checked_refused (step s j) h))) ∙ r.same
 
-  pub reached_on : {s : S} {at i j : ℕ} {a : A} {whole : Checked} → Reached s at i whole → next (follow w at i) ≡ To j
+  pub reached_on : {s : S} {at i j : ℕ} {a : A} {whole : Result (Unit {0}) Refusal} → Reached s at i whole → next at (follow w at i) ≡ Ok (Some j)
       → step s j ≡ good a → Reached (on s a) j (word w j 3) whole
   reached_on {s} {at} {i} {j} {a} r e h =
-      let u = chain_leads s at i r.enough (next_to (follow w at i) e) in
+      let u = chain_leads s at i r.enough (next_to at (follow w at i) e) in
       record {
         fuel = u.0;
         enough = u.1;

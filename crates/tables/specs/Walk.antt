@@ -3,6 +3,7 @@ use Rattle.std.specs.Prelude.{◌≡◌, true, List, ℕ, zero, suc, ◌≤◌, 
 use Rattle.residues.specs.Prime.{is_modulus}
 use Rattle.polynomials.specs.Packed.{bytes}
 use Rattle.tables.specs.declared.Reason.TheVariants.{Index}
+use Rattle.tables.specs.declared.Astray.{Astray}
 use Rattle.tables.specs.declared.Refusal.{Refusal}
 use Rattle.tables.specs.Words.{is_whole, Followed, end, to, astray}
 use Rattle.tables.specs.Read.{Read, good, Before, first, after}
@@ -19,11 +20,17 @@ pub record Readable (w : List ℕ) (p n : ℕ) : Type 0 where
 abbrev pub accepted : Read ℕ
 accepted = good 0
 
--- Where an index leads that record `at` holds: to no record, to one, or to a refusal at the record that holds it.
-abbrev pub next : ℕ → Followed → Result (Option ℕ) Refusal
-next at end = Ok None
-next at (to i) = Ok (Some i)
-next at astray = Err (refusal Index at)
+-- Where an index leads: to no record, to one, or astray.
+abbrev pub next : Followed → Result (Option ℕ) Astray
+next end = Ok None
+next (to i) = Ok (Some i)
+next astray = Err record {}
+
+-- The same of the index that record `at` holds, with its refusal.
+abbrev pub next_from : ℕ → Followed → Result (Option ℕ) Refusal
+next_from at end = Ok None
+next_from at (to i) = Ok (Some i)
+next_from at astray = Err (refusal Index at)
 
 -- The monomial before the term of number m.
 abbrev pub before : ℕ → ℕ → Before

@@ -27,6 +27,10 @@ pub enum Reason {
     Broken,
 }
 
+// An index that leads to no record above the one that holds it.
+#[derive(Clone, Copy, Debug, PartialEq, Eq)]
+pub struct Astray;
+
 // A refusal: why, and at which record. Outside of reading the record is 0.
 #[derive(Clone, Copy, Debug, PartialEq, Eq)]
 pub struct Refusal {

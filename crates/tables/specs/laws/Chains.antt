@@ -16,7 +16,7 @@ use Rattle.tables.specs.Words.{word, records, is_whole, follow, Followed, end, t
 use Rattle.tables.specs.Read.{Read, good, refused, then, unless, Input, Before, after, not_below, has_above}
 use Rattle.tables.specs.Read.{read_term, read_terms, read_head, read_heads, read_triangle, read_system, read_systems, read_header}
 use Rattle.tables.specs.Solve.{refusal, checked}
-use Rattle.tables.specs.Walk.{Readable, accepted, next}
+use Rattle.tables.specs.Walk.{Readable, accepted, next_from}
 
 -- ── what was read ──
 pub checked_good : {A : Type 0} (r : Read A) → checked r ≡ Ok tt → (a : A) × (r ≡ good a)
@@ -131,24 +131,24 @@ followed_end w at i e = go (eqb i 0) (ltb at i && ltb i (records w)) (eqb-true i
     go false true u e = let z : ◌≡◌ {A = ℕ} 0 1 = cc in absurd (omega arith)
     go false false u e = let z : ◌≡◌ {A = ℕ} 0 1 = cc in absurd (omega arith)
 
-pub next_end : (at : ℕ) (f : Followed) → next at f ≡ Ok None → f ≡ end
-next_end at end e = refl
-next_end at (to j) e = cc
-next_end at astray e = cc
+pub next_from_end : (at : ℕ) (f : Followed) → next_from at f ≡ Ok None → f ≡ end
+next_from_end at end e = refl
+next_from_end at (to j) e = cc
+next_from_end at astray e = cc
 
-pub next_to : (at : ℕ) (f : Followed) {j : ℕ} → next at f ≡ Ok (Some j) → f ≡ to j
-next_to at end e = cc
-next_to at (to j) e = cc
-next_to at astray e = cc
+pub next_from_to : (at : ℕ) (f : Followed) {j : ℕ} → next_from at f ≡ Ok (Some j) → f ≡ to j
+next_from_to at end e = cc
+next_from_to at (to j) e = cc
+next_from_to at astray e = cc
 
-pub next_inside : (w : List ℕ) (at i j : ℕ) → next at (follow w at i) ≡ Ok (Some j) → (at < j) × (j < records w)
-next_inside w at i j e = let q = followed w at i j (next_to at (follow w at i) e) in (q.1, q.2)
+pub next_inside : (w : List ℕ) (at i j : ℕ) → next_from at (follow w at i) ≡ Ok (Some j) → (at < j) × (j < records w)
+next_inside w at i j e = let q = followed w at i j (next_from_to at (follow w at i) e) in (q.1, q.2)
 
 -- A refusal is that of an index astray.
-pub next_astray : (at : ℕ) (f : Followed) {r : Refusal} → next at f ≡ Err r → (f ≡ astray) × (r ≡ refusal Index at)
-next_astray at end e = cc
-next_astray at (to j) e = cc
-next_astray at astray e = (refl, cc)
+pub next_from_astray : (at : ℕ) (f : Followed) {r : Refusal} → next_from at f ≡ Err r → (f ≡ astray) × (r ≡ refusal Index at)
+next_from_astray at end e = cc
+next_from_astray at (to j) e = cc
+next_from_astray at astray e = (refl, cc)
 
 -- ── chains ──
 -- The first member, then the others.
@@ -228,23 +228,23 @@ module _ {A S : Type 0} {w : List ℕ} {step : S → ℕ → Read A} {on : S →
   pub reached_first : (s : S) (at i : ℕ) → at < records w → Reached s at i (checked (X (records w) s at i))
   reached_first s at i h = record { fuel = records w; enough = whole_chain w at h; same = refl }
 
-  pub reached_end : {s : S} {at i : ℕ} {whole : Result (Unit {0}) Refusal} → Reached s at i whole → next at (follow w at i) ≡ Ok None → Ok tt ≡ whole
-  reached_end {s} {at} {i} r e = sym (ap checked (chain_ends r.fuel s at i (next_end at (follow w at i) e))) ∙ r.same
+  pub reached_end : {s : S} {at i : ℕ} {whole : Result (Unit {0}) Refusal} → Reached s at i whole → next_from at (follow w at i) ≡ Ok None → Ok tt ≡ whole
+  reached_end {s} {at} {i} r e = sym (ap checked (chain_ends r.fuel s at i (next_from_end at (follow w at i) e))) ∙ r.same
 
-  pub reached_astray : {s : S} {at i : ℕ} {e : Refusal} {whole : Result (Unit {0}) Refusal} → Reached s at i whole → next at (follow w at i) ≡ Err e → Err e ≡ whole
+  pub reached_astray : {s : S} {at i : ℕ} {e : Refusal} {whole : Result (Unit {0}) Refusal} → Reached s at i whole → next_from at (follow w at i) ≡ Err e → Err e ≡ whole
   reached_astray {s} {at} {i} {e} r h =
-      let a = next_astray at (follow w at i) h in ap Err a.1 ∙ sym (ap checked (chain_strays s at i r.enough a.0)) ∙ r.same
+      let a = next_from_astray at (follow w at i) h in ap Err a.1 ∙ sym (ap checked (chain_strays s at i r.enough a.0)) ∙ r.same
 
-  pub reached_refused : {s : S} {at i j : ℕ} {e : Refusal} {whole : Result (Unit {0}) Refusal} → Reached s at i whole → next at (follow w at i) ≡ Ok (Some j)
+  pub reached_refused : {s : S} {at i j : ℕ} {e : Refusal} {whole : Result (Unit {0}) Refusal} → Reached s at i whole → next_from at (follow w at i) ≡ Ok (Some j)
       → checked (step s j) ≡ Err e → Err e ≡ whole
   reached_refused {s} {at} {i} {j} r e h =
-      let u = chain_leads s at i r.enough (next_to at (follow w at i) e) in
+      let u = chain_leads s at i r.enough (next_from_to at (follow w at i) e) in
       sym (ap checked (u.2 ∙ ap (λ x. cons x (λ a. X u.0 (on s a) j (word w j 3))) (checked_refused (step s j) h))) ∙ r.same
 
-  pub reached_on : {s : S} {at i j : ℕ} {a : A} {whole : Result (Unit {0}) Refusal} → Reached s at i whole → next at (follow w at i) ≡ Ok (Some j)
+  pub reached_on : {s : S} {at i j : ℕ} {a : A} {whole : Result (Unit {0}) Refusal} → Reached s at i whole → next_from at (follow w at i) ≡ Ok (Some j)
       → step s j ≡ good a → Reached (on s a) j (word w j 3) whole
   reached_on {s} {at} {i} {j} {a} r e h =
-      let u = chain_leads s at i r.enough (next_to at (follow w at i) e) in
+      let u = chain_leads s at i r.enough (next_from_to at (follow w at i) e) in
       record {
         fuel = u.0;
         enough = u.1;

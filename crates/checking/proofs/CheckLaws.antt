@@ -79,18 +79,18 @@ falls_before (suc m) e last h k = go (order (bytes 8 e) (bytes 8 last)) (subst (
 
 -- ── a term ──
 module _ (w : List ℕ) (p n m last i : ℕ) where
-  pub refused_terms : 256 ≤ m → Refused Terms i ≡ checked (read_term w p n m (before m last) i)
+  pub refused_terms : 256 ≤ m → Err (refusal Terms i) ≡ checked (read_term w p n m (before m last) i)
   unfolding read_term
   refused_terms h = rw (le-leb 256 m h)
 
-  refused_coefficient : m < 256 → eqb (word w i 0) 0 || leb p (word w i 0) ≡ true → Refused Coefficient i ≡ checked (read_term w p n m (before m last) i)
+  refused_coefficient : m < 256 → eqb (word w i 0) 0 || leb p (word w i 0) ≡ true → Err (refusal Coefficient i) ≡ checked (read_term w p n m (before m last) i)
   unfolding read_term
   refused_coefficient h c = rw (lt-leb 256 m h, c)
 
-  pub refused_zero : m < 256 → word w i 0 ≡ 0 → Refused Coefficient i ≡ checked (read_term w p n m (before m last) i)
+  pub refused_zero : m < 256 → word w i 0 ≡ 0 → Err (refusal Coefficient i) ≡ checked (read_term w p n m (before m last) i)
   refused_zero h z = refused_coefficient h (rw (eq-eqb (word w i 0) 0 z))
 
-  pub refused_residue : m < 256 → word w i 0 ≢ 0 → p ≤ word w i 0 → Refused Coefficient i ≡ checked (read_term w p n m (before m last) i)
+  pub refused_residue : m < 256 → word w i 0 ≢ 0 → p ≤ word w i 0 → Err (refusal Coefficient i) ≡ checked (read_term w p n m (before m last) i)
   refused_residue h s l = refused_coefficient h (rw (ne_eqb (word w i 0) 0 s, le-leb p (word w i 0) l))
 
   -- The term's monomial is e.
@@ -98,26 +98,26 @@ module _ (w : List ℕ) (p n m last i : ℕ) where
     is : bytes 8 e ≡ exponents (word w i 1) (word w i 2)
     is = packed ∙ ap₂ exponents high low
 
-    pub refused_exponent : has_above n (bytes 8 e) ≡ true → Refused Exponent i ≡ checked (read_term w p n m (before m last) i)
+    pub refused_exponent : has_above n (bytes 8 e) ≡ true → Err (refusal Exponent i) ≡ checked (read_term w p n m (before m last) i)
     unfolding read_term
     refused_exponent h = rw (lt-leb 256 m few, ne_eqb (word w i 0) 0 some, lt-leb p (word w i 0) residue, ← is, h)
 
-    refused_not_below : has_above n (bytes 8 e) ≡ false → not_below (bytes 8 e) (before m last) ≡ true → Refused Order i ≡ checked (read_term w p n m (before m last) i)
+    refused_not_below : has_above n (bytes 8 e) ≡ false → not_below (bytes 8 e) (before m last) ≡ true → Err (refusal Order i) ≡ checked (read_term w p n m (before m last) i)
     unfolding read_term
     refused_not_below h b = rw (lt-leb 256 m few, ne_eqb (word w i 0) 0 some, lt-leb p (word w i 0) residue, ← is, h, b)
 
-    good_term : has_above n (bytes 8 e) ≡ false → not_below (bytes 8 e) (before m last) ≡ false → Good ≡ checked (read_term w p n m (before m last) i)
+    good_term : has_above n (bytes 8 e) ≡ false → not_below (bytes 8 e) (before m last) ≡ false → Ok tt ≡ checked (read_term w p n m (before m last) i)
     unfolding read_term
     good_term h b = rw (lt-leb 256 m few, ne_eqb (word w i 0) 0 some, lt-leb p (word w i 0) residue, ← is, h, b)
 
     module _ (h : has_above n (bytes 8 e) ≡ false) (word_e : e < 2 ^ 64) (word_last : last < 2 ^ 64) where
-      pub refused_order : 0 < m → last ≤ e → Refused Order i ≡ checked (read_term w p n m (before m last) i)
+      pub refused_order : 0 < m → last ≤ e → Err (refusal Order i) ≡ checked (read_term w p n m (before m last) i)
       refused_order s l = refused_not_below h (falls_before m e last word_e word_last ∙ rw (lt-ltb 0 m s, le-leb last e l))
 
-      pub good_first : m ≡ 0 → Good ≡ checked (read_term w p n m (before m last) i)
+      pub good_first : m ≡ 0 → Ok tt ≡ checked (read_term w p n m (before m last) i)
       good_first z = good_term h (falls_before m e last word_e word_last ∙ rw (le-ltb 0 m (omega arith)))
 
-      pub good_below : e < last → Good ≡ checked (read_term w p n m (before m last) i)
+      pub good_below : e < last → Ok tt ≡ checked (read_term w p n m (before m last) i)
       good_below l = good_term h (falls_before m e last word_e word_last ∙ rw (lt-leb last e l, and-false (ltb 0 m)))
 
 -- What each test of a term answers.
@@ -125,7 +125,7 @@ pub ruleset term_tests = (refused_terms, refused_zero, refused_residue, refused_
 
 -- The term in record j was accepted: one term more is behind.
 pub terms_on : (w : List ℕ) (p n m last : ℕ) {at i j : ℕ} {whole : Checked} (behind link : ℕ) → Reached (terms_chain w p n) (m, before m last) at i whole
-    → next (follow w at i) ≡ To j → checked (read_term w p n m (before m last) j) ≡ Good
+    → next (follow w at i) ≡ To j → checked (read_term w p n m (before m last) j) ≡ Ok tt
     → bytes 8 behind ≡ exponents (word w j 1) (word w j 2) → link ≡ word w j 3 → Reached (terms_chain w p n) (m + 1, before (m + 1) behind) j link whole
 terms_on w p n m last {j = j} {whole = whole} behind link r e h b l =
     let g = checked_good (read_term w p n m (before m last) j) h in
@@ -144,11 +144,11 @@ not_zero_cons a e = go (eqb a 0)
     go false = refl
 
 module _ (w : List ℕ) (p n i : ℕ) where
-  pub refused_head : word w i 1 ≢ 0 → Refused Head i ≡ checked (read_head w p n i)
+  pub refused_head : word w i 1 ≢ 0 → Err (refusal Head i) ≡ checked (read_head w p n i)
   unfolding read_head
   refused_head h = rw (not_zero_cons (word w i 1), ne_eqb (word w i 1) 0 h)
 
-  pub refused_head_2 : word w i 1 ≡ 0 → word w i 2 ≢ 0 → Refused Head i ≡ checked (read_head w p n i)
+  pub refused_head_2 : word w i 1 ≡ 0 → word w i 2 ≢ 0 → Err (refusal Head i) ≡ checked (read_head w p n i)
   unfolding read_head
   refused_head_2 e h = rw (not_zero_cons (word w i 1), eq-eqb (word w i 1) 0 e, not_zero_cons (word w i 2), ne_eqb (word w i 2) 0 h)
 

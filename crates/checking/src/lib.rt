@@ -6,87 +6,66 @@ ghost use Rattle.polynomials.specs.Packed.{bytes};
 ghost use Rattle.tables.specs.Words.{word, records};
 ghost use Rattle.tables.specs.Read.{first, has_above, read_term, read_terms, read_head};
 ghost use Rattle.tables.specs.Solve.{checked};
-ghost use Rattle.tables.specs.Walk.{Readable, before};
+ghost use Rattle.tables.specs.Walk.{before};
 
-use tables::{Checked, Next, Reason};
+use tables::{Reason, Refusal};
+use words::Table;
 
 // Whether a variable above vn has an exponent in m.
 fn has_above(m: u64, n: u32) -> bool
     requires { n ≤ 8 }
     ensures { result ≡ has_above n (bytes 8 m) }
 {
-    if n == 8 {
-        return false;
-    }
-    m >> (8 * n) != 0
+    n < 8 && m >> (8 * n) != 0
 }
 
-// The term in record i, with m terms of its polynomial before it, the last of them of monomial `last`.
+// The term in record i, with m terms of its polynomial before it, the last of them of the monomial `before`.
 #[tactic(auto, using(crate::proofs::CheckLaws::term_tests))]
-fn check_term(table: &[u32], p: u32, n: u32, m: u32, last: u64, i: usize) -> Checked
-    requires { Readable table.now p n × (i < records table.now) }
-    ensures { result ≡ checked (read_term table.now p n m (before m last) i) }
+fn check_term(table: Table<'_>, m: u32, before: Option<u64>, i: usize) -> Result<(), Refusal>
+    requires { i < records table.words.now }
+    ensures { result ≡ checked (read_term table.entry.words.now table.entry.modulus table.entry.variables m (before before) i) }
 {
     if 256 <= m {
-        return Checked::Refused(Reason::Terms, i as u32);
+        return Err(table.refusal(Reason::Terms, i));
     }
-    let c = words::word(table, i, 0);
-    if c == 0 {
-        return Checked::Refused(Reason::Coefficient, i as u32);
+    let c = table.word(i, 0);
+    if c == 0 || table.modulus <= c {
+        return Err(table.refusal(Reason::Coefficient, i));
     }
-    if p <= c {
-        return Checked::Refused(Reason::Coefficient, i as u32);
+    let e = monomials::packed(table.word(i, 1), table.word(i, 2));
+    if has_above(e, table.variables) {
+        return Err(table.refusal(Reason::Exponent, i));
     }
-    let e = monomials::packed(words::word(table, i, 1), words::word(table, i, 2));
-    if has_above(e, n) {
-        return Checked::Refused(Reason::Exponent, i as u32);
+    if before.is_some_and(|b| b <= e) {
+        return Err(table.refusal(Reason::Order, i));
     }
-    if 0 < m && last <= e {
-        return Checked::Refused(Reason::Order, i as u32);
-    }
-    Checked::Good
+    Ok(())
 }
 
 // The terms of the polynomial with its head in record `head`.
-fn check_terms(table: &[u32], p: u32, n: u32, head: usize) -> Checked
-    requires { Readable table.now p n × (head < records table.now) }
-    ensures { result ≡ checked (read_terms table.now p n (records table.now) 0 first head (word table.now head 0)) }
+fn check_terms(table: Table<'_>, head: usize) -> Result<(), Refusal>
+    requires { head < records table.words.now }
+    ensures { result ≡ checked (read_terms table.entry.words.now table.entry.modulus table.entry.variables (records table.entry.words.now) 0 first head (word table.entry.words.now head 0)) }
 {
-    let mut at = head;
-    let mut i = words::word(table, head, 0);
+    let mut next = table.follow(head, table.word(head, 0))?;
     let mut m: u32 = 0;
-    let mut last: u64 = 0;
-    loop {
-        match words::follow(table, at, i) {
-            Next::End => {
-                return Checked::Good;
-            }
-            Next::Astray => {
-                return Checked::Refused(Reason::Index, at as u32);
-            }
-            Next::To(j) => {
-                if let Checked::Refused(why, record) = check_term(table, p, n, m, last, j) {
-                    return Checked::Refused(why, record);
-                }
-                last = monomials::packed(words::word(table, j, 1), words::word(table, j, 2));
-                m += 1;
-                at = j;
-                i = words::word(table, j, 3);
-            }
-        }
+    let mut before = None;
+    while let Some(i) = next {
+        check_term(table, m, before, i)?;
+        before = Some(monomials::packed(table.word(i, 1), table.word(i, 2)));
+        m += 1;
+        next = table.follow(i, table.word(i, 3))?;
     }
+    Ok(())
 }
 
 // The head in record i and its terms.
-pub fn check_head(table: &[u32], p: u32, n: u32, i: usize) -> Checked
-    requires { Readable table.now p n × (i < records table.now) }
-    ensures { result ≡ checked (read_head table.now p n i) }
+pub fn check_head(table: Table<'_>, i: usize) -> Result<(), Refusal>
+    requires { i < records table.words.now }
+    ensures { result ≡ checked (read_head table.entry.words.now table.entry.modulus table.entry.variables i) }
 {
-    if words::word(table, i, 1) != 0 {
-        return Checked::Refused(Reason::Head, i as u32);
+    if table.word(i, 1) != 0 || table.word(i, 2) != 0 {
+        return Err(table.refusal(Reason::Head, i));
     }
-    if words::word(table, i, 2) != 0 {
-        return Checked::Refused(Reason::Head, i as u32);
-    }
-    check_terms(table, p, n, i)
+    check_terms(table, i)
 }

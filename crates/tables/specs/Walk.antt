@@ -1,5 +1,5 @@
 -- What the functions that walk a table's chains say of it.
-use Rattle.std.specs.Prelude.{◌≡◌, true, List, ℕ, zero, suc, ◌≤◌, Option, None, Some, Result, Ok, Err}
+use Rattle.std.specs.Prelude.{◌≡◌, true, List, ℕ, ◌≤◌, Option, None, Some, Result, Ok, Err}
 use Rattle.residues.specs.Prime.{is_modulus}
 use Rattle.polynomials.specs.Packed.{bytes}
 use Rattle.tables.specs.declared.Reason.TheVariants.{Index}
@@ -32,7 +32,7 @@ next_from at end = Ok None
 next_from at (to i) = Ok (Some i)
 next_from at astray = Err (refusal Index at)
 
--- The monomial before the term of number m.
-abbrev pub before : ℕ → ℕ → Before
-before zero last = first
-before (suc m) last = after (bytes 8 last)
+-- The term before, by its monomial, if there is one.
+abbrev pub before : Option ℕ → Before
+before None = first
+before (Some m) = after (bytes 8 m)

@@ -1,5 +1,5 @@
 -- The header of a table, and its chains, step by step. Terms, heads, T chains and systems are read in one way, so the laws are said once, of any chain.
-use Rattle.std.specs.Prelude.{◌≡◌, refl, ◌≢◌, Bool, true, false, not, ◌&&◌, ◌||◌, List, [], ◌∷◌, ℕ, zero, suc, ◌+◌, ◌*◌, ◌%◌, ◌≤◌, ◌<◌, eqb, ltb, length, Option, None, Some, Result, Ok, Err}
+use Rattle.std.specs.Prelude.{◌≡◌, refl, ◌≢◌, Bool, true, false, not, ◌&&◌, ◌||◌, List, [], ◌∷◌, ℕ, zero, suc, ◌+◌, ◌-◌, ◌*◌, ◌%◌, ◌≤◌, ◌<◌, eqb, ltb, length, Option, None, Some, Result, Ok, Err}
 use Rattle.std.proofs.Common.{sym, ◌∙◌, arith}
 use Rattle.std.proofs.Math.Path.{ap, fun_ext}
 use Rattle.std.proofs.Math.Bool.{and-eq-true_iff}
@@ -144,6 +144,15 @@ next_from_to at astray e = cc
 pub next_inside : (w : List ℕ) (at i j : ℕ) → next_from at (follow w at i) ≡ Ok (Some j) → (at < j) × (j < records w)
 next_inside w at i j e = let q = followed w at i j (next_from_to at (follow w at i) e) in (q.1, q.2)
 
+-- How many records are left from where an index leads: none where it leads to no record.
+abbrev pub left : List ℕ → Option ℕ → ℕ
+left w None = 0
+left w (Some j) = records w - j
+
+pub left_less : (w : List ℕ) (i j : ℕ) (next : Option ℕ) → j < records w → next_from j (follow w j i) ≡ Ok next → left w next < left w (Some j)
+left_less w i j None h e = omega arith
+left_less w i j (Some k) h e = omega (arith, (next_inside w j i k e).0)
+
 -- A refusal is that of an index astray.
 pub next_from_astray : (at : ℕ) (f : Followed) {r : Refusal} → next_from at f ≡ Err r → (f ≡ astray) × (r ≡ refusal Index at)
 next_from_astray at end e = cc
@@ -250,6 +259,26 @@ module _ {A S : Type 0} {w : List ℕ} {step : S → ℕ → Read A} {on : S →
         enough = u.1;
         same = sym (ap checked (u.2 ∙ ap (λ x. cons x (λ a. X u.0 (on s a) j (word w j 3))) h) ∙ cons_checked a (X u.0 (on s a) j (word w j 3))) ∙ r.same;
       }
+
+  -- An index was followed, and leads to `next`.
+  pub record Leads (s : S) (next : Option ℕ) (whole : Result (Unit {0}) Refusal) : Type 0 where
+    pub at : ℕ
+    pub index : ℕ
+    pub reached : Reached s at index whole
+    pub leads : next_from at (follow w at index) ≡ Ok next
+
+  pub leads_end : {s : S} {whole : Result (Unit {0}) Refusal} → Leads s None whole → Ok tt ≡ whole
+  leads_end l = reached_end l.reached l.leads
+
+  pub leads_inside : {s : S} {j : ℕ} {whole : Result (Unit {0}) Refusal} → Leads s (Some j) whole → j < records w
+  leads_inside {j = j} l = (next_inside w l.at l.index j l.leads).1
+
+  pub leads_refused : {s : S} {j : ℕ} {e : Refusal} {whole : Result (Unit {0}) Refusal} → Leads s (Some j) whole → checked (step s j) ≡ Err e → Err e ≡ whole
+  leads_refused l h = reached_refused l.reached l.leads h
+
+  -- The member that it leads to was read: the index there is the next.
+  pub leads_on : {s : S} {j : ℕ} {a : A} {whole : Result (Unit {0}) Refusal} → Leads s (Some j) whole → step s j ≡ good a → Reached (on s a) j (word w j 3) whole
+  leads_on l h = reached_on l.reached l.leads h
 
   -- ── a walk along a chain that was read ──
   -- Index i is not 0: it leads to a member, and the others follow.

@@ -13,6 +13,7 @@ use readers::Reader;
 use words::Table;
 
 // v plus the value at the point of the term in record i.
+#[tactic(auto, unfolding(residues::specs::Residue::sum))]
 fn add_term(table: Table<'_>, i: usize, v: u64, point: &[u32]) -> u64
     requires term { (i < records table.words.now) × (word table.words.now i 0 < table.modulus) }
     requires residue { v < table.modulus }

@@ -1,0 +1,11 @@
+-- The table's prime bounds the term's coefficient, its value and v.
+use Rattle.std.proofs.Common.{arith}
+use native.Mathlib.Nat.{mod-lt}
+use Rattle.evaluation.proofs.ValueLaws.{prime_two, prime_below}
+use Rattle.evaluation.proofs.add_term.Goals as goal
+
+pub term_value-requires-clause-le_p : goal.term_value-requires-clause-le_p
+term_value-requires-clause-le_p c = let two = prime_two c.args.table in let below = prime_below c.args.table in (omega arith, omega arith, omega arith)
+
+pub add-requires : goal.add-requires
+add-requires c = let two = prime_two c.args.table in let below = prime_below c.args.table in (omega arith, omega arith, omega arith)

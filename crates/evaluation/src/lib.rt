@@ -44,7 +44,13 @@ fn value_at(table: Table<'_>, head: usize, point: &[u32]) -> u64
 }
 
 // Whether the values of all polynomials from the index `first` on, which record `from` holds, pass the test.
-fn all_pass<F: Fn(u64) -> bool>(table: Table<'_>, from: usize, first: u32, point: &[u32], test: F) -> bool
+fn all_pass<F: Fn(u64) -> bool>(
+    table: Table<'_>,
+    from: usize,
+    first: u32,
+    point: &[u32],
+    test: F,
+) -> bool
     requires record { from < records table.words.now }
     requires read { (fs : List Poly) × (read_heads table.words.now table.modulus table.variables (records table.words.now) from first ≡ good fs) }
     requires point { Point table.modulus point.now }

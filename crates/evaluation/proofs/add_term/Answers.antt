@@ -1,6 +1,5 @@
 -- The table's prime bounds the term's coefficient, its value and v.
 use Rattle.std.proofs.Common.{arith}
-use native.Mathlib.Nat.{mod-lt}
 use Rattle.evaluation.proofs.ValueLaws.{prime_two, prime_below}
 use Rattle.evaluation.proofs.add_term.Goals as goal
 

@@ -9,13 +9,12 @@ use Rattle.polynomials.specs.Poly.{Term, Poly}
 use Rattle.polynomials.specs.Packed.{exponents}
 use Rattle.polynomials.specs.Value.{monomial_valueℕ, valueℕ, value_modulo}
 use Rattle.tables.specs.Words.{word, records}
-use Rattle.tables.specs.Read.{good, read_head, read_heads}
 use Rattle.tables.specs.Solve.{is_root, all_zero, none_zero}
 use Rattle.tables.specs.laws.Chains.{term_read}
 use Rattle.tables.specs.laws.Linked.{left, good_same, Member, chain_end, chain_next, chain_on, chain_less, TermsLeft, terms_left, HeadsLeft, heads_left}
 use Rattle.tables.specs.laws.Accepted.{readable_numbers}
 use Rattle.words.specs.declared.Table.{Table}
-use Rattle.evaluation.specs.Walks.{TestsEach, plus_term}
+use Rattle.evaluation.specs.Walks.{IsPolynomialAt, ArePolynomialsFrom, TestsEach, plus_term}
 
 -- ── the prime ──
 module _ (t : Table) where
@@ -30,9 +29,9 @@ module _ (t : Table) where
 pub record ValueLeft (t : Table) (head : ℕ) (x : List ℕ) (v i : ℕ) : Type 0 where
   pub chain : TermsLeft t.words.now t.modulus t.variables i
   pub below : v < t.modulus
-  pub sum : (f : Poly) → read_head t.words.now t.modulus t.variables head ≡ good f → (v + valueℕ chain.rest x) % t.modulus ≡ value_modulo t.modulus f x
+  pub sum : (f : Poly) → IsPolynomialAt t head f → (v + valueℕ chain.rest x) % t.modulus ≡ value_modulo t.modulus f x
 
-pub value_start : {t : Table} {head : ℕ} {x : List ℕ} {f : Poly} → head < records t.words.now → read_head t.words.now t.modulus t.variables head ≡ good f
+pub value_start : {t : Table} {head : ℕ} {x : List ℕ} {f : Poly} → head < records t.words.now → IsPolynomialAt t head f
     → ValueLeft t head x 0 (word t.words.now head 0)
 unfolding value_modulo
 value_start {t} {head} {x} {f} h e =
@@ -43,7 +42,7 @@ value_start {t} {head} {x} {f} h e =
     }
 
 module _ {t : Table} {head : ℕ} {x : List ℕ} {v i : ℕ} (l : ValueLeft t head x v i) where
-  pub value_end : i ≡ 0 → (f : Poly) → read_head t.words.now t.modulus t.variables head ≡ good f → v ≡ value_modulo t.modulus f x
+  pub value_end : i ≡ 0 → (f : Poly) → IsPolynomialAt t head f → v ≡ value_modulo t.modulus f x
   unfolding valueℕ
   value_end z f e =
       sym (mod-eq_of_lt l.below) ∙ ap (λ z. z % t.modulus) (sym (add-zero v)) ∙ ap (λ (g : Poly). (v + valueℕ g x) % t.modulus) (sym (chain_end l.chain z)) ∙ l.sum f e
@@ -114,11 +113,11 @@ module _ (p : ℕ) (x : List ℕ) where
 -- The polynomials from index i on decide for all from the index `first` on, which record `from` holds.
 pub record TestsLeft (T : ℕ → Bool → Type 0) (t : Table) (from first : ℕ) (x : List ℕ) (i : ℕ) : Type 0 where
   pub chain : HeadsLeft t.words.now t.modulus t.variables i
-  pub decides : (fs : List Poly) → read_heads t.words.now t.modulus t.variables (records t.words.now) from first ≡ good fs
+  pub decides : (fs : List Poly) → ArePolynomialsFrom t from first fs
       → (b : Bool) → TestsEach T t.modulus x chain.rest b → TestsEach T t.modulus x fs b
 
 pub tests_start : {T : ℕ → Bool → Type 0} {t : Table} {from first : ℕ} {x : List ℕ} {fs : List Poly} → from < records t.words.now
-    → read_heads t.words.now t.modulus t.variables (records t.words.now) from first ≡ good fs → TestsLeft T t from first x first
+    → ArePolynomialsFrom t from first fs → TestsLeft T t from first x first
 tests_start {T} {t} {from} {first} {x} {fs} h e =
     record {
       chain = heads_left t.words.now t.modulus t.variables from first fs h e;
@@ -126,7 +125,7 @@ tests_start {T} {t} {from} {first} {x} {fs} h e =
     }
 
 module _ {T : ℕ → Bool → Type 0} {t : Table} {from first : ℕ} {x : List ℕ} {i : ℕ} (l : TestsLeft T t from first x i) where
-  pub tests_end : i ≡ 0 → (fs : List Poly) → read_heads t.words.now t.modulus t.variables (records t.words.now) from first ≡ good fs
+  pub tests_end : i ≡ 0 → (fs : List Poly) → ArePolynomialsFrom t from first fs
       → TestsEach T t.modulus x fs true
   tests_end z fs e = l.decides fs e true (rw (chain_end l.chain z) none_fails)
 
@@ -138,13 +137,13 @@ module _ {T : ℕ → Bool → Type 0} {t : Table} {from first : ℕ} {x : List 
     pub tests_inside : i < records t.words.now
     tests_inside = head.inside
 
-    pub tests_read : (f : Poly) × (read_head t.words.now t.modulus t.variables i ≡ good f)
+    pub tests_read : (f : Poly) × (IsPolynomialAt t i f)
     tests_read = (head.member, head.is_read)
 
     pub tests_less : left (records t.words.now) (word t.words.now i 3) < left (records t.words.now) i
     tests_less = chain_less l.chain more
 
-    module _ {v : ℕ} (is_value : (f : Poly) → read_head t.words.now t.modulus t.variables i ≡ good f → v ≡ value_modulo t.modulus f x) where
+    module _ {v : ℕ} (is_value : (f : Poly) → IsPolynomialAt t i f → v ≡ value_modulo t.modulus f x) where
       pub tests_next : T v true → TestsLeft T t from first x (word t.words.now i 3)
       unfolding head
       tests_next h =
@@ -153,6 +152,6 @@ module _ {T : ℕ → Bool → Type 0} {t : Table} {from first : ℕ} {x : List 
             decides = λ fs e b a. l.decides fs e b (rw head.parts (passes_on head.member (subst (λ v. T v true) (is_value head.member head.is_read) h) a));
           }
 
-      pub tests_fail : T v false → (fs : List Poly) → read_heads t.words.now t.modulus t.variables (records t.words.now) from first ≡ good fs
+      pub tests_fail : T v false → (fs : List Poly) → ArePolynomialsFrom t from first fs
           → TestsEach T t.modulus x fs false
       tests_fail h fs e = l.decides fs e false (rw head.parts (fails_on head.member head.behind (subst (λ v. T v false) (is_value head.member head.is_read) h)))

@@ -1,13 +1,12 @@
 // Polynomials of a table at a point: the value of one, and whether all of a chain are zero there, or none.
 #![tactic(auto)]
 
-ghost use Rattle.std.specs.Prelude.{◌≡◌, List, ◌≤◌, ◌<◌};
+ghost use Rattle.std.specs.Prelude.{◌≡◌, List, ◌<◌};
 ghost use Rattle.polynomials.specs.Poly.{Poly};
 ghost use Rattle.polynomials.specs.Value.{value_modulo, Point};
 ghost use Rattle.tables.specs.Words.{word, records};
-ghost use Rattle.tables.specs.Read.{good, read_head, read_heads};
 ghost use Rattle.tables.specs.Solve.{all_zero, none_zero};
-ghost use Rattle.evaluation.specs.Walks.{plus_term, TestsEach};
+ghost use Rattle.evaluation.specs.Walks.{IsPolynomialAt, ArePolynomialsFrom, TestsEach, plus_term};
 
 use readers::Reader;
 use words::Table;
@@ -29,10 +28,9 @@ fn add_term(table: Table<'_>, i: usize, v: u64, point: &[u32]) -> u64
 // The value at a point of the polynomial with its head in record `head`.
 fn value_at(table: Table<'_>, head: usize, point: &[u32]) -> u64
     requires record { head < records table.words.now }
-    requires read { (f : Poly) × (read_head table.words.now table.modulus table.variables head ≡ good f) }
+    requires read { (f : Poly) × (IsPolynomialAt table head f) }
     requires point { Point table.modulus point.now }
-    ensures { (f : Poly) → read_head table.entry.words.now table.entry.modulus table.entry.variables head ≡ good f
-        → result ≡ value_modulo table.entry.modulus f point.now }
+    ensures { (f : Poly) → IsPolynomialAt table.entry head f → result ≡ value_modulo table.entry.modulus f point.now }
 {
     let mut v = 0;
     let mut r = Reader::new(table.words, head).step(0);
@@ -52,11 +50,10 @@ fn all_pass<F: Fn(u64) -> bool>(
     test: F,
 ) -> bool
     requires record { from < records table.words.now }
-    requires read { (fs : List Poly) × (read_heads table.words.now table.modulus table.variables (records table.words.now) from first ≡ good fs) }
+    requires read { (fs : List Poly) × (ArePolynomialsFrom table from first fs) }
     requires point { Point table.modulus point.now }
     requires test { F.IsAlwaysCallable test }
-    ensures { (fs : List Poly) → read_heads table.entry.words.now table.entry.modulus table.entry.variables (records table.entry.words.now) from first ≡ good fs
-        → TestsEach (F.post test) table.entry.modulus point.now fs result }
+    ensures { (fs : List Poly) → ArePolynomialsFrom table.entry from first fs → TestsEach (F.post test) table.entry.modulus point.now fs result }
 {
     let mut r = Reader::new(table.words, first as usize);
     while !r.is_over() {
@@ -71,21 +68,19 @@ fn all_pass<F: Fn(u64) -> bool>(
 // Whether all polynomials from the index `first` on, which record `from` holds, are zero at the point.
 pub fn all_zero(table: Table<'_>, from: usize, first: u32, point: &[u32]) -> bool
     requires record { from < records table.words.now }
-    requires read { (fs : List Poly) × (read_heads table.words.now table.modulus table.variables (records table.words.now) from first ≡ good fs) }
+    requires read { (fs : List Poly) × (ArePolynomialsFrom table from first fs) }
     requires point { Point table.modulus point.now }
-    ensures { (fs : List Poly) → read_heads table.entry.words.now table.entry.modulus table.entry.variables (records table.entry.words.now) from first ≡ good fs
-        → result ≡ all_zero table.entry.modulus point.now fs }
+    ensures { (fs : List Poly) → ArePolynomialsFrom table.entry from first fs → result ≡ all_zero table.entry.modulus point.now fs }
 {
     all_pass(table, from, first, point, |value| value == 0)
 }
 
-// Whether none of them is.
+// Whether none of them is zero there.
 pub fn none_zero(table: Table<'_>, from: usize, first: u32, point: &[u32]) -> bool
     requires record { from < records table.words.now }
-    requires read { (fs : List Poly) × (read_heads table.words.now table.modulus table.variables (records table.words.now) from first ≡ good fs) }
+    requires read { (fs : List Poly) × (ArePolynomialsFrom table from first fs) }
     requires point { Point table.modulus point.now }
-    ensures { (fs : List Poly) → read_heads table.entry.words.now table.entry.modulus table.entry.variables (records table.entry.words.now) from first ≡ good fs
-        → result ≡ none_zero table.entry.modulus point.now fs }
+    ensures { (fs : List Poly) → ArePolynomialsFrom table.entry from first fs → result ≡ none_zero table.entry.modulus point.now fs }
 {
     all_pass(table, from, first, point, |value| value != 0)
 }

@@ -1,35 +1,28 @@
 -- What the code tests of a head and its terms, as the definitions of reading say it.
 use mathlib.Core.Path.{◌≡◌, refl, sym, ◌∙◌, ap, ap₂, subst}
 use mathlib.Core.Logic.{◌≢◌}
-use mathlib.Core.Bool.{Bool, true, false, not, ◌&&◌, ◌||◌, and-false}
+use mathlib.Core.Bool.{Bool, true, false, not, ◌||◌}
 use mathlib.Core.List.{List, ◌∷◌}
+use Rattle.std.proofs.Common.{Option, None, Some, Result, Ok, Err}
 use Prim.Native.Nat.{ℕ, zero, suc, ◌+◌, ◌*◌, ◌/◌, ◌%◌, ◌^◌, ◌≤◌, ◌<◌, Ordering}
 use native.Mathlib.Nat.{pow-succ', div-one, div-div-eq-div-mul}
 use native.Mathlib.Numerals.{add-one}
 use native.Mathlib.Omega.{arith}
 use native.Mathlib.Decide.{ℕ_discrete}
-use borrow.Author.Tests.{lt-ltb, le-ltb, le-leb, lt-leb, eq-eqb, ne_eqb, eqb-true, eqb-false}
-use mir.Syntax.{w32}
-use mir.Val.{Fits}
-use lib.Dec.{eqb, leb, ltb}
+use borrow.Author.Tests.{le-leb, lt-leb, eq-eqb, ne_eqb, eqb-true, eqb-false}
+use lib.Dec.{eqb, leb}
 use lib.ListN.{drop}
 use Rattle.polynomials.specs.Poly.{Term, order}
 use Rattle.polynomials.specs.Packed.{bytes, exponents}
 use Rattle.polynomials.specs.laws.Order.{Says, compare_says}
 use Rattle.polynomials.specs.laws.Packed.{fewer_bytes, order_bytes, byte_power}
 use Rattle.tables.specs.declared.Reason.TheVariants.{Head, Coefficient, Exponent, Order, Terms}
-use Rattle.tables.specs.declared.Checked.{Checked}
-use Rattle.tables.specs.declared.Next.TheVariants.{To}
-use Rattle.tables.specs.declared.Checked.TheVariants.{Good, Refused}
-use Rattle.tables.specs.Words.{word, records, follow}
-use Rattle.tables.specs.Read.{first, after, not_zero, has_above, not_below, read_term, read_terms, read_head}
-use Rattle.tables.specs.Solve.{checked}
-use Rattle.tables.specs.Walk.{Readable, before, next}
-use Rattle.tables.specs.laws.Chains.{whole_records, checked_good, Reached, reached_on, terms_chain, term_read}
-
--- A record's number fits a word.
-pub fits_word : {w : List ℕ} {p n i : ℕ} → Readable w p n → i < records w → Fits w32 i
-fits_word {w} {p} {n} {i} r h = record { fits = omega (arith, (whole_records w r.whole).2) }
+use Rattle.tables.specs.declared.Refusal.{Refusal}
+use Rattle.tables.specs.Words.{word, records}
+use Rattle.tables.specs.Read.{Before, first, after, not_zero, has_above, not_below, read_term, read_terms, read_head}
+use Rattle.tables.specs.Solve.{refusal, checked}
+use Rattle.tables.specs.Walk.{before}
+use Rattle.tables.specs.laws.Chains.{checked_good, Reached, Leads, leads_on, terms_chain, term_read}
 
 -- ── exponents ──
 -- Some byte of a number is not 0 exactly if the number is not.
@@ -67,30 +60,35 @@ unfolding has_above not_zero bytes
 above_all n m e = rw e
 
 -- "Not below the term before", of monomials as numbers.
-falls_before : (m e last : ℕ) → e < 2 ^ 64 → last < 2 ^ 64 → not_below (bytes 8 e) (before m last) ≡ ltb 0 m && leb last e
+pub falls_before : (e last : ℕ) → e < 2 ^ 64 → last < 2 ^ 64 → not_below (bytes 8 e) (before (Some last)) ≡ leb last e
 unfolding not_below
-falls_before zero e last h k = refl
-falls_before (suc m) e last h k = go (order (bytes 8 e) (bytes 8 last)) (subst (λ (o : Ordering). Says o e last) (sym (order_bytes 8 e last h k)) (compare_says e last))
+falls_before e last h k = go (order (bytes 8 e) (bytes 8 last)) (subst (λ (o : Ordering). Says o e last) (sym (order_bytes 8 e last h k)) (compare_says e last))
   where
-    go : (o : Ordering) → Says o e last → ◌≡◌ {A = Bool} (elim o [ Ordering.lt ↦ false | Ordering.eq ↦ true | Ordering.gt ↦ true ]) (ltb 0 (suc m) && leb last e)
-    go Ordering.lt l = rw (lt-ltb 0 (suc m) (omega arith), lt-leb last e l)
-    go Ordering.eq l = rw (lt-ltb 0 (suc m) (omega arith), le-leb last e (omega arith))
-    go Ordering.gt l = rw (lt-ltb 0 (suc m) (omega arith), le-leb last e (omega arith))
+    go : (o : Ordering) → Says o e last → ◌≡◌ {A = Bool} (elim o [ Ordering.lt ↦ false | Ordering.eq ↦ true | Ordering.gt ↦ true ]) (leb last e)
+    go Ordering.lt l = sym (lt-leb last e l)
+    go Ordering.eq l = sym (le-leb last e (omega arith))
+    go Ordering.gt l = sym (le-leb last e (omega arith))
+
+pub falls_first : (e : ℕ) → not_below (bytes 8 e) (before None) ≡ false
+unfolding not_below
+falls_first e = refl
+
+pub ruleset falls = (falls_before, falls_first)
 
 -- ── a term ──
-module _ (w : List ℕ) (p n m last i : ℕ) where
-  pub refused_terms : 256 ≤ m → Err (refusal Terms i) ≡ checked (read_term w p n m (before m last) i)
+module _ (w : List ℕ) (p n m : ℕ) (b : Option ℕ) (i : ℕ) where
+  pub refused_terms : 256 ≤ m → Err (refusal Terms i) ≡ checked (read_term w p n m (before b) i)
   unfolding read_term
   refused_terms h = rw (le-leb 256 m h)
 
-  refused_coefficient : m < 256 → eqb (word w i 0) 0 || leb p (word w i 0) ≡ true → Err (refusal Coefficient i) ≡ checked (read_term w p n m (before m last) i)
+  refused_coefficient : m < 256 → eqb (word w i 0) 0 || leb p (word w i 0) ≡ true → Err (refusal Coefficient i) ≡ checked (read_term w p n m (before b) i)
   unfolding read_term
   refused_coefficient h c = rw (lt-leb 256 m h, c)
 
-  pub refused_zero : m < 256 → word w i 0 ≡ 0 → Err (refusal Coefficient i) ≡ checked (read_term w p n m (before m last) i)
+  pub refused_zero : m < 256 → word w i 0 ≡ 0 → Err (refusal Coefficient i) ≡ checked (read_term w p n m (before b) i)
   refused_zero h z = refused_coefficient h (rw (eq-eqb (word w i 0) 0 z))
 
-  pub refused_residue : m < 256 → word w i 0 ≢ 0 → p ≤ word w i 0 → Err (refusal Coefficient i) ≡ checked (read_term w p n m (before m last) i)
+  pub refused_residue : m < 256 → word w i 0 ≢ 0 → p ≤ word w i 0 → Err (refusal Coefficient i) ≡ checked (read_term w p n m (before b) i)
   refused_residue h s l = refused_coefficient h (rw (ne_eqb (word w i 0) 0 s, le-leb p (word w i 0) l))
 
   -- The term's monomial is e.
@@ -98,41 +96,35 @@ module _ (w : List ℕ) (p n m last i : ℕ) where
     is : bytes 8 e ≡ exponents (word w i 1) (word w i 2)
     is = packed ∙ ap₂ exponents high low
 
-    pub refused_exponent : has_above n (bytes 8 e) ≡ true → Err (refusal Exponent i) ≡ checked (read_term w p n m (before m last) i)
+    pub refused_exponent : has_above n (bytes 8 e) ≡ true → Err (refusal Exponent i) ≡ checked (read_term w p n m (before b) i)
     unfolding read_term
     refused_exponent h = rw (lt-leb 256 m few, ne_eqb (word w i 0) 0 some, lt-leb p (word w i 0) residue, ← is, h)
 
-    refused_not_below : has_above n (bytes 8 e) ≡ false → not_below (bytes 8 e) (before m last) ≡ true → Err (refusal Order i) ≡ checked (read_term w p n m (before m last) i)
+    pub refused_not_below : has_above n (bytes 8 e) ≡ false → not_below (bytes 8 e) (before b) ≡ true → Err (refusal Order i) ≡ checked (read_term w p n m (before b) i)
     unfolding read_term
-    refused_not_below h b = rw (lt-leb 256 m few, ne_eqb (word w i 0) 0 some, lt-leb p (word w i 0) residue, ← is, h, b)
+    refused_not_below h k = rw (lt-leb 256 m few, ne_eqb (word w i 0) 0 some, lt-leb p (word w i 0) residue, ← is, h, k)
 
-    good_term : has_above n (bytes 8 e) ≡ false → not_below (bytes 8 e) (before m last) ≡ false → Ok tt ≡ checked (read_term w p n m (before m last) i)
+    pub good_term : has_above n (bytes 8 e) ≡ false → not_below (bytes 8 e) (before b) ≡ false → Ok tt ≡ checked (read_term w p n m (before b) i)
     unfolding read_term
-    good_term h b = rw (lt-leb 256 m few, ne_eqb (word w i 0) 0 some, lt-leb p (word w i 0) residue, ← is, h, b)
-
-    module _ (h : has_above n (bytes 8 e) ≡ false) (word_e : e < 2 ^ 64) (word_last : last < 2 ^ 64) where
-      pub refused_order : 0 < m → last ≤ e → Err (refusal Order i) ≡ checked (read_term w p n m (before m last) i)
-      refused_order s l = refused_not_below h (falls_before m e last word_e word_last ∙ rw (lt-ltb 0 m s, le-leb last e l))
-
-      pub good_first : m ≡ 0 → Ok tt ≡ checked (read_term w p n m (before m last) i)
-      good_first z = good_term h (falls_before m e last word_e word_last ∙ rw (le-ltb 0 m (omega arith)))
-
-      pub good_below : e < last → Ok tt ≡ checked (read_term w p n m (before m last) i)
-      good_below l = good_term h (falls_before m e last word_e word_last ∙ rw (lt-leb last e l, and-false (ltb 0 m)))
+    good_term h k = rw (lt-leb 256 m few, ne_eqb (word w i 0) 0 some, lt-leb p (word w i 0) residue, ← is, h, k)
 
 -- What each test of a term answers.
-pub ruleset term_tests = (refused_terms, refused_zero, refused_residue, refused_exponent, refused_order, good_first, good_below)
+pub ruleset term_tests = (refused_terms, refused_zero, refused_residue, refused_exponent, refused_not_below, good_term)
 
 -- The term in record j was accepted: one term more is behind.
-pub terms_on : (w : List ℕ) (p n m last : ℕ) {at i j : ℕ} {whole : Checked} (behind link : ℕ) → Reached (terms_chain w p n) (m, before m last) at i whole
-    → next (follow w at i) ≡ To j → checked (read_term w p n m (before m last) j) ≡ Ok tt
-    → bytes 8 behind ≡ exponents (word w j 1) (word w j 2) → link ≡ word w j 3 → Reached (terms_chain w p n) (m + 1, before (m + 1) behind) j link whole
-terms_on w p n m last {j = j} {whole = whole} behind link r e h b l =
-    let g = checked_good (read_term w p n m (before m last) j) h in
+pub terms_on : (w : List ℕ) (p n m : ℕ) (b : Option ℕ) {next : Option ℕ} {j : ℕ} {whole : Result (Unit {0}) Refusal} (behind : ℕ)
+    → Leads (terms_chain w p n) (m, before b) next whole → next ≡ Some j → Ok tt ≡ checked (read_term w p n m (before b) j)
+    → bytes 8 behind ≡ exponents (word w j 1) (word w j 2) → Reached (terms_chain w p n) (m + 1, before (Some behind)) j (word w j 3) whole
+terms_on w p n m b {next} {j} behind l is h e =
+    let g = checked_good (read_term w p n m (before b) j) (sym h) in
     let t = (term_read w p n g.1).is in
-    let o = reached_on (terms_chain w p n) r e g.1 in
-    let q : after g.0.exps ≡ after (bytes 8 behind) = ap after (ap (λ (t : Term). t.exps) t ∙ sym b) in
-    rw (add-one, l, ← q) o
+    let o = leads_on (terms_chain w p n) l is g.1 in
+    let q : after g.0.exps ≡ after (bytes 8 behind) = ap after (ap (λ (t : Term). t.exps) t ∙ sym e) in
+    rw (add-one, ← q) o
+
+-- So few terms that their count fits.
+pub few_terms : (w : List ℕ) (p n m i : ℕ) (b : Before) → Ok tt ≡ checked (read_term w p n m b i) → m < 256
+few_terms w p n m i b h = (term_read w p n (checked_good (read_term w p n m b i) (sym h)).1).few
 
 -- ── a head ──
 not_zero_cons : (a : ℕ) (e : List ℕ) → not_zero (a ∷ e) ≡ not (eqb a 0) || not_zero e
@@ -155,3 +147,6 @@ module _ (w : List ℕ) (p n i : ℕ) where
   pub head_terms : word w i 1 ≡ 0 → word w i 2 ≡ 0 → checked (read_terms w p n (records w) 0 first i (word w i 0)) ≡ checked (read_head w p n i)
   unfolding read_head not_zero
   head_terms e h = rw (not_zero_cons (word w i 1), eq-eqb (word w i 1) 0 e, not_zero_cons (word w i 2), eq-eqb (word w i 2) 0 h)
+
+-- What the tests of a head answer.
+pub ruleset head_tests = (refused_head, refused_head_2, head_terms)

@@ -4,7 +4,7 @@
 ghost use Rattle.std.specs.Prelude.{◌≡◌, ◌≤◌, ◌<◌};
 ghost use Rattle.polynomials.specs.Packed.{bytes};
 ghost use Rattle.tables.specs.Words.{word, records};
-ghost use Rattle.tables.specs.Read.{first, has_above, read_term, read_terms, read_head};
+ghost use Rattle.tables.specs.Read.{first, has_above, not_below, read_term, read_terms, read_head};
 ghost use Rattle.tables.specs.Solve.{checked};
 ghost use Rattle.tables.specs.Walk.{before};
 
@@ -19,11 +19,22 @@ fn has_above(m: u64, n: u32) -> bool
     n < 8 && m >> (8 * n) != 0
 }
 
-// The term in record i, with m terms of its polynomial before it, the last of them of the monomial `before`.
+// Whether e is not below the monomial before, if there is one.
+#[tactic(auto, using(crate::proofs::CheckLaws::falls))]
+fn not_below(e: u64, last: Option<u64>) -> bool
+    ensures { result ≡ not_below (bytes 8 e) (before last) }
+{
+    match last {
+        Some(l) => l <= e,
+        None => false,
+    }
+}
+
+// The term in record i, with m terms of its polynomial before it, the last of them of the monomial `last`.
 #[tactic(auto, using(crate::proofs::CheckLaws::term_tests))]
-fn check_term(table: Table<'_>, m: u32, before: Option<u64>, i: usize) -> Result<(), Refusal>
+fn check_term(table: Table<'_>, m: u32, last: Option<u64>, i: usize) -> Result<(), Refusal>
     requires { i < records table.words.now }
-    ensures { result ≡ checked (read_term table.entry.words.now table.entry.modulus table.entry.variables m (before before) i) }
+    ensures { result ≡ checked (read_term table.entry.words.now table.entry.modulus table.entry.variables m (before last) i) }
 {
     if 256 <= m {
         return Err(table.refusal(Reason::Terms, i));
@@ -36,7 +47,7 @@ fn check_term(table: Table<'_>, m: u32, before: Option<u64>, i: usize) -> Result
     if has_above(e, table.variables) {
         return Err(table.refusal(Reason::Exponent, i));
     }
-    if before.is_some_and(|b| b <= e) {
+    if not_below(e, last) {
         return Err(table.refusal(Reason::Order, i));
     }
     Ok(())
@@ -49,10 +60,10 @@ fn check_terms(table: Table<'_>, head: usize) -> Result<(), Refusal>
 {
     let mut next = table.follow(head, table.word(head, 0))?;
     let mut m: u32 = 0;
-    let mut before = None;
+    let mut last = None;
     while let Some(i) = next {
-        check_term(table, m, before, i)?;
-        before = Some(monomials::packed(table.word(i, 1), table.word(i, 2)));
+        check_term(table, m, last, i)?;
+        last = Some(monomials::packed(table.word(i, 1), table.word(i, 2)));
         m += 1;
         next = table.follow(i, table.word(i, 3))?;
     }
@@ -60,6 +71,7 @@ fn check_terms(table: Table<'_>, head: usize) -> Result<(), Refusal>
 }
 
 // The head in record i and its terms.
+#[tactic(auto, using(crate::proofs::CheckLaws::head_tests))]
 pub fn check_head(table: Table<'_>, i: usize) -> Result<(), Refusal>
     requires { i < records table.words.now }
     ensures { result ≡ checked (read_head table.entry.words.now table.entry.modulus table.entry.variables i) }

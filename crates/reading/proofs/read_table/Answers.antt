@@ -1,30 +1,33 @@
 -- The header, then P's chain, then Q's, as the definition reads them.
-use Rattle.std.proofs.Common.{◌∙◌, sym, arith}
-use Rattle.tables.specs.laws.Chains.{header_readable, readable_words}
-use Rattle.reading.proofs.ReadLaws.{table_refused, table_refused_p, table_refused_q, table_accepted}
+use Rattle.std.proofs.Common.{◌∙◌, ap}
+use Rattle.std.proofs.lemmas.Result.{err_from_is_err_and}
+use Rattle.tables.specs.Solve.{checked}
+use Rattle.reading.proofs.ReadLaws.{table_refused, table_refused_p, table_refused_q, table_accepted, heads_same}
 use Rattle.reading.proofs.read_table.Goals as goal
 
-pub returns-in-Refused : goal.returns-in-Refused
-returns-in-Refused c = table_refused c.args.table.now (sym c.check_header.ensures ∙ c.in-Refused.is)
+pub returns-in_err-table-clause-err : goal.returns-in_err-table-clause-err
+returns-in_err-table-clause-err c =
+    let p = err_from_is_err_and c.from_residual.result c.from_residual.ensures.1 in
+    rw (p.1, p.2) (table_refused c.args.words.now c.in_err-table.ensures.err)
 
-pub check_heads-requires : goal.check_heads-requires
-check_heads-requires c =
-    let r = header_readable c.args.table.now (sym c.check_header.ensures ∙ c.in_default.is) in (r, omega (arith, readable_words r))
+pub returns-in_err-check_heads-clause-err : goal.returns-in_err-check_heads-clause-err
+returns-in_err-check_heads-clause-err c =
+    let p = err_from_is_err_and c.from_residual-in_err-check_heads.result c.from_residual-in_err-check_heads.ensures.1 in
+    let T = c.in_ok-table.ensures.ok in
+    rw (p.1, p.2) (table_refused_p c.args.words.now T.1 (c.in_err-check_heads.ensures ∙ ap checked (heads_same c.args.words.now T.0 2 c.word.ensures)))
 
-pub returns-in-Refused-check_heads : goal.returns-in-Refused-check_heads
-returns-in-Refused-check_heads c =
-    table_refused_p c.args.table.now (sym c.check_header.ensures ∙ c.in_default.is) (sym c.check_heads.ensures ∙ c.in-Refused-check_heads.is)
+pub returns-in_err-check_heads-2-clause-err : goal.returns-in_err-check_heads-2-clause-err
+returns-in_err-check_heads-2-clause-err c =
+    let p = err_from_is_err_and c.from_residual-in_err-check_heads-2.result c.from_residual-in_err-check_heads-2.ensures.1 in
+    let T = c.in_ok-table.ensures.ok in
+    rw (p.1, p.2)
+    (table_refused_q c.args.words.now T.1 (c.in_ok-check_heads.ensures ∙ ap checked (heads_same c.args.words.now T.0 2 c.word.ensures))
+    (c.in_err-check_heads-2.ensures ∙ ap checked (heads_same c.args.words.now T.0 3 c.word-2.ensures)))
 
-pub check_heads-requires-2 : goal.check_heads-requires-2
-check_heads-requires-2 c =
-    let r = header_readable c.args.table.now (sym c.check_header.ensures ∙ c.in_default.is) in (r, omega (arith, readable_words r))
-
-pub returns-in-Refused-check_heads-2 : goal.returns-in-Refused-check_heads-2
-returns-in-Refused-check_heads-2 c =
-    table_refused_q c.args.table.now (sym c.check_header.ensures ∙ c.in_default.is) (sym c.check_heads.ensures ∙ c.in_default-check_heads.is)
-    (sym c.check_heads-2.ensures ∙ c.in-Refused-check_heads-2.is)
-
-pub returns : goal.returns
-returns c =
-    table_accepted c.args.table.now (sym c.check_header.ensures ∙ c.in_default.is) (sym c.check_heads.ensures ∙ c.in_default-check_heads.is)
-    (sym c.check_heads-2.ensures ∙ c.in_default-check_heads-2.is)
+pub returns-clause-ok : goal.returns-clause-ok
+returns-clause-ok c =
+    let T = c.in_ok-table.ensures.ok in (
+      T.0,
+      table_accepted c.args.words.now T.1 (c.in_ok-check_heads.ensures ∙ ap checked (heads_same c.args.words.now T.0 2 c.word.ensures))
+          (c.in_ok-check_heads-2.ensures ∙ ap checked (heads_same c.args.words.now T.0 3 c.word-2.ensures)),
+    )

@@ -149,9 +149,9 @@ abbrev pub left : List ℕ → Option ℕ → ℕ
 left w None = 0
 left w (Some j) = records w - j
 
-pub left_less : (w : List ℕ) (i j : ℕ) (next : Option ℕ) → j < records w → next_from j (follow w j i) ≡ Ok next → left w next < left w (Some j)
-left_less w i j None h e = omega arith
-left_less w i j (Some k) h e = omega (arith, (next_inside w j i k e).0)
+pub left_less : (w : List ℕ) (i j : ℕ) (next before : Option ℕ) → before ≡ Some j → j < records w → Ok next ≡ next_from j (follow w j i) → left w next < left w before
+left_less w i j None before b h e = rw b (omega arith)
+left_less w i j (Some k) before b h e = let q = next_inside w j i k (sym e) in rw b (omega (arith, q.0))
 
 -- A refusal is that of an index astray.
 pub next_from_astray : (at : ℕ) (f : Followed) {r : Refusal} → next_from at f ≡ Err r → (f ≡ astray) × (r ≡ refusal Index at)
@@ -267,18 +267,28 @@ module _ {A S : Type 0} {w : List ℕ} {step : S → ℕ → Read A} {on : S →
     pub reached : Reached s at index whole
     pub leads : next_from at (follow w at index) ≡ Ok next
 
-  pub leads_end : {s : S} {whole : Result (Unit {0}) Refusal} → Leads s None whole → Ok tt ≡ whole
-  leads_end l = reached_end l.reached l.leads
+  pub leads_end : {s : S} {next : Option ℕ} {whole : Result (Unit {0}) Refusal} → Leads s next whole → next ≡ None → Ok tt ≡ whole
+  leads_end l e = reached_end l.reached (rw (← e) l.leads)
 
-  pub leads_inside : {s : S} {j : ℕ} {whole : Result (Unit {0}) Refusal} → Leads s (Some j) whole → j < records w
-  leads_inside {j = j} l = (next_inside w l.at l.index j l.leads).1
+  pub leads_inside : {s : S} {next : Option ℕ} {j : ℕ} {whole : Result (Unit {0}) Refusal} → Leads s next whole → next ≡ Some j → j < records w
+  leads_inside {j = j} l e = (next_inside w l.at l.index j (rw (← e) l.leads)).1
 
-  pub leads_refused : {s : S} {j : ℕ} {e : Refusal} {whole : Result (Unit {0}) Refusal} → Leads s (Some j) whole → checked (step s j) ≡ Err e → Err e ≡ whole
-  leads_refused l h = reached_refused l.reached l.leads h
+  pub leads_refused : {s : S} {next : Option ℕ} {j : ℕ} {e : Refusal} {whole : Result (Unit {0}) Refusal} → Leads s next whole → next ≡ Some j
+      → Err e ≡ checked (step s j) → Err e ≡ whole
+  leads_refused l n h = reached_refused l.reached (rw (← n) l.leads) (sym h)
 
   -- The member that it leads to was read: the index there is the next.
-  pub leads_on : {s : S} {j : ℕ} {a : A} {whole : Result (Unit {0}) Refusal} → Leads s (Some j) whole → step s j ≡ good a → Reached (on s a) j (word w j 3) whole
-  leads_on l h = reached_on l.reached l.leads h
+  pub leads_on : {s : S} {next : Option ℕ} {j : ℕ} {a : A} {whole : Result (Unit {0}) Refusal} → Leads s next whole → next ≡ Some j
+      → step s j ≡ good a → Reached (on s a) j (word w j 3) whole
+  leads_on l n h = reached_on l.reached (rw (← n) l.leads) h
+
+  -- That index was followed.
+  pub leads_from : {s : S} {at i : ℕ} {next : Option ℕ} {whole : Result (Unit {0}) Refusal} → Reached s at i whole → Ok next ≡ next_from at (follow w at i)
+      → Leads s next whole
+  leads_from {at = at} {i} r e = record { at = at; index = i; reached = r; leads = sym e }
+
+  pub strays_from : {s : S} {at i : ℕ} {e : Refusal} {whole : Result (Unit {0}) Refusal} → Reached s at i whole → Err e ≡ next_from at (follow w at i) → Err e ≡ whole
+  strays_from r e = reached_astray r (sym e)
 
   -- ── a walk along a chain that was read ──
   -- Index i is not 0: it leads to a member, and the others follow.

@@ -1,10 +1,7 @@
 -- Elimination whole: a table refused in reading, a start that finds no room, and the run of a start that finds it.
-use mathlib.Core.Path.{◌≡◌, refl, sym, ap, subst, ◌∙◌}
-use mathlib.Core.Bool.{Bool, true, false, false≢true}
-use mathlib.Core.List.{List}
-use Prim.Native.Nat.{ℕ, ◌≤◌}
-use native.Mathlib.Omega.{arith}
-use lib.ListN.{length}
+use Rattle.std.specs.Prelude.{◌≡◌, refl, Bool, true, false, List, ℕ, ◌≤◌, length}
+use Rattle.std.proofs.Common.{sym, ap, subst, ◌∙◌, arith}
+use Rattle.std.proofs.lemmas.Bool.{false≢true}
 use Rattle.records.specs.Records.{Rec}
 use Rattle.tables.specs.Read.{Input}
 use Rattle.tables.specs.declared.Reason.{Reason}
@@ -66,15 +63,16 @@ module _ (t : Input) (most limit : ℕ) {r : Bool} (v : List Rec) (x : Started t
       let a = (held_first t (start (limits_in most) t) x e).1 in
       (a.0, subst (λ (n : ℕ). Held v n a.0) (sym m) a.1, subst (λ (n : ℕ). Ready n a.0) q a.2)
 
-  pub run_is : {p most₁ : ℕ} {q : Answer} {u : List Rec} → r ≡ true → t.modulus ≡ p → most₁ ≡ most
+  pub run_is : {p most₁ most₂ : ℕ} {q : Answer} {u : List Rec} → r ≡ true → t.modulus ≡ p → most₁ ≡ most → most₂ ≡ most
       → ((a : Area) → Held v most₁ a → Ready p a → Ran (run (limits_in most₁) p limit 0 (state_of a)) p q.steps q.outcome u most₁)
-      → Ran (run_of (limits_in most) limit t) t.modulus q.steps q.outcome u most
+      → Ran (run_of (limits_in most) limit t) t.modulus q.steps q.outcome u most₂
   unfolding run_of
-  run_is {p = p} {q = q} {u = u} e same m k =
+  run_is {p = p} {q = q} {u = u} e same m m₂ k =
       let a = (held_first t (start (limits_in most) t) x e).1 in
       let there = subst (λ (n : ℕ). (a : Area) → Held v n a → Ready p a → Ran (run (limits_in n) p limit 0 (state_of a)) p q.steps q.outcome u n) m k in
       let here = subst (λ (n : ℕ). (a : Area) → Held v most a → Ready n a → Ran (run (limits_in most) n limit 0 (state_of a)) n q.steps q.outcome u most) (sym same) there in
-      subst (λ (s : Stepped). Ran (after_step (run (limits_in most) t.modulus limit 0) 0 s) t.modulus q.steps q.outcome u most) (sym a.3) (here a.0 a.1 a.2)
+      subst (λ (n : ℕ). Ran (after_step (run (limits_in most) t.modulus limit 0) 0 (start (limits_in most) t)) t.modulus q.steps q.outcome u n) (sym m₂)
+      (subst (λ (s : Stepped). Ran (after_step (run (limits_in most) t.modulus limit 0) 0 s) t.modulus q.steps q.outcome u most) (sym a.3) (here a.0 a.1 a.2))
 
 -- Said of the words of the work area.
 pub in_words : (w : List ℕ) (room limit : ℕ) (t : Input) {r : Answer} {before after : List ℕ}

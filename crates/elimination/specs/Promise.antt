@@ -2,18 +2,17 @@
 -- contract alone, and its answer by its numbers: `Eliminates` is what `eliminate` ensures, `Tries` what `points::try_table` does, and `Places`
 -- what `lists::try_list` does. `Promise` states the claim; it is drawn from the claim on the definitions in rules/specs/Promise.antt, whose
 -- records `ListPromise` and `PointPromise` say the same of them.
-use Rattle.std.specs.Prelude.{◌≡◌, refl, ◌↔◌, Bool, true, false, List, ℕ, ◌*◌, ◌≤◌, length, take}
+use Rattle.std.specs.Prelude.{◌≡◌, refl, ◌↔◌, Bool, true, false, List, ℕ, ◌*◌, ◌≤◌, length, take, Result}
 use Rattle.std.proofs.Common.{sym, ◌∙◌, ap, subst, true≢false, arith}
 use Rattle.std.proofs.lemmas.Bool.{false≢true}
 use Rattle.residues.specs.Each.{Each}
 use Rattle.tables.specs.Read.{good, Input, System, read_table}
-use Rattle.tables.specs.Solve.{solves, first_solved, try_input, trial, placing, Tries, Places}
+use Rattle.tables.specs.Solve.{solves, first_solved, try_input, answered, Tries, Places}
 use Rattle.tables.specs.Reason.{number}
 use Rattle.tables.specs.Numbers.{Numbers, trial_numbers, place_numbers}
 use Rattle.tables.specs.declared.Reason.{Reason}
 use Rattle.tables.specs.declared.Reason.TheVariants.{Shape, Prime, Variables, Index, Head, Coefficient, Exponent, Order, Terms, Degree, Room, Steps, Output, Point, Broken}
-use Rattle.tables.specs.declared.Trial.{Trial}
-use Rattle.tables.specs.declared.Placing.{Placing}
+use Rattle.tables.specs.declared.Refusal.{Refusal}
 use Rattle.tables.specs.Solved.{PointOf, Solves, Solved, First}
 use Rattle.rules.specs.Written.{list_records}
 use Rattle.rules.specs.Eliminate.{Eliminated, listed, turned_back, eliminated, output_after}
@@ -50,8 +49,8 @@ Promise =
     (outcome_numbers a.outcome).outcome ≡ 0 →
     (t : Input) × (ss : List System) × (words : List ℕ) × (read_table table ≡ good t) × ((outcome_numbers a.outcome).value ≡ length ss)
     × (take (4 * list_records ss) output_left ≡ words) × ListPromise table work output limit a.steps ss words t
-    × ((q : Trial) (s : Placing) → PointOf t.modulus t.variables x → Tries table x q → Places (take (4 * list_records ss) output_left) x s →
-    PointAnswers table (take (4 * list_records ss) output_left) ss t x (trial_numbers q.outcome) (place_numbers s.outcome))
+    × ((q : Result Bool Refusal) (s : Result ℕ Refusal) → PointOf t.modulus t.variables x → Tries table x q → Places (take (4 * list_records ss) output_left) x s →
+    PointAnswers table (take (4 * list_records ss) output_left) ss t x (trial_numbers q) (place_numbers s))
 
 -- ── its proof ──
 -- A refusal has a number from 1.
@@ -81,7 +80,7 @@ abbrev bit : Bool → ℕ
 bit true = 1
 bit false = 0
 
-trial_says : (b : Bool) → trial_numbers (trial (good b)).outcome ≡ record { outcome = 0; value = bit b }
+trial_says : (b : Bool) → trial_numbers (answered (good b)) ≡ record { outcome = 0; value = bit b }
 trial_says true = refl
 trial_says false = refl
 
@@ -126,11 +125,11 @@ module _ (table own : List ℕ) (ss : List System) (t : Input) (x : List ℕ) (P
     on_definitions = P;
   }
 
-  calls_answer : (q : Trial) (s : Placing) → Tries table x q → Places own x s → PointAnswers table own ss t x (trial_numbers q.outcome) (place_numbers s.outcome)
+  calls_answer : (q : Result Bool Refusal) (s : Result ℕ Refusal) → Tries table x q → Places own x s → PointAnswers table own ss t x (trial_numbers q) (place_numbers s)
   calls_answer q s T S =
-      let Q : trial_numbers q.outcome ≡ record { outcome = 0; value = bit b } = ap (λ (q : Trial). trial_numbers q.outcome) (T ∙ ap trial P.answers) ∙ trial_says b in
-      let R : place_numbers s.outcome ≡ record { outcome = 0; value = k } = ap (λ (s : Placing). place_numbers s.outcome) (S ∙ ap placing P.names) in
-      subst (λ (n : Numbers). PointAnswers table own ss t x n (place_numbers s.outcome)) (sym Q)
+      let Q : trial_numbers q ≡ record { outcome = 0; value = bit b } = ap trial_numbers (T ∙ ap answered P.answers) ∙ trial_says b in
+      let R : place_numbers s ≡ record { outcome = 0; value = k } = ap place_numbers (S ∙ ap answered P.names) in
+      subst (λ (n : Numbers). PointAnswers table own ss t x n (place_numbers s)) (sym Q)
       (subst (λ (n : Numbers). PointAnswers table own ss t x (record { outcome = 0; value = bit b }) n) (sym R) point_answers)
 
 pub promise_of_calls : Promise

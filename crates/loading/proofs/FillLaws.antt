@@ -1,13 +1,8 @@
 -- The polynomials of a chain put into the only branch, one after the other.
-use mathlib.Core.Path.{◌≡◌, refl, sym, ◌∙◌, ap, subst}
-use mathlib.Core.Logic.{◌≢◌}
-use mathlib.Core.Bool.{Bool, true, false, ◌||◌, false≢true}
-use mathlib.Core.List.{List, [], ◌∷◌, ◌++◌, map, append-nil, append_assoc}
-use Prim.Native.Nat.{ℕ, suc, ◌+◌, ◌≤◌, ◌<◌}
-use native.Mathlib.Omega.{arith}
+use Rattle.std.specs.Prelude.{◌≡◌, refl, ◌≢◌, Bool, true, false, ◌||◌, List, [], ◌∷◌, ◌++◌, ℕ, suc, ◌+◌, ◌≤◌, ◌<◌, leb, length, take, map}
+use Rattle.std.proofs.Common.{sym, ◌∙◌, ap, subst, arith, append-nil, append_assoc, length-append}
+use Rattle.std.proofs.lemmas.Bool.{false≢true}
 use borrow.Author.Tests.{le-leb, lt-leb, leb-false}
-use lib.Dec.{leb}
-use lib.ListN.{length, take, length-append}
 use lib.Seq.{take-append_seam}
 use Rattle.residues.specs.Each.{Each}
 use Rattle.polynomials.specs.Poly.{Poly, monic}
@@ -28,6 +23,8 @@ use Rattle.representation.specs.laws.Sizes.{length_stack, size_live}
 use Rattle.representation.specs.laws.Replaced.{polynomials_size_append}
 use Rattle.representation.specs.laws.Monics.{put_p_monic}
 use Rattle.representation.specs.laws.Lists.{put_p_nonzero}
+use Rattle.loading.specs.declared.Target.{Target}
+use Rattle.loading.specs.declared.Target.TheVariants.{P, Q}
 use Rattle.loading.specs.Started.{Loaded, put_into, put_heads, Alone, Filled}
 
 -- ── putting never makes a branch smaller ──
@@ -49,29 +46,29 @@ size_put_p : (p : ℕ) (f : Poly) (fs : List Poly) → polynomials_size fs ≤ p
 unfolding rules.put_p
 size_put_p p f fs = size_unless_dropped (rules.is_zero (monic p f) || rules.member (monic p f) fs) (monic p f) fs
 
-pub size_put_heads : (q : Bool) (p : ℕ) (fs : List Poly) (c : Branch) → branch_size c ≤ branch_size (put_heads q p fs c)
+pub size_put_heads : (q : Target) (p : ℕ) (fs : List Poly) (c : Branch) → branch_size c ≤ branch_size (put_heads q p fs c)
 unfolding branch_size
-size_put_heads true p fs c = omega (arith, size_put_all (rules.put_q p) (size_put_q p) fs c.Q)
-size_put_heads false p fs c = omega (arith, size_put_all (rules.put_p p) (size_put_p p) fs c.P)
+size_put_heads Q p fs c = omega (arith, size_put_all (rules.put_q p) (size_put_q p) fs c.Q)
+size_put_heads P p fs c = omega (arith, size_put_all (rules.put_p p) (size_put_p p) fs c.P)
 
 put_all_append : (put : Poly → List Poly → List Poly) (fs gs out : List Poly) → put_all put (fs ++ gs) out ≡ put_all put gs (put_all put fs out)
 unfolding put_all
 put_all_append put [] gs out = refl
 put_all_append put (f ∷ fs) gs out = put_all_append put fs gs (put f out)
 
-put_heads_append : (q : Bool) (p : ℕ) (fs gs : List Poly) (c : Branch) → put_heads q p (fs ++ gs) c ≡ put_heads q p gs (put_heads q p fs c)
-put_heads_append true p fs gs c = λ i. record { P = c.P; Q = put_all_append (rules.put_q p) fs gs c.Q i; T = c.T }
-put_heads_append false p fs gs c = λ i. record { P = put_all_append (rules.put_p p) fs gs c.P i; Q = c.Q; T = c.T }
+put_heads_append : (q : Target) (p : ℕ) (fs gs : List Poly) (c : Branch) → put_heads q p (fs ++ gs) c ≡ put_heads q p gs (put_heads q p fs c)
+put_heads_append Q p fs gs c = λ i. record { P = c.P; Q = put_all_append (rules.put_q p) fs gs c.Q i; T = c.T }
+put_heads_append P p fs gs c = λ i. record { P = put_all_append (rules.put_p p) fs gs c.P i; Q = c.Q; T = c.T }
 
 -- The first of them make it no larger than all.
-size_first : (q : Bool) (p : ℕ) (fs gs : List Poly) (c : Branch) → branch_size (put_heads q p fs c) ≤ branch_size (put_heads q p (fs ++ gs) c)
+size_first : (q : Target) (p : ℕ) (fs gs : List Poly) (c : Branch) → branch_size (put_heads q p fs c) ≤ branch_size (put_heads q p (fs ++ gs) c)
 size_first q p fs gs c =
     subst (λ (d : Branch). branch_size (put_heads q p fs c) ≤ branch_size d) (sym (put_heads_append q p fs gs c)) (size_put_heads q p gs (put_heads q p fs c))
 
-pub put_heads_none : (q : Bool) (p : ℕ) (c : Branch) → put_heads q p [] c ≡ c
+pub put_heads_none : (q : Target) (p : ℕ) (c : Branch) → put_heads q p [] c ≡ c
 unfolding put_all
-put_heads_none true p c = refl
-put_heads_none false p c = refl
+put_heads_none Q p c = refl
+put_heads_none P p c = refl
 
 -- ── the only branch ──
 size_alone : (b : Stored) → size (with_open b [] []) ≡ 1 + branch_size (branch_of b)
@@ -93,30 +90,30 @@ record Becomes (p most : ℕ) (c d : Branch) (r : Bool) (v : List Rec) : Type 0 
 
 -- ── one polynomial put ──
 -- s, put into whatever branch is open, is put so.
-abbrev pub Puts : List Rec → ℕ → Bool → List ℕ → Bool → List Rec → Type 0
+abbrev pub Puts : List Rec → ℕ → Target → List ℕ → Bool → List Rec → Type 0
 Puts v most q s r u =
     (b : Stored) (bs ss : List Stored) → Held v most (with_open b bs ss) → Leaves most (with_open b bs ss) (with_open (put_into q s b) bs ss) r u
 
 module _ (p : ℕ) (s : List ℕ) (f : Poly) (sound : Sound p s) (is_monic : Monic (terms s)) (e : terms s ≡ monic p f) where
-  put_branch : (q : Bool) (b : Stored) → BranchSound p b → branch_of (put_into q s b) ≡ put_heads q p (f ∷ []) (branch_of b)
+  put_branch : (q : Target) (b : Stored) → BranchSound p b → branch_of (put_into q s b) ≡ put_heads q p (f ∷ []) (branch_of b)
   unfolding put_all
-  put_branch true b h =
+  put_branch Q b h =
       λ t. record { P = map terms b.P; Q = (ap (map terms) (put_q_before_none s b.Q) ∙ map_put_q p s f sound e b.Q h.in_q) t; T = map terms b.T }
-  put_branch false b h = λ t. record { P = map_put_p p s f sound e b.P h.in_p t; Q = map terms b.Q; T = map terms b.T }
+  put_branch P b h = λ t. record { P = map_put_p p s f sound e b.P h.in_p t; Q = map terms b.Q; T = map terms b.T }
 
-  put_sound : (q : Bool) (b : Stored) → BranchSound p b → BranchSound p (put_into q s b)
-  put_sound true b h = put_into_q_sound p b h 0 s sound
-  put_sound false b h = put_into_p_sound p b h s sound
+  put_sound : (q : Target) (b : Stored) → BranchSound p b → BranchSound p (put_into q s b)
+  put_sound Q b h = put_into_q_sound p b h 0 s sound
+  put_sound P b h = put_into_p_sound p b h s sound
 
-  put_monic : (q : Bool) (b : Stored) → AllMonic b.P → AllMonic (put_into q s b).P
-  put_monic true b h = h
-  put_monic false b h = put_p_monic s b.P is_monic h
+  put_monic : (q : Target) (b : Stored) → AllMonic b.P → AllMonic (put_into q s b).P
+  put_monic Q b h = h
+  put_monic P b h = put_p_monic s b.P is_monic h
 
-  put_nonzero : (q : Bool) (b : Stored) → Each (λ f. f ≢ []) b.P → Each (λ f. f ≢ []) (put_into q s b).P
-  put_nonzero true b h = h
-  put_nonzero false b h = put_p_nonzero s b.P h
+  put_nonzero : (q : Target) (b : Stored) → Each (λ f. f ≢ []) b.P → Each (λ f. f ≢ []) (put_into q s b).P
+  put_nonzero Q b h = h
+  put_nonzero P b h = put_p_nonzero s b.P h
 
-  put_alone : {most : ℕ} {c : Branch} {v u : List Rec} {r : Bool} (q : Bool) → Alone p most c v → Puts v most q s r u → Becomes p most c (put_heads q p (f ∷ []) c) r u
+  put_alone : {most : ℕ} {c : Branch} {v u : List Rec} {r : Bool} (q : Target) → Alone p most c v → Puts v most q s r u → Becomes p most c (put_heads q p (f ∷ []) c) r u
   put_alone {most} {c} {v} {u} {r} q x puts =
       let b = x.stored in
       let l = puts b [] [] x.held in
@@ -136,18 +133,18 @@ module _ (p : ℕ) (s : List ℕ) (f : Poly) (sound : Sound p s) (is_monic : Mon
 
 -- ── the loop ──
 -- The polynomials fs are those done and those from index i on; the work area holds the branch c with those done.
-pub record PutLeft (w : List ℕ) (p n : ℕ) (q : Bool) (most : ℕ) (fs : List Poly) (c : Branch) (i : ℕ) (v : List Rec) : Type 0 where
+pub record PutLeft (w : List ℕ) (p n : ℕ) (q : Target) (most : ℕ) (fs : List Poly) (c : Branch) (i : ℕ) (v : List Rec) : Type 0 where
   pub chain : HeadsLeft w p n i
   pub done : List Poly
   pub parts : fs ≡ done ++ chain.rest
   pub alone : Alone p most (put_heads q p done c) v
 
-module _ (w : List ℕ) (p n : ℕ) (q : Bool) (most : ℕ) (fs : List Poly) (c : Branch) where
-  pub put_first : (i : ℕ) (v : List Rec) → 0 < records w → read_heads w p n (records w) 0 i ≡ good fs → Alone p most c v → PutLeft w p n q most fs c i v
-  put_first i v h e x =
+module _ {w : List ℕ} {p n : ℕ} {q : Target} {most : ℕ} {fs : List Poly} {c : Branch} where
+  pub put_first : {i : ℕ} {v : List Rec} → 0 < records w → read_heads w p n (records w) 0 i ≡ good fs → Alone p most c v → PutLeft w p n q most fs c i v
+  put_first {i} {v} h e x =
       record { chain = heads_left w p n 0 i fs h e; done = []; parts = refl; alone = subst (λ (d : Branch). Alone p most d v) (sym (put_heads_none q p c)) x }
 
-  module _ (i : ℕ) (v : List Rec) (l : PutLeft w p n q most fs c i v) where
+  module _ {i : ℕ} {v : List Rec} (l : PutLeft w p n q most fs c i v) where
     pub put_end : i ≡ 0 → Filled p most q fs c true v
     put_end z =
         let is : l.done ≡ fs = sym (append-nil l.done) ∙ ap (λ (gs : List Poly). l.done ++ gs) (sym (chain_end l.chain z)) ∙ sym l.parts in
@@ -157,6 +154,10 @@ module _ (w : List ℕ) (p n : ℕ) (q : Bool) (most : ℕ) (fs : List Poly) (c 
     module _ (more : i ≢ 0) where
       head : Member l.chain
       head = chain_next l.chain more
+
+      -- Its polynomial is loaded.
+      pub loaded_next : {m : ℕ} {s : List ℕ} → ((f : Poly) → read_head w p n i ≡ good f → Loaded p f m s) → Loaded p (chain_next l.chain more).member m s
+      loaded_next loaded = loaded (chain_next l.chain more).member (chain_next l.chain more).is_read
 
       -- Those done and the polynomial of record i.
       with_head : List Poly
@@ -168,7 +169,7 @@ module _ (w : List ℕ) (p n : ℕ) (q : Bool) (most : ℕ) (fs : List Poly) (c 
           l.parts ∙ ap (λ (gs : List Poly). l.done ++ gs) head.parts ∙ sym (append_assoc l.done (head.member ∷ []) head.behind)
 
       -- The first m words of s are its monic polynomial, and were put.
-      module _ (m : ℕ) (s : List ℕ) (loaded : (f : Poly) → read_head w p n i ≡ good f → Loaded p f m s) (r : Bool) (u : List Rec) (puts : Puts v most q (take m s) r u) where
+      module _ {m : ℕ} {s : List ℕ} (loaded : (f : Poly) → read_head w p n i ≡ good f → Loaded p f m s) {r : Bool} {u : List Rec} (puts : Puts v most q (take m s) r u) where
         becomes : Becomes p most (put_heads q p l.done c) (put_heads q p with_head c) r u
         unfolding with_head
         becomes =

@@ -1,19 +1,17 @@
 -- The first branch of a table: P's chain put into an empty branch, then Q's.
-use mathlib.Core.Path.{◌≡◌, refl, sym, ◌∙◌, ap, subst}
-use mathlib.Core.Bool.{Bool, true, false, not, false≢true}
-use mathlib.Core.List.{List, [], ◌∷◌}
-use Prim.Native.Nat.{ℕ, suc, ◌+◌, ◌-◌, ◌≤◌, ◌<◌}
-use native.Mathlib.Omega.{arith}
+use Rattle.std.specs.Prelude.{◌≡◌, refl, Bool, true, false, not, List, [], ◌∷◌, ℕ, suc, ◌+◌, ◌-◌, ◌≤◌, ◌<◌, leb, length, take}
+use Rattle.std.proofs.Common.{sym, ◌∙◌, ap, subst, arith}
+use Rattle.std.proofs.lemmas.Bool.{false≢true}
 use borrow.Author.Tests.{lt-ltb, lt-leb, leb-false}
-use lib.Dec.{leb}
-use lib.ListN.{length, take}
 use lib.Seq.{take_all}
 use Rattle.polynomials.specs.Bounds.{at_most, over}
 use Rattle.polynomials.specs.Poly.{Poly}
-use Rattle.tables.specs.Read.{Input, good, read_table}
-use Rattle.tables.specs.laws.Chains.{readable_words}
+use Rattle.tables.specs.Words.{word, records}
+use Rattle.tables.specs.Read.{Input, good, read_heads, read_table}
 use Rattle.tables.specs.laws.Accepted.{table_read}
 use Rattle.tables.specs.declared.Reason.TheVariants.{Room}
+use Rattle.words.specs.declared.Table.{Table}
+use Rattle.words.specs.Table.{TableOf}
 use Rattle.rules.specs.Branch.{Branch}
 use Rattle.rules.specs.Room.{State, branch_size, branches_size, systems_size, live}
 use Rattle.rules.specs.Step.{Stepped, next, stopped, within_room}
@@ -24,12 +22,25 @@ use Rattle.branches.specs.Area.{Held, capacity, with_open, empty}
 use Rattle.representation.specs.laws.Sounds.{empty_sound}
 use Rattle.representation.specs.laws.Sizes.{room_of_count}
 use Rattle.representation.specs.Ready.{limits_in}
+use Rattle.loading.specs.declared.Target.{Target}
+use Rattle.loading.specs.declared.Target.TheVariants.{P, Q}
 use Rattle.loading.specs.Started.{put_heads, Alone, Filled, first_put, Started}
 use Rattle.loading.proofs.FillLaws.{size_put_heads, put_heads_none}
 
--- An accepted table has a header.
-pub table_words : (w : List ℕ) → (t : Input) × (read_table w ≡ good t) → 4 ≤ length w
-table_words w a = readable_words (table_read w a.0 a.1).readable
+-- What an accepted table says of its chains, by its header.
+pub record ChainsRead (table : Table) (t : Input) : Type 0 where
+  pub modulus : t.modulus ≡ table.modulus
+  pub zeros : read_heads table.words.now table.modulus table.variables (records table.words.now) 0 (word table.words.now 0 2) ≡ good t.P
+  pub nonzeros : read_heads table.words.now table.modulus table.variables (records table.words.now) 0 (word table.words.now 0 3) ≡ good t.Q
+
+pub chains_read : {table : Table} {t : Input} → TableOf table.words.now table → read_table table.words.now ≡ good t → ChainsRead table t
+chains_read {table} {t} h e =
+    let told = table_read table.words.now t e in
+    record {
+      modulus = told.modulus ∙ sym h.modulus;
+      zeros = rw (h.modulus, h.variables) told.zeros;
+      nonzeros = rw (h.modulus, h.variables) told.nonzeros;
+    }
 
 -- ── the branch ──
 abbrev pub no_polynomial : Branch
@@ -43,32 +54,40 @@ module _ {p m most : ℕ} (same : m ≡ most) where
   pub alone_in : {c : Branch} {v : List Rec} → Alone p most c v → Alone p m c v
   alone_in {c = c} {v} = subst (λ (n : ℕ). Alone p n c v) (sym same)
 
-  pub filled_in : {in_q : Bool} {fs : List Poly} {c : Branch} {r : Bool} {u v : List Rec} → (Alone p m c u → Filled p m in_q fs c r v)
-      → Alone p most c u → Filled p most in_q fs c r v
-  filled_in {in_q = in_q} {fs} {c} {r} {u} {v} = subst (λ (n : ℕ). Alone p n c u → Filled p n in_q fs c r v) same
+  pub filled_in : {target : Target} {fs : List Poly} {c : Branch} {r : Bool} {u v : List Rec} → (Alone p m c u → Filled p m target fs c r v)
+      → Alone p most c u → Filled p most target fs c r v
+  filled_in {target = target} {fs} {c} {r} {u} {v} = subst (λ (n : ℕ). Alone p n c u → Filled p n target fs c r v) same
 
 -- With P's chain put.
 abbrev pub with_zeros : ℕ → Input → Branch
-with_zeros p t = put_heads false p t.P no_polynomial
+with_zeros p t = put_heads P p t.P no_polynomial
+
+-- P's chain put into the empty branch u, from the index that the header holds.
+pub zeros_put : {table : Table} {t : Input} {m most first : ℕ} {r : Bool} {u v : List Rec} → m ≡ most → ChainsRead table t → Held u most (with_open empty [] [])
+    → first ≡ word table.words.now 0 2
+    → ((fs : List Poly) (c : Branch) → read_heads table.words.now table.modulus table.variables (records table.words.now) 0 first ≡ good fs
+    → Alone table.modulus m c u → Filled table.modulus m P fs c r v)
+    → Filled table.modulus most P t.P no_polynomial r v
+zeros_put {t = t} same told held first fills = filled_in same (fills t.P no_polynomial (rw first told.zeros)) (alone_empty held)
 
 module _ (t : Input) where
-  first_is : put_heads true t.modulus t.Q (with_zeros t.modulus t) ≡ first_branch t
+  first_is : put_heads Q t.modulus t.Q (with_zeros t.modulus t) ≡ first_branch t
   unfolding first_branch
   first_is = refl
 
-  first_put_of_p : (k : ℕ) → k ≤ length t.P → put_heads false t.modulus (take k t.P) no_polynomial ≡ first_put t k
+  first_put_of_p : (k : ℕ) → k ≤ length t.P → put_heads P t.modulus (take k t.P) no_polynomial ≡ first_put t k
   unfolding first_branch
   first_put_of_p k h =
-      let b = put_heads false t.modulus (take k t.P) no_polynomial in
+      let b = put_heads P t.modulus (take k t.P) no_polynomial in
       let none : 0 ≡ k - length t.P = omega (arith, h) in
-      sym (put_heads_none true t.modulus b) ∙ ap (λ (j : ℕ). put_heads true t.modulus (take j t.Q) b) none
+      sym (put_heads_none Q t.modulus b) ∙ ap (λ (j : ℕ). put_heads Q t.modulus (take j t.Q) b) none
 
-  first_put_of_q : (k j : ℕ) → k ≡ length t.P + j → put_heads true t.modulus (take j t.Q) (with_zeros t.modulus t) ≡ first_put t k
+  first_put_of_q : (k j : ℕ) → k ≡ length t.P + j → put_heads Q t.modulus (take j t.Q) (with_zeros t.modulus t) ≡ first_put t k
   unfolding first_branch
   first_put_of_q k j e =
       let behind : j ≡ k - length t.P = omega (arith, e) in
       let all : t.P ≡ take k t.P = sym (take_all k t.P (omega (arith, e))) in
-      λ i. put_heads true t.modulus (take (behind i) t.Q) (put_heads false t.modulus (all i) no_polynomial)
+      λ i. put_heads Q t.modulus (take (behind i) t.Q) (put_heads P t.modulus (all i) no_polynomial)
 
 -- ── the start ──
 abbrev decided : Bool → State → Stepped
@@ -125,20 +144,20 @@ module _ (t : Input) (most : ℕ) (v : List Rec) where
 
   module _ (p : ℕ) (modulus : t.modulus ≡ p) (two : 2 ≤ most) where
     -- P's chain finds no room.
-    pub start_fails : Filled p most false t.P no_polynomial false v → Started t (start (limits_in most) t) most false v
+    pub start_fails : Filled p most P t.P no_polynomial false v → Started t (start (limits_in most) t) most false v
     start_fails filled =
-        let x = subst (λ (n : ℕ). Filled n most false t.P no_polynomial false v) (sym modulus) filled in
+        let x = subst (λ (n : ℕ). Filled n most P t.P no_polynomial false v) (sym modulus) filled in
         let b = with_zeros t.modulus t in
         let more : branch_size b ≤ branch_size (first_branch t) =
-        subst (λ (c : Branch). branch_size b ≤ branch_size c) (first_is t) (size_put_heads true t.modulus t.Q b) in
+        subst (λ (c : Branch). branch_size b ≤ branch_size c) (first_is t) (size_put_heads Q t.modulus t.Q b) in
         let none : most < 1 + branch_size b = leb-false (1 + branch_size b) most (sym x.answer) in
         started false two (sym (lt-leb (1 + branch_size (first_branch t)) most (omega (arith, more, none)))) (λ e. absurd (false≢true e))
         (λ e. let o = x.otherwise e in stopped_at o.0 (first_put_of_p t o.0 (omega (arith, o.1))) (first_put_of_p t (suc o.0) (omega (arith, o.1))) o.2 o.3)
 
     -- Both chains are put.
-    pub start_put : (r : Bool) → Filled p most true t.Q (with_zeros p t) r v → Started t (start (limits_in most) t) most r v
+    pub start_put : (r : Bool) → Filled p most Q t.Q (with_zeros p t) r v → Started t (start (limits_in most) t) most r v
     start_put r filled =
-        let x = subst (λ (n : ℕ). Filled n most true t.Q (with_zeros n t) r v) (sym modulus) filled in
+        let x = subst (λ (n : ℕ). Filled n most Q t.Q (with_zeros n t) r v) (sym modulus) filled in
         let whole = first_is t in
         started r two (subst (λ (c : Branch). r ≡ leb (1 + branch_size c) most) whole x.answer)
         (λ e. subst (λ (c : Branch). Alone t.modulus most c v) whole (x.alone e))

@@ -13,6 +13,8 @@ use Rattle.records.specs.Records.{Rec}
 use Rattle.branches.specs.Area.{Stored, Area, Held, with_open, put_into_p, put_into_q}
 use Rattle.representation.specs.Represent.{Sound, BranchSound, branch_of, state_of, Monic, AllMonic}
 use Rattle.representation.specs.Ready.{Ready}
+use Rattle.loading.specs.declared.Target.{Target}
+use Rattle.loading.specs.declared.Target.TheVariants.{P, Q}
 
 -- The first m words hold the monic polynomial of f.
 pub record Loaded (p : ℕ) (f : Poly) (m : ℕ) (s : List ℕ) : Type 0 where
@@ -21,15 +23,15 @@ pub record Loaded (p : ℕ) (f : Poly) (m : ℕ) (s : List ℕ) : Type 0 where
   pub holds : terms (take m s) ≡ monic p f
   pub monic : Monic (terms (take m s))
 
--- f put into the open branch: into Q, or into P.
-abbrev pub put_into : Bool → List ℕ → Stored → Stored
-put_into true f b = put_into_q 0 f b
-put_into false f b = put_into_p f b
+-- f put into the open branch.
+abbrev pub put_into : Target → List ℕ → Stored → Stored
+put_into P f b = put_into_p f b
+put_into Q f b = put_into_q 0 f b
 
 -- The polynomials put one after the other.
-abbrev pub put_heads : Bool → ℕ → List Poly → Branch → Branch
-put_heads true p fs b = record { P = b.P; Q = put_all (put_q p) fs b.Q; T = b.T }
-put_heads false p fs b = record { P = put_all (put_p p) fs b.P; Q = b.Q; T = b.T }
+abbrev pub put_heads : Target → ℕ → List Poly → Branch → Branch
+put_heads P p fs b = record { P = put_all (put_p p) fs b.P; Q = b.Q; T = b.T }
+put_heads Q p fs b = record { P = b.P; Q = put_all (put_q p) fs b.Q; T = b.T }
 
 -- The work area holds the branch c, and nothing else.
 pub record Alone (p most : ℕ) (c : Branch) (v : List Rec) : Type 0 where
@@ -42,10 +44,10 @@ pub record Alone (p most : ℕ) (c : Branch) (v : List Rec) : Type 0 where
 
 -- The polynomials fs, put into the branch c one after the other: the answer is whether there is room for all of them and the control record.
 -- If so the work area holds the branch with all, and otherwise with the first j, those before one that has no room.
-pub record Filled (p most : ℕ) (in_q : Bool) (fs : List Poly) (c : Branch) (r : Bool) (v : List Rec) : Type 0 where
-  pub answer : r ≡ leb (1 + branch_size (put_heads in_q p fs c)) most
-  pub alone : r ≡ true → Alone p most (put_heads in_q p fs c) v
-  pub otherwise : r ≡ false → (j : ℕ) × (j < length fs) × (most < 1 + branch_size (put_heads in_q p (take (suc j) fs) c)) × Alone p most (put_heads in_q p (take j fs) c) v
+pub record Filled (p most : ℕ) (target : Target) (fs : List Poly) (c : Branch) (r : Bool) (v : List Rec) : Type 0 where
+  pub answer : r ≡ leb (1 + branch_size (put_heads target p fs c)) most
+  pub alone : r ≡ true → Alone p most (put_heads target p fs c) v
+  pub otherwise : r ≡ false → (j : ℕ) × (j < length fs) × (most < 1 + branch_size (put_heads target p (take (suc j) fs) c)) × Alone p most (put_heads target p (take j fs) c) v
 
 -- The branch of a table's first k polynomials, those of P before those of Q.
 abbrev pub first_put : Input → ℕ → Branch

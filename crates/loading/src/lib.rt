@@ -8,90 +8,98 @@ ghost use Rattle.polynomials.specs.Poly.{Poly};
 ghost use Rattle.polynomials.specs.Working.{Written, Holds};
 ghost use Rattle.tables.specs.Words.{records};
 ghost use Rattle.tables.specs.Read.{Input, good, read_head, read_heads, read_table};
-ghost use Rattle.tables.specs.Walk.{Readable};
+ghost use Rattle.words.specs.Table.{TableOf};
 ghost use Rattle.rules.specs.Branch.{Branch};
 ghost use Rattle.rules.specs.Run.{start};
 ghost use Rattle.branches.specs.Area.{Opened, Leaves, capacity, with_open, WhenOpen, outside};
 ghost use Rattle.representation.specs.Ready.{limits_in};
 ghost use Rattle.loading.specs.Started.{Loaded, put_into, Alone, Filled, Started};
 
+use words::Table;
+
+// Where a polynomial is put.
+#[derive(Clone, Copy)]
+enum Target {
+    P,
+    Q,
+}
+
+impl Target {
+    // Puts f there; whether there is room.
+    fn put(self, work: &mut [u32], f: &[u64]) -> bool
+        requires opened { Opened work.old }
+        requires storable { Storable f.now }
+        ensures when_open { WhenOpen work.old (λ b bs ss.
+            Leaves (capacity work.old) (with_open b bs ss) (with_open (put_into self f.now b) bs ss) result (view work.new)) }
+        ensures outside_stays { outside work.new ≡ outside work.old }
+    {
+        match self {
+            Target::P => puts::put_p(work, f),
+            Target::Q => puts::put_q(work, 0, f),
+        }
+    }
+}
+
 // Loads the polynomial with its head in record `head` into the first words of `out`; how many.
-fn load_head(table: &[u32], p: u32, n: u32, head: usize, out: &mut [u64]) -> usize
-    requires readable { Readable table.now p n × (head < records table.now) × ((f : Poly) × (read_head table.now p n head ≡ good f)) }
+fn load_head(table: Table<'_>, head: usize, out: &mut [u64]) -> usize
+    requires inside { head < records table.words.now }
+    requires is_read { (f : Poly) × (read_head table.words.now table.modulus table.variables head ≡ good f) }
     requires in_bounds { 512 ≤ length out.old }
-    ensures { (f : Poly) → read_head table.now p n head ≡ good f → Written f result out.new × Holds p (take result out.new) }
+    ensures { (f : Poly) → read_head table.entry.words.now table.entry.modulus table.entry.variables head ≡ good f
+        → Written f result out.new × Holds table.entry.modulus (take result out.new) }
 {
     let mut k = 0;
-    let mut i = words::word(table, head, 0) as usize;
+    let mut i = table.word(head, 0) as usize;
     while i != 0 {
-        out[k] = words::word(table, i, 0) as u64;
-        out[k + 1] = monomials::packed(words::word(table, i, 1), words::word(table, i, 2));
+        out[k] = table.word(i, 0) as u64;
+        out[k + 1] = monomials::packed(table.word(i, 1), table.word(i, 2));
         k += 2;
-        i = words::word(table, i, 3) as usize;
+        i = table.word(i, 3) as usize;
     }
     k
 }
 
 // Loads that polynomial made monic.
-fn load_monic(table: &[u32], p: u32, n: u32, head: usize, out: &mut [u64]) -> usize
-    requires readable { Readable table.now p n × (head < records table.now) × ((f : Poly) × (read_head table.now p n head ≡ good f)) }
+fn load_monic(table: Table<'_>, head: usize, out: &mut [u64]) -> usize
+    requires inside { head < records table.words.now }
+    requires is_read { (f : Poly) × (read_head table.words.now table.modulus table.variables head ≡ good f) }
     requires in_bounds { 512 ≤ length out.old }
-    ensures { (f : Poly) → read_head table.now p n head ≡ good f → Loaded p f result out.new }
+    ensures { (f : Poly) → read_head table.entry.words.now table.entry.modulus table.entry.variables head ≡ good f
+        → Loaded table.entry.modulus f result out.new }
 {
-    let m = load_head(table, p, n, head, out);
-    scaling::monic(p as u64, &mut out[..m]);
+    let m = load_head(table, head, out);
+    scaling::monic(table.modulus as u64, &mut out[..m]);
     m
 }
 
-// Puts f into Q, or into P; whether there is room.
-fn put_one(work: &mut [u32], f: &[u64], in_q: bool) -> bool
-    requires opened { Opened work.old }
-    requires storable { Storable f.now }
-    ensures when_open { WhenOpen work.old (λ b bs ss.
-        Leaves (capacity work.old) (with_open b bs ss) (with_open (put_into in_q f.now b) bs ss) result (view work.new)) }
-    ensures outside_stays { outside work.new ≡ outside work.old }
-{
-    if in_q {
-        return puts::put_q(work, 0, f);
-    }
-    puts::put_p(work, f)
-}
-
-// Puts the polynomials from the index `first` on, which the header holds, into Q or into P; whether there is room.
-fn put_heads(
-    table: &[u32],
-    p: u32,
-    n: u32,
-    first: u32,
-    work: &mut [u32],
-    r: &mut [u64],
-    in_q: bool,
-) -> bool
-    requires readable { Readable table.now p n × ((fs : List Poly) × (read_heads table.now p n (records table.now) 0 first ≡ good fs)) }
-    requires alone { (c : Branch) × Alone p (capacity work.old) c (view work.old) }
+// Puts the polynomials from the index `first` on, which the header holds; whether there is room. r is scratch.
+fn put_heads(table: Table<'_>, first: u32, target: Target, work: &mut [u32], r: &mut [u64]) -> bool
+    requires are_read { (fs : List Poly) × (read_heads table.words.now table.modulus table.variables (records table.words.now) 0 first ≡ good fs) }
+    requires alone { (c : Branch) × Alone table.modulus (capacity work.old) c (view work.old) }
     requires in_bounds { 512 ≤ length r.old }
-    ensures filled { (fs : List Poly) (c : Branch) → read_heads table.now p n (records table.now) 0 first ≡ good fs
-        → Alone p (capacity work.old) c (view work.old)
-        → Filled p (capacity work.old) in_q fs c result (view work.new) }
+    ensures filled { (fs : List Poly) (c : Branch)
+        → read_heads table.entry.words.now table.entry.modulus table.entry.variables (records table.entry.words.now) 0 first ≡ good fs
+        → Alone table.entry.modulus (capacity work.old) c (view work.old)
+        → Filled table.entry.modulus (capacity work.old) target fs c result (view work.new) }
     ensures outside_stays { outside work.new ≡ outside work.old }
 {
     let mut i = first as usize;
     while i != 0 {
-        let m = load_monic(table, p, n, i, r);
-        if !put_one(work, &r[..m], in_q) {
+        let m = load_monic(table, i, r);
+        if !target.put(work, &r[..m]) {
             return false;
         }
-        i = words::word(table, i, 3) as usize;
+        i = table.word(i, 3) as usize;
     }
     true
 }
 
 // The first branch of an accepted table, whatever the words of the work area were; whether there is room. r is scratch.
-#[tactic(auto, using(crate::proofs::StartLaws::table_words))]
-pub fn start(table: &[u32], work: &mut [u32], r: &mut [u64]) -> bool
-    requires table_value { (t : Input) × (read_table table.now ≡ good t) }
+pub fn start(table: Table<'_>, work: &mut [u32], r: &mut [u64]) -> bool
+    requires header { TableOf table.words.now table }
+    requires accepted { (t : Input) × (read_table table.words.now ≡ good t) }
     requires in_bounds { 512 ≤ length r.old }
-    ensures started { (t : Input) → read_table table.now ≡ good t
+    ensures started { (t : Input) → read_table table.entry.words.now ≡ good t
         → Started t (start (limits_in (capacity work.old)) t) (capacity work.old) result (view work.new) }
     ensures too_small { capacity work.old < 2 → work.new ≡ work.old }
     ensures outside_stays { outside work.new ≡ outside work.old }
@@ -100,11 +108,7 @@ pub fn start(table: &[u32], work: &mut [u32], r: &mut [u64]) -> bool
     if work.len() < 8 {
         return false;
     }
-    let p = table[0];
-    let n = table[1];
     turns::begin(work);
-    if !put_heads(table, p, n, table[2], work, r, false) {
-        return false;
-    }
-    put_heads(table, p, n, table[3], work, r, true)
+    put_heads(table, table.word(0, 2), Target::P, work, r)
+        && put_heads(table, table.word(0, 3), Target::Q, work, r)
 }

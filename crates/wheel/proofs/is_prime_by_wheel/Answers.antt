@@ -4,7 +4,7 @@ use Rattle.wheel.specs.laws.Wheel.{turn_over, turn_refutes}
 use Rattle.wheel.proofs.is_prime_by_wheel.Goals as goal
 
 pub returns-then-turn_divides : goal.returns-then-turn_divides
-returns-then-turn_divides c = turn_refutes _ c.loop-d.d (omega arith) c.loop-d-test.true c.if-turn_divides.ensures
+returns-then-turn_divides c = turn_refutes _ c.loop-d.d (omega arith) (omega arith) c.if-turn_divides.ensures
 
 -- d in a turn is below the root of 2^31
 pub loop-d-preserved : goal.loop-d-preserved
@@ -17,4 +17,4 @@ loop-d-preserved c = (
 pub returns : goal.returns
 returns c =
     test_yes _ c.requires.low
-    (λ e two l. c.loop-d.invariant.2 e two (root_below c.args.p c.loop-d.d e c.loop-d-test.false l))
+    (λ e two l. c.loop-d.invariant.2 e two (root_below c.args.p c.loop-d.d e (omega arith) l))

@@ -1,8 +1,8 @@
 -- Newton's step to the negated inverse, the exact division of a reduction, and which divisors of p a reduction keeps.
-use Rattle.std.specs.Prelude.{◌≡◌, ℕ, ◌+◌, ◌*◌, ◌/◌, ◌%◌}
+use Rattle.std.specs.Prelude.{◌≡◌, refl, ℕ, zero, suc, ◌+◌, ◌*◌, ◌/◌, ◌%◌, ◌^◌, ◌<◌}
 use Rattle.std.proofs.Common.{ap, subst, arith}
 use Rattle.std.specs.Int.{◌∣◌}
-use Rattle.std.proofs.Math.Nat.{mod-add-div, mul-div_cancel', dvd-mul_right, dvd-mul_left_of_dvd, dvd-mul_right_of_dvd, dvd-add, dvd-add_iff_left, dvd-add_iff_right, mul-dvd-mul}
+use Rattle.std.proofs.Math.Nat.{mod-add-div, mul-div_cancel', dvd_of_mod-eq-zero, dvd-mul_right, dvd-mul_left_of_dvd, dvd-mul_right_of_dvd, dvd-add, dvd-add_iff_left, dvd-add_iff_right, mul-dvd-mul}
 use Rattle.montgomery.specs.Montgomery.{NegatedInverse, Squares, Reduced}
 
 -- with r for n·(2 + p·n) modulo w, p·r + 1 is the square of p·n + 1 modulo w
@@ -19,6 +19,24 @@ newton_squares_modulo w p n m h d =
 
 pub newton_squares : (p n : ℕ) → Squares p n (n * (2 + p * n % 4294967296) % 4294967296)
 newton_squares p n = newton_squares_modulo 4294967296 p n
+
+-- where the steps begin: the product of p and p + 2, and 1, is the square of p + 1, which is even
+pub modulo_four : (p : ℕ) → p % 2 ≡ 1 → NegatedInverse 4 p (p + 2)
+modulo_four p h = subst (λ z. 4 ∣ z) square (mul-dvd-mul 2 2 even even)
+  where
+    even : 2 ∣ p + 1
+    even = dvd_of_mod-eq-zero 2 (omega arith)
+
+    square : (p + 1) * (p + 1) ≡ p * (p + 2) + 1
+    square = omega arith
+
+-- each of four steps squares the modulus
+pub squared : (p n r i : ℕ) → i < 4 → Squares p n r → NegatedInverse (2 ^ 2 ^ (i + 1)) p n → NegatedInverse (2 ^ 2 ^ (i + 1 + 1)) p r
+squared p n r zero h s k = s 4 (dvd_of_mod-eq-zero 16 refl) k
+squared p n r (suc zero) h s k = s 16 (dvd_of_mod-eq-zero 256 refl) k
+squared p n r (suc (suc zero)) h s k = s 256 (dvd_of_mod-eq-zero 65536 refl) k
+squared p n r (suc (suc (suc zero))) h s k = s 65536 (dvd_of_mod-eq-zero 4294967296 refl) k
+squared p n r (suc (suc (suc (suc i)))) h s k = absurd (omega arith)
 
 -- the multiple of p that makes x divisible by w
 divisible : (w p n x : ℕ) → w ∣ p * n + 1 → w ∣ x + x % w * n % w * p

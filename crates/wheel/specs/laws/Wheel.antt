@@ -1,12 +1,12 @@
 -- The wheel of 30: of 30 numbers in a row eight are coprime to 30, and any other divisor of p brings 2, 3 or 5 with it.
 -- So 2, 3, 5 and the eight candidates of each turn from d = 7, 37, 67 and so on are divisors enough to try.
-use Rattle.std.specs.Prelude.{◌≡◌, refl, ◌≢◌, Bool, true, false, ◌&&◌, ◌||◌, List, [], ◌∷◌, ℕ, zero, suc, ◌+◌, ◌-◌, ◌*◌, ◌%◌, ◌≤◌, ◌<◌, T, eqb, ltb}
-use Rattle.std.proofs.Common.{sym, ◌∙◌, ap, subst, inl, inr, eq-or-lt_of_le, mul-le-mul_left, add-sub_of_le, mod-eq_of_lt, arith, eqb→eq, ltb→lt, eq-eqb, ne_eqb}
-use Rattle.std.proofs.Math.Nat.{mod-eq-zero_of_dvd, dvd_of_mod-eq-zero, dvd_trans}
+use Rattle.std.specs.Prelude.{◌≡◌, ◌≢◌, true, false, List, [], ◌∷◌, ℕ, ◌+◌, ◌*◌, ◌%◌, ◌≤◌, ◌<◌, eqb}
+use Rattle.std.proofs.Common.{sym, ◌∙◌, subst, mul-le-mul_left, mod-eq_of_lt, arith, eq-eqb, ne_eqb}
+use Rattle.std.proofs.lemmas.Nat.Gcd.{mod-eq-zero_of_dvd, dvd_of_mod-eq-zero, dvd_trans}
 use Rattle.std.proofs.Math.Decide.{ℕ_discrete, dec_lt}
 use Rattle.residues.specs.Each.{Each}
 use Rattle.residues.specs.Prime.{Prime, is_prime, no_divisor_from}
-use Rattle.residues.specs.laws.Booleans.{and_l, and_r, or_cases, true_of}
+use Rattle.residues.specs.laws.Booleans.{true_of}
 use Rattle.residues.specs.laws.Prime.{is_prime_sound, is_prime_complete}
 use Rattle.wheel.specs.Wheel.{Coprime30, Turn}
 use Rattle.wheel.specs.laws.Root.{test_no, test_small}
@@ -22,77 +22,24 @@ coprime_divisor p e C h = record {
   five = λ k. C.five (divides_on p e 5 h k);
 }
 
--- Whether 2, 3 or 5 divides e.
-divided : ℕ → Bool
-divided e = eqb (e % 2) 0 || (eqb (e % 3) 0 || eqb (e % 5) 0)
-
-divided_not_coprime : (e f : ℕ) → e % 30 ≡ f % 30 → T (divided e) → Coprime30 f → ⊥
-unfolding divided
-divided_not_coprime e f h t C =
-    elim (or_cases (eqb (e % 2) 0) _ t) [
-      | inl u ↦ C.two (omega (arith, eqb→eq (e % 2) 0 u))
-      | inr u ↦ elim (or_cases (eqb (e % 3) 0) _ u) [ inl v ↦ C.three (omega (arith, eqb→eq (e % 3) 0 v)) | inr v ↦ C.five (omega (arith, eqb→eq (e % 5) 0 v)) ]
-    ]
-
--- ── the candidates of a turn, by a test of 30 offsets that the checker computes ──
--- Whether each number below n passes f.
-all_below : ℕ → (ℕ → Bool) → Bool
-all_below zero f = true
-all_below (suc n) f = f n && all_below n f
-
-below : (n : ℕ) (f : ℕ → Bool) → T (all_below n f) → (k : ℕ) → k < n → T (f k)
-unfolding all_below
-below zero f t k l = absurd (omega arith)
-below (suc n) f t k l = elim (eq-or-lt_of_le {n = k} {m = n} (omega arith)) [ inl q ↦ rw q (and_l (f n) _ t) | inr q ↦ below n f (and_r (f n) _ t) k q ]
-
--- The candidates of the turn from d are d plus these.
-unfoldable pub offsets : List ℕ
-offsets = 0 ∷ 4 ∷ 6 ∷ 10 ∷ 12 ∷ 16 ∷ 22 ∷ 24 ∷ []
-
-member : ℕ → List ℕ → Bool
-member k [] = false
-member k (x ∷ xs) = eqb k x || member k xs
-
-at_member : (P : ℕ → Type 0) (xs : List ℕ) → Each P xs → (k : ℕ) → T (member k xs) → P k
-unfolding member
-at_member P [] a k t = absurd t
-at_member P (x ∷ xs) a k t = elim (or_cases (eqb k x) _ t) [ inl u ↦ rw (eqb→eq k x u) a.0 | inr u ↦ at_member P xs a.1 k u ]
-
--- What holds of each of the candidates that are listed by their distance from b holds of each number coprime to 30 within a turn from b.
-of_candidates : (b : ℕ) (xs : List ℕ) (P : ℕ → Type 0) → T (all_below 30 (λ k. divided (b + k) || member k xs)) → Each P xs →
-    (k e : ℕ) → k < 30 → (b + k) % 30 ≡ e % 30 → Coprime30 e → P k
-of_candidates b xs P t a k e l h C = elim (or_cases (divided (b + k)) _ (below 30 (λ k. divided (b + k) || member k xs) t k l)) [
-  | inl u ↦ absurd (divided_not_coprime (b + k) e h u C)
-  | inr u ↦ at_member P xs a k u
-]
-
-below_seven : (e : ℕ) → e < 7 → T (ltb e 2 || divided e)
-unfolding all_below divided
-below_seven = below 7 (λ e. ltb e 2 || divided e) tt
-
--- what the code's tests of the candidates tell, where one succeeds and where none does
-pub turn_divided : (p d e : ℕ) → p % e ≡ 0 → d ≤ e → e ≤ d + 24 → Turn p d true
-turn_divided p d e z h l = (e, h, l, z)
-
-pub turn_passed : (p d : ℕ) → d % 30 ≡ 7 → Each (λ s. p % (d + s) ≢ 0) offsets → Turn p d false
-unfolding all_below divided member offsets
-turn_passed p d h a e l u C z = of_candidates 7 offsets (λ s. p % (d + s) ≢ 0) tt a (e - d) e (omega arith) (omega arith) C (ap (λ x. p % x) (add-sub_of_le l) ∙ z)
-
+-- ── what is left modulo 30 ──
 -- What holds of the eight remainders holds of that which a number coprime to 30 leaves.
 unfoldable pub remainders : List ℕ
 remainders = 1 ∷ 29 ∷ 7 ∷ 23 ∷ 11 ∷ 19 ∷ 13 ∷ 17 ∷ []
 
+or_else : (P : ℕ → Type 0) (x k : ℕ) → P k → (x ≢ k → P x) → P x
+or_else P x k a f = elim (ℕ_discrete x k) [ yes q ↦ rw q a | no n ↦ f n ]
+
 pub of_remainders : (P : ℕ → Type 0) → Each P remainders → (e : ℕ) → Coprime30 e → P (e % 30)
-unfolding all_below divided member remainders
-of_remainders P a e C = of_candidates 0 remainders P tt a (e % 30) e (omega arith) (omega arith) C
+unfolding remainders
+of_remainders P (a, (b, (c, (d, (f, (g, (h, (i, _)))))))) e C =
+    or_else P _ 1 a (λ j. or_else P _ 29 b (λ k. or_else P _ 7 c (λ l. or_else P _ 23 d (λ m. or_else P _ 11 f (λ n. or_else P _ 19 g (λ o.
+    or_else P _ 13 h (λ p. or_else P _ 17 i (λ q. absurd (omega arith)))))))))
 
 -- ── the loop over the turns ──
 -- no number from 2 to 6 divides what is coprime to 30
 pub none_below_seven : (p : ℕ) → Coprime30 p → (e : ℕ) → 2 ≤ e → e < 7 → p % e ≢ 0
-none_below_seven p C e h l z = elim (or_cases (ltb e 2) (divided e) (below_seven e l)) [
-  | inl u ↦ omega (arith, ltb→lt e 2 u)
-  | inr u ↦ divided_not_coprime e e refl u (coprime_divisor p e C z)
-]
+none_below_seven p C e h l z = let E = coprime_divisor p e C z in omega arith
 
 -- a turn that no candidate divides: no number up to the next turn divides p
 pub turn_over : (p d : ℕ) → Coprime30 p → ((e : ℕ) → 2 ≤ e → e < d → p % e ≢ 0) → Turn p d false → (e : ℕ) → 2 ≤ e → e < d + 30 → p % e ≢ 0

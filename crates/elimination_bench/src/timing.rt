@@ -24,20 +24,14 @@ fn now<C: CpuClock>(clock: &C) -> u64
     0
 }
 
-// The microseconds of so many calls.
-fn batch<C: CpuClock>(
-    clock: &C,
-    table: &[u32],
-    work: &mut [u32],
-    output: &mut [u32],
-    limit: u32,
-    calls: u32,
-) -> u64
+// The microseconds of so many runs.
+fn batch<C: CpuClock, F: FnMut()>(clock: &C, runs: u32, mut run: F) -> u64
+    requires { F.IsAlwaysCallable run }
     ensures { result < 35184372088832 }
 {
     let before = now(clock);
-    for _ in 0..calls {
-        elimination::eliminate(table, work, output, limit);
+    for _ in 0..runs {
+        run();
     }
     now(clock).saturating_sub(before)
 }
@@ -56,7 +50,9 @@ pub fn measure<C: CpuClock>(
     let mut best: u64 = 35184372088832;
     let mut total: u64 = 0;
     for _batch in 0..batches {
-        let time = batch(clock, table, work, output, limit, calls);
+        let time = batch(clock, calls, || {
+            elimination::eliminate(table, work, output, limit);
+        });
         best = best.min(time);
         total += time;
     }

@@ -131,6 +131,7 @@ fn cubes(out: &mut impl Write, p: u32, digits: Digits) -> io::Result<()>
     requires { 1 ≤ p }
 {
     let mut top = digits.base - 1;
+    // The top gains a digit each turn: no range goes through these.
     while top < 256 {
         let minus = Progression {
             top,

@@ -32,6 +32,7 @@ impl Digits {
     fn is_odd(self, j: u64) -> bool {
         let mut odd = false;
         let mut left = j;
+        // As many turns as j has digits: nothing is counted.
         while 0 < left {
             odd ^= left % self.base % 2 == 1;
             left /= self.base;

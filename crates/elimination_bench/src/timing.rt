@@ -1,5 +1,5 @@
 // The processor time of repeated calls.
-ghost use Rattle.std.specs.Prelude.{◌≡◌, ◌<◌, min, max};
+ghost use Rattle.std.specs.Prelude.{◌<◌};
 
 use std::time::CpuClock;
 
@@ -24,62 +24,19 @@ fn now<C: CpuClock>(clock: &C) -> u64
     0
 }
 
-// The microseconds of so many calls.
-fn batch<C: CpuClock>(
-    clock: &C,
-    table: &[u32],
-    work: &mut [u32],
-    output: &mut [u32],
-    limit: u32,
-    calls: u32,
-) -> u64
+// The microseconds of so many runs.
+fn batch<C: CpuClock, F: FnMut()>(clock: &C, runs: u32, mut run: F) -> u64
+    requires { F.IsAlwaysCallable run }
     ensures { result < 35184372088832 }
 {
     let before = now(clock);
-    let mut left = calls;
-    while 0 < left {
-        elimination::eliminate(table, work, output, limit);
-        left -= 1;
+    for _ in 0..runs {
+        run();
     }
-    let after = now(clock);
-    if after < before {
-        return 0;
-    }
-    after - before
+    now(clock).saturating_sub(before)
 }
 
-// At most 16 batches, and none without a call.
-fn batches_of(repetitions: u32) -> u32
-    ensures { result ≡ min (max repetitions 1) 16 }
-{
-    if repetitions < 1 {
-        return 1;
-    }
-    if 16 < repetitions {
-        return 16;
-    }
-    repetitions
-}
-
-fn at_least_one(n: u32) -> u32
-    ensures { result ≡ max n 1 }
-{
-    if n < 1 {
-        return 1;
-    }
-    n
-}
-
-fn least(a: u64, b: u64) -> u64
-    ensures { result ≡ min a b }
-{
-    if a < b {
-        return a;
-    }
-    b
-}
-
-// Times so many calls of `eliminate`, in batches of as many calls each.
+// Times so many calls of `eliminate`, in at most 16 batches of as many calls each.
 pub fn measure<C: CpuClock>(
     clock: &C,
     table: &[u32],
@@ -88,19 +45,19 @@ pub fn measure<C: CpuClock>(
     limit: u32,
     repetitions: u32,
 ) -> Timing {
-    let batches = batches_of(repetitions);
-    let calls = at_least_one(repetitions / batches);
+    let batches = repetitions.clamp(1, 16);
+    let calls = (repetitions / batches).max(1);
     let mut best: u64 = 35184372088832;
     let mut total: u64 = 0;
-    let mut left = batches;
-    while 0 < left {
-        let time = batch(clock, table, work, output, limit, calls);
-        best = least(best, time);
+    for _batch in 0..batches {
+        let time = batch(clock, calls, || {
+            elimination::eliminate(table, work, output, limit);
+        });
+        best = best.min(time);
         total += time;
-        left -= 1;
     }
     Timing {
-        best: 1000 * best / (calls as u64),
-        mean: 1000 * total / (calls as u64) / (batches as u64),
+        best: 1000 * best / u64::from(calls),
+        mean: 1000 * total / u64::from(calls) / u64::from(batches),
     }
 }

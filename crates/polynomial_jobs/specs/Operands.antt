@@ -1,10 +1,13 @@
--- What the jobs know of their operands.
-use Rattle.std.specs.Prelude.{ℕ, ◌≤◌}
+-- A polynomial is canonical in one way at most, so that a struct may keep the fact.
+use Rattle.std.specs.Prelude.{[], ◌∷◌, ℕ}
+use Rattle.std.proofs.Props.{props}
+use Rattle.polynomials.specs.Poly.{Exponents, Poly}
+use Rattle.polynomials.specs.Canonical.{Canonical, Under}
 
--- The base, places and scale of random operands.
-pub record Shaped (base places scale : ℕ) : Type 0 where
-  pub digits : 2 ≤ base
-  pub small_base : base ≤ 256
-  pub some : 1 ≤ places
-  pub few : places ≤ 2147483648
-  pub small_scale : scale ≤ 256
+pub Under-prop : (e : Exponents) (f : Poly) → IsProp (Under e f)
+Under-prop e [] = hlevel props
+Under-prop e (t ∷ f) = hlevel (props, Under-prop e f)
+
+pub Canonical-prop : (p : ℕ) (f : Poly) → IsProp (Canonical p f)
+Canonical-prop p [] = hlevel props
+Canonical-prop p (t ∷ f) = hlevel (props, Under-prop t.exps f, Canonical-prop p f)

@@ -1,137 +1,135 @@
 // The jobs on two polynomials.
-ghost use Rattle.std.specs.Prelude.{◌≡◌, ◌&&◌, ◌+◌, ◌≤◌, ◌<◌, length, take, drop};
+ghost use Rattle.std.specs.Prelude.{◌≡◌, ◌&&◌, ◌+◌, ◌≤◌, ◌<◌, IfSome, length, take, is_some};
+ghost use Rattle.std.proofs.Props.{props};
 ghost use Rattle.residues.specs.Prime.{Prime, is_modulus};
 ghost use Rattle.polynomials.specs.Bounds.{standard, bounded_round, bounded_remainder};
 ghost use Rattle.polynomials.specs.Division.{degree, leader, initial, coefficient};
 ghost use Rattle.polynomials.specs.Packed.{terms};
-ghost use Rattle.polynomials.specs.Poly.{monic};
 ghost use Rattle.polynomials.specs.Working.{Holds, Forms, is_held};
+ghost use Rattle.polynomial_jobs.specs.Operands.{Canonical-prop};
 
-use crate::{operands, print};
+use crate::generator::Generator;
+use crate::print;
+use crate::print::Polynomial;
 use polynomials::Formed;
 use std::io;
 use std::io::Write;
 
-// All jobs on f and g, where p is a prime and they hold polynomials.
+// All jobs on f and g modulo p, if p is a prime and they hold polynomials.
 pub fn run(out: &mut impl Write, p: u32, f: &[u64], g: &[u64]) -> io::Result<()> {
-    print::number(out, b"p", p as u64)?;
-    if are_operands(p, f, g) {
-        all(out, p as u64, f, g)
-    } else {
-        print::line(out, b"skip")
+    writeln!(out, "p {p}")?;
+    match Operands::new(p, f, g) {
+        Some(operands) => operands.all(out),
+        None => writeln!(out, "skip"),
     }
 }
 
-fn are_operands(p: u32, f: &[u64], g: &[u64]) -> bool
-    ensures { result ≡ (is_modulus p && (is_held p f.now && is_held p g.now)) }
-{
-    if primes::is_prime(p) {
-        if forms::is_polynomial(p as u64, f) {
-            return forms::is_polynomial(p as u64, g);
+// Two polynomials modulo a prime below 2^31.
+#[derive(Clone, Copy)]
+struct Operands<'a> {
+    p: u64,
+    f: &'a [u64],
+    g: &'a [u64],
+    ghost prime: { Prime p } by { Prim.hlevel props },
+    ghost small: { p < 2147483648 },
+    ghost f_holds: { Holds p f.now } by { Prim.hlevel (props, Canonical-prop) },
+    ghost g_holds: { Holds p g.now } by { Prim.hlevel (props, Canonical-prop) },
+}
+
+impl<'a> Operands<'a> {
+    fn new(p: u32, f: &'a [u64], g: &'a [u64]) -> Option<Self>
+        ensures tested { is_some result ≡ (is_modulus p && (is_held p f.now && is_held p g.now)) }
+        ensures same { IfSome result (λ o. (o.p ≡ p) × (o.f.now ≡ f.now) × (o.g.now ≡ g.now)) }
+    {
+        let modulus = u64::from(p);
+        if primes::is_prime(p)
+            && forms::is_polynomial(modulus, f)
+            && forms::is_polynomial(modulus, g)
+        {
+            return Some(Operands { p: modulus, f, g });
+        }
+        None
+    }
+
+    fn all(self, out: &mut impl Write) -> io::Result<()> {
+        writeln!(out, "f {}", Polynomial(self.f))?;
+        writeln!(out, "g {}", Polynomial(self.g))?;
+        self.product(out)?;
+        self.difference(out)?;
+        writeln!(out, "equal {}", u8::from(forms::equal(self.f, self.g)))?;
+        self.monic(out)?;
+        self.split(out)?;
+        self.divide(out)?;
+        self.swapped().divide(out)?;
+        self.values(out)
+    }
+
+    fn swapped(self) -> Self {
+        Operands {
+            p: self.p,
+            f: self.g,
+            g: self.f,
         }
     }
-    false
-}
 
-fn all(out: &mut impl Write, p: u64, f: &[u64], g: &[u64]) -> io::Result<()>
-    requires prime { Prime p × (p < 2147483648) }
-    requires holds { Holds p f.now }
-    requires holds_2 { Holds p g.now }
-{
-    print::polynomial(out, b"f", f)?;
-    print::polynomial(out, b"g", g)?;
-    product(out, p, f, g)?;
-    difference(out, p, f, g)?;
-    print::truth(out, b"equal", forms::equal(f, g))?;
-    monic(out, p, f)?;
-    split(out, p, f)?;
-    divide(out, p, f, g)?;
-    divide(out, p, g, f)?;
-    values(out, p, f)
-}
-
-fn product(out: &mut impl Write, p: u64, f: &[u64], g: &[u64]) -> io::Result<()>
-    requires le_p { (1 ≤ p) × (p < 2147483648) }
-    requires holds { Holds p f.now }
-    requires holds_2 { Holds p g.now }
-{
-    let mut x = [0u64; 1024];
-    let mut z = [0u64; 1024];
-    let answer = products::product(p, f, g, &mut x, &mut z);
-    print::formed(out, b"product", answer, &x)
-}
-
-fn difference(out: &mut impl Write, p: u64, f: &[u64], g: &[u64]) -> io::Result<()>
-    requires le_p { (1 ≤ p) × (p < 2147483648) }
-    requires holds { Holds p f.now }
-    requires holds_2 { Holds p g.now }
-{
-    let mut x = [0u64; 1024];
-    let answer = sums::difference(p, f, g, &mut x);
-    print::formed(out, b"difference", answer, &x)
-}
-
-fn monic(out: &mut impl Write, p: u64, f: &[u64]) -> io::Result<()>
-    requires prime { Prime p × (p < 2147483648) }
-    requires holds { Holds p f.now }
-{
-    let mut x = [0u64; 512];
-    let n = copy(f, &mut x);
-    make_monic(out, p, f, &mut x[..n])
-}
-
-// Makes x, a copy of f, monic; and tells whether f was.
-fn make_monic(out: &mut impl Write, p: u64, f: &[u64], x: &mut [u64]) -> io::Result<()>
-    requires prime { Prime p × (p < 2147483648) }
-    requires holds { Holds p f.now }
-    requires x_value { x.old ≡ f.now }
-    ensures { terms x.new ≡ monic p (terms x.old) }
-{
-    scaling::monic(p, x);
-    print::polynomial(out, b"monic", x)?;
-    print::truth(out, b"equal", forms::equal(x, f))
-}
-
-// Copies f to the first words of x; how many. The words behind stay.
-fn copy(f: &[u64], x: &mut [u64]) -> usize
-    requires { length f.now ≤ length x.old }
-    ensures { (result ≡ length f.now) × (take result x.new ≡ f.now) × (drop result x.new ≡ drop result x.old) }
-{
-    polynomials::copy(f, 0, x, 0);
-    f.len()
-}
-
-// Leading variable, initial and rest of f.
-fn split(out: &mut impl Write, p: u64, f: &[u64]) -> io::Result<()>
-    requires { Holds p f.now }
-{
-    let lead = terms::leader(f);
-    print::number(out, b"leader", lead as u64)?;
-    if lead == 0 {
-        return Ok(());
+    fn product(self, out: &mut impl Write) -> io::Result<()> {
+        let mut x = [0u64; 1024];
+        let mut z = [0u64; 1024];
+        let answer = products::product(self.p, self.f, self.g, &mut x, &mut z);
+        print::formed(out, "product", answer, &x)
     }
-    let mut x = [0u64; 512];
-    let n = terms::initial(f, lead - 1, &mut x);
-    print::polynomial(out, b"initial", &x[..n])?;
-    print::polynomial(out, b"rest", terms::rest(f, lead - 1))
-}
 
-// The division of f by t in the leading variable of t.
-fn divide(out: &mut impl Write, p: u64, f: &[u64], t: &[u64]) -> io::Result<()>
-    requires le_p { (1 ≤ p) × (p < 2147483648) }
-    requires holds { Holds p f.now }
-    requires holds_2 { Holds p t.now }
-{
-    let lead = terms::leader(t);
-    if lead == 0 {
-        return print::line(out, b"no divisor");
+    fn difference(self, out: &mut impl Write) -> io::Result<()> {
+        let mut x = [0u64; 1024];
+        let answer = sums::difference(self.p, self.f, self.g, &mut x);
+        print::formed(out, "difference", answer, &x)
     }
-    let mut i = [0u64; 512];
-    let m = terms::initial(t, lead - 1, &mut i);
-    let mut r = [0u64; 1024];
-    let n = copy(f, &mut r);
-    let answer = remainder(p, lead - 1, &i[..m], t, &mut r, n);
-    print::formed(out, b"remainder", answer, &r)
+
+    // f made monic, and whether it was.
+    fn monic(self, out: &mut impl Write) -> io::Result<()> {
+        let mut words = [0u64; 512];
+        let x = &mut words[..self.f.len()];
+        x.copy_from_slice(self.f);
+        scaling::monic(self.p, x);
+        writeln!(out, "monic {}", Polynomial(x))?;
+        writeln!(out, "equal {}", u8::from(forms::equal(x, self.f)))
+    }
+
+    // Leading variable, initial and rest of f.
+    fn split(self, out: &mut impl Write) -> io::Result<()> {
+        let lead = terms::leader(self.f);
+        writeln!(out, "leader {lead}")?;
+        if lead == 0 {
+            return Ok(());
+        }
+        let mut x = [0u64; 512];
+        let n = terms::initial(self.f, lead - 1, &mut x);
+        writeln!(out, "initial {}", Polynomial(&x[..n]))?;
+        writeln!(out, "rest {}", Polynomial(terms::rest(self.f, lead - 1)))
+    }
+
+    // The division of f by g in the leading variable of g.
+    fn divide(self, out: &mut impl Write) -> io::Result<()> {
+        let lead = terms::leader(self.g);
+        if lead == 0 {
+            return writeln!(out, "no divisor");
+        }
+        let mut i = [0u64; 512];
+        let m = terms::initial(self.g, lead - 1, &mut i);
+        let mut r = [0u64; 1024];
+        let n = self.f.len();
+        r[..n].copy_from_slice(self.f);
+        let answer = remainder(self.p, lead - 1, &i[..m], self.g, &mut r, n);
+        print::formed(out, "remainder", answer, &r)
+    }
+
+    // The values of f at the origin and at a random point.
+    fn values(self, out: &mut impl Write) -> io::Result<()> {
+        let origin = [0u32; 8];
+        let x = Generator::new(1 + (self.f.len() / 2) as u64).point(self.p);
+        writeln!(out, "value {}", values::value(self.p, self.f, &origin))?;
+        writeln!(out, "value {}", values::value(self.p, self.f, &x))
+    }
 }
 
 // Rounds on the first m words of r, until the degree is below that of t: each lowers it, so that there are at most 255.
@@ -144,14 +142,15 @@ fn remainder(p: u64, k: u32, i: &[u64], t: &[u64], r: &mut [u64], m: usize) -> F
 {
     let d = degrees::degree(t, k);
     let mut n = m;
-    let mut rounds: u64 = 0;
-    while rounds < 256 && d <= degrees::degree(&r[..n], k) {
+    for _round in 0..256u32 {
+        if degrees::degree(&r[..n], k) < d {
+            return Formed::Words(n);
+        }
         match round(p, k, d, i, t, r, n) {
             Formed::Words(left) => n = left,
             Formed::OverDegree => return Formed::OverDegree,
             Formed::OverTerms => return Formed::OverTerms,
         }
-        rounds += 1;
     }
     Formed::Words(n)
 }
@@ -169,15 +168,4 @@ fn round(p: u64, k: u32, d: u64, i: &[u64], t: &[u64], r: &mut [u64], n: usize) 
     let mut z = [0u64; 1024];
     let e = degrees::degree(&r[..n], k);
     division::round(p, k, d, e, i, t, r, n, &mut x, &mut y, &mut z)
-}
-
-// The values of f at the origin and at a random point.
-fn values(out: &mut impl Write, p: u64, f: &[u64]) -> io::Result<()>
-    requires le_p { (2 ≤ p) × (p < 2147483648) }
-    requires holds { Holds p f.now }
-{
-    let origin = [0u32; 8];
-    let x = operands::point(p, 1 + (f.len() / 2) as u64);
-    print::number(out, b"value", values::value(p, f, &origin))?;
-    print::number(out, b"value", values::value(p, f, &x))
 }

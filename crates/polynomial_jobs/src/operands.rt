@@ -1,178 +1,140 @@
-// Operands: regular ones, and random ones from a small linear congruential generator. What they hold is for the caller to test.
+// Operands: regular ones, and random ones. What they hold is for the caller to test.
 //
 // A monomial is made from a number: its digits in a base are the exponents, v1's first, each times a scale. Falling numbers give
 // falling monomials as long as no exponent passes 255.
-ghost use Rattle.std.specs.Prelude.{◌≡◌, ◌≤◌, ◌<◌, length};
-ghost use Rattle.std.specs.Counts.{IsPrefixLen};
-ghost use Rattle.polynomials.specs.Value.{Point};
-ghost use Rattle.polynomial_jobs.specs.Operands.{Shaped};
+ghost use Rattle.std.specs.Prelude.{◌≤◌, length};
 
-// A number below n. The state stays below 2^31, so that no product wraps.
-pub fn draw(state: &mut u64, n: u64) -> u64
-    requires state_bound { state.old < 2147483648 }
-    requires le_n { 1 ≤ n }
-    ensures { (result < n) × (state.new < 2147483648) }
-{
-    let s = *state * 48271 % 2147483647;
-    *state = s;
-    s % n
+use crate::generator::Generator;
+
+// The digits of numbers in a base.
+#[derive(Clone, Copy)]
+pub struct Digits {
+    pub base: u64,
+    ghost at_least_two: { 2 ≤ base },
+    ghost at_most_256: { base ≤ 256 },
 }
 
-// A number below one of four bounds, each as often as the others.
-fn draw_below_one(state: &mut u64, a: u64, b: u64, c: u64, d: u64) -> u64
-    requires state_bound { state.old < 2147483648 }
-    requires le_a { (1 ≤ a) × (a ≤ b) × (b ≤ c) × (c ≤ d) }
-    ensures { (result < d) × (state.new < 2147483648) }
-{
-    match draw(state, 4) {
-        0 => draw(state, a),
-        1 => draw(state, b),
-        2 => draw(state, c),
-        _ => draw(state, d),
+impl Digits {
+    // The monomial whose exponents are the first eight digits of j, each times the scale.
+    fn monomial(self, j: u64, scale: u64) -> u64
+        requires { scale ≤ 256 }
+    {
+        let mut exponents = [0u8; 8];
+        let mut left = j;
+        for e in exponents.iter_mut() {
+            *e = (left % self.base * scale % 256) as u8;
+            left /= self.base;
+        }
+        u64::from_le_bytes(exponents)
+    }
+
+    // Whether the digits of j have an odd sum.
+    fn is_odd(self, j: u64) -> bool {
+        let mut odd = false;
+        let mut left = j;
+        // As many turns as j has digits: nothing is counted.
+        while 0 < left {
+            odd ^= left % self.base % 2 == 1;
+            left /= self.base;
+        }
+        odd
+    }
+
+    // The base to the power n, or to the first power that passes 2^23.
+    fn power(self, n: u64) -> u64
+        ensures { (1 ≤ result) × (result ≤ 2147483648) }
+    {
+        let mut q: u64 = 1;
+        for _i in 0..n {
+            if 8388608 <= q {
+                return q;
+            }
+            q *= self.base;
+        }
+        q
     }
 }
 
-// Eight exponents: each turn moves those before down by a byte and puts the next on top, times 2^56.
-fn monomial(j: u64, base: u64, scale: u64) -> u64
-    requires { (1 ≤ base) × (base ≤ 256) × (scale ≤ 256) }
-{
-    let mut m: u64 = 0;
-    let mut left = j;
-    let mut i: u32 = 0;
-    while i < 8 {
-        let e = left % base * scale % 256;
-        m = m / 256 + e * 72057594037927936;
-        left = left / base;
-        i += 1;
-    }
-    m
-}
-
-// Whether the digits of j in the base have an odd sum.
-fn is_odd(j: u64, base: u64) -> bool
-    requires { 2 ≤ base }
-{
-    let mut odd: u64 = 0;
-    let mut left = j;
-    while 0 < left {
-        odd = (odd + left % base % 2) % 2;
-        left = left / base;
-    }
-    odd == 1
-}
-
-// The monomials of top, top - gap, .. in the base; the coefficient is c where the exponents have an odd sum, else 1.
+// The monomials of top, top - gap, .. in the base; the coefficient is `odd_coefficient` where the exponents have an odd sum, else 1.
 #[derive(Clone, Copy)]
 pub struct Progression {
     pub top: u64,
     pub gap: u64,
-    pub base: u64,
-    pub c: u64,
+    pub digits: Digits,
+    pub odd_coefficient: u64,
+    ghost falls: { 1 ≤ gap },
 }
 
-// These, into the first words of `out`.
-pub fn regular(s: Progression, out: &mut [u64]) -> usize
-    requires le_gap { (1 ≤ s.gap) × (2 ≤ s.base) × (s.base ≤ 256) }
-    requires in_bounds { 1024 ≤ length out.old }
-    ensures { IsPrefixLen result out.new }
-{
-    let mut j = s.top;
-    let mut n = 0;
-    while n < 1023 {
-        out[n] = if is_odd(j, s.base) { s.c } else { 1 };
-        out[n + 1] = monomial(j, s.base, 1);
-        n += 2;
-        if j < s.gap {
-            return n;
+impl Progression {
+    // Up to 512 of these terms, into the first words of `out`: those words.
+    pub fn terms(self, out: &mut [u64]) -> &[u64]
+        requires { 1024 ≤ length out.old }
+        ensures { length result.now ≤ 1024 }
+    {
+        let count = (self.top / self.gap).min(511) as usize + 1;
+        let mut j = self.top;
+        for term in out[..2 * count].chunks_exact_mut(2) {
+            term[0] = if self.digits.is_odd(j) {
+                self.odd_coefficient
+            } else {
+                1
+            };
+            term[1] = self.digits.monomial(j, 1);
+            j = j.saturating_sub(self.gap);
         }
-        j -= s.gap;
+        &out[..2 * count]
     }
-    n
 }
 
 // What random operands have in common: numbers below `places`, whose digits in the base are scaled.
 #[derive(Clone, Copy)]
 pub struct Shape {
-    pub base: u64,
-    pub places: u64,
-    pub scale: u64,
+    digits: Digits,
+    places: u64,
+    scale: u64,
+    ghost some: { 1 ≤ places },
+    ghost few: { places ≤ 2147483648 },
+    ghost small_scale: { scale ≤ 256 },
 }
 
-// 1 to 8 variables, with small or large exponents.
-pub fn draw_shape(state: &mut u64) -> Shape
-    requires { state.old < 2147483648 }
-    ensures { Shaped result.base result.places result.scale × (state.new < 2147483648) }
-{
-    let base = 2 + draw_below_one(state, 2, 8, 30, 255);
-    let variables = 1 + draw(state, 8);
-    let places = power(base, variables);
-    if draw(state, 2) == 0 {
-        return Shape {
-            base,
-            places,
-            scale: 1,
+impl Shape {
+    // 1 to 8 variables, with small or large exponents.
+    pub fn draw(generator: &mut Generator) -> Self {
+        let base = 2 + generator.draw_below_one([2, 8, 30, 255]);
+        let digits = Digits { base };
+        let variables = 1 + generator.draw(8);
+        let places = digits.power(variables);
+        let scale = if generator.draw(2) == 0 {
+            1
+        } else {
+            1 + generator.draw(255 / (base - 1))
         };
-    }
-    let scale = 1 + draw(state, 255 / (base - 1));
-    Shape {
-        base,
-        places,
-        scale,
-    }
-}
-
-// The base to the power n, or to the first power that passes 2^23.
-fn power(base: u64, n: u64) -> u64
-    requires { (2 ≤ base) × (base ≤ 256) }
-    ensures { (1 ≤ result) × (result ≤ 2147483648) }
-{
-    let mut q: u64 = 1;
-    let mut i: u64 = 0;
-    while i < n && q < 8388608 {
-        q *= base;
-        i += 1;
-    }
-    q
-}
-
-// A random number of terms with random gaps between their monomials, into the first words of `out`.
-pub fn scattered(state: &mut u64, p: u64, s: Shape, out: &mut [u64]) -> usize
-    requires state_bound { state.old < 2147483648 }
-    requires le_p { (2 ≤ p) × Shaped s.base s.places s.scale }
-    requires in_bounds { 512 ≤ length out.old }
-    ensures prefix_len { IsPrefixLen result out.new }
-    ensures state_bound_2 { state.new < 2147483648 }
-{
-    let base = s.base;
-    let scale = s.scale;
-    let mut left = 1 + draw_below_one(state, 3, 8, 40, 256);
-    let mut j = draw(state, s.places);
-    let mut n = 0;
-    while 0 < left {
-        out[n] = 1 + draw(state, p - 1);
-        out[n + 1] = monomial(j, base, scale);
-        n += 2;
-        let gap = 1 + draw(state, 1 + 2 * j / left);
-        if j < gap {
-            return n;
+        Shape {
+            digits,
+            places,
+            scale,
         }
-        j -= gap;
-        left -= 1;
     }
-    n
-}
 
-// A point of eight residues.
-pub fn point(p: u64, seed: u64) -> [u32; 8]
-    requires { (1 ≤ p) × (p < 2147483648) × (seed < 2147483648) }
-    ensures { (8 ≡ length result) × Point p result }
-{
-    let mut state = seed;
-    let mut x = [0u32; 8];
-    let mut i = 0;
-    while i < 8 {
-        x[i] = draw(&mut state, p) as u32;
-        i += 1;
+    // A random number of terms with random gaps between their monomials, into the first words of `out`: those words.
+    pub fn terms<'a>(self, generator: &mut Generator, p: u64, out: &'a mut [u64]) -> &'a [u64]
+        requires le_p { 2 ≤ p }
+        requires in_bounds { 512 ≤ length out.old }
+        ensures { length result.now ≤ 512 }
+    {
+        let count = 1 + generator.draw_below_one([3, 8, 40, 256]);
+        let mut j = generator.draw(self.places);
+        let mut n = 0;
+        for left in (1..=count).rev() {
+            out[n] = 1 + generator.draw(p - 1);
+            out[n + 1] = self.digits.monomial(j, self.scale);
+            n += 2;
+            let gap = 1 + generator.draw(1 + 2 * j / left);
+            if j < gap {
+                break;
+            }
+            j -= gap;
+        }
+        &out[..n]
     }
-    x
 }

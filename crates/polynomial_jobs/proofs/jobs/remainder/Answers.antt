@@ -26,16 +26,16 @@ round-requires-clause-holds_2 c =
     (c.requires.holds_2.0, c.requires.holds_2.1 ∙ ap (λ (e : ℕ). coefficient c.args.k e (terms c.args.t.now)) (sym c.degree-d.ensures))
 
 pub returns-in-OverDegree : goal.returns-in-OverDegree
-returns-in-OverDegree c = rw (sym c.degree-d.ensures) (over_degree c.loop-rounds.invariant (omega arith) (omega (arith, c.degree.ensures)) _ c.in-OverDegree.ensures)
+returns-in-OverDegree c = rw (sym c.degree-d.ensures) (over_degree c.loop-round.invariant (omega arith) (omega (arith, c.degree.ensures)) _ c.in-OverDegree.ensures)
 
 pub returns-in-OverTerms : goal.returns-in-OverTerms
-returns-in-OverTerms c = rw (sym c.degree-d.ensures) (over_terms c.loop-rounds.invariant (omega arith) (omega (arith, c.degree.ensures)) _ c.in-OverTerms.ensures)
+returns-in-OverTerms c = rw (sym c.degree-d.ensures) (over_terms c.loop-round.invariant (omega arith) (omega (arith, c.degree.ensures)) _ c.in-OverTerms.ensures)
 
-pub loop-rounds-preserved : goal.loop-rounds-preserved
-loop-rounds-preserved c = formed_next c.loop-rounds.invariant c.requires.le_p.0 (omega arith) (omega (arith, c.degree.ensures)) _ _ c.in-Words.ensures
+pub loop-round-preserved : goal.loop-round-preserved
+loop-round-preserved c = formed_next c.loop-round.invariant c.requires.le_p.0 (omega arith) (omega (arith, c.degree.ensures)) _ _ c.in-Words.ensures
 
-pub returns-else-d-degree : goal.returns-else-d-degree
-returns-else-d-degree c = rw (sym c.degree-d.ensures) (done c.loop-rounds.invariant (omega (arith, c.degree.ensures)))
+pub returns-then-degree-d : goal.returns-then-degree-d
+returns-then-degree-d c = rw (sym c.degree-d.ensures) (done c.loop-round.invariant (omega (arith, c.degree.ensures)))
 
-pub returns-after-loop-rounds : goal.returns-after-loop-rounds
-returns-after-loop-rounds c = rw (sym c.degree-d.ensures) (used c.loop-rounds.invariant (omega arith))
+pub returns : goal.returns
+returns c = rw (sym c.degree-d.ensures) (used c.loop-round.invariant (omega arith))

@@ -98,7 +98,7 @@ module _ {T : ℕ → Bool → Type 0} {p : ℕ} {x : List ℕ} where
     tested fs true a h = sym (list_all-from_AllPass _ fs (λ k d l. sym (h _ true (a.all_pass refl k d l))))
     tested fs false a h = let q = a.one_fails refl in sym (list_all_at _ fs q.0 q.1 q.2 (rw q.3 (sym (h _ false q.4))))
 
--- The two tests.
+-- The two tests that are asked for.
 module _ (p : ℕ) (x : List ℕ) where
   pub all_tested : (fs : List Poly) → list_all (λ f. eqb (value_modulo p f x) 0) fs ≡ all_zero p x fs
   unfolding all_zero is_root
@@ -113,8 +113,7 @@ module _ (p : ℕ) (x : List ℕ) where
 -- The polynomials from index i on decide for all from the index `first` on, which record `from` holds.
 pub record TestsLeft (T : ℕ → Bool → Type 0) (t : Table) (from first : ℕ) (x : List ℕ) (i : ℕ) : Type 0 where
   pub chain : HeadsLeft t.words.now t.modulus t.variables i
-  pub decides : (fs : List Poly) → ArePolynomialsFrom t from first fs
-      → (b : Bool) → TestsEach T t.modulus x chain.rest b → TestsEach T t.modulus x fs b
+  pub decides : (fs : List Poly) → ArePolynomialsFrom t from first fs → (b : Bool) → TestsEach T t.modulus x chain.rest b → TestsEach T t.modulus x fs b
 
 pub tests_start : {T : ℕ → Bool → Type 0} {t : Table} {from first : ℕ} {x : List ℕ} {fs : List Poly} → from < records t.words.now
     → ArePolynomialsFrom t from first fs → TestsLeft T t from first x first
@@ -125,11 +124,10 @@ tests_start {T} {t} {from} {first} {x} {fs} h e =
     }
 
 module _ {T : ℕ → Bool → Type 0} {t : Table} {from first : ℕ} {x : List ℕ} {i : ℕ} (l : TestsLeft T t from first x i) where
-  pub tests_end : i ≡ 0 → (fs : List Poly) → ArePolynomialsFrom t from first fs
-      → TestsEach T t.modulus x fs true
+  pub tests_end : i ≡ 0 → (fs : List Poly) → ArePolynomialsFrom t from first fs → TestsEach T t.modulus x fs true
   tests_end z fs e = l.decides fs e true (rw (chain_end l.chain z) none_fails)
 
-  -- r is the value of the polynomial with its head in record i.
+  -- The polynomial with its head in record i.
   module _ (more : i ≢ 0) where
     head : Member l.chain
     head = chain_next l.chain more
@@ -137,12 +135,13 @@ module _ {T : ℕ → Bool → Type 0} {t : Table} {from first : ℕ} {x : List 
     pub tests_inside : i < records t.words.now
     tests_inside = head.inside
 
-    pub tests_read : (f : Poly) × (IsPolynomialAt t i f)
+    pub tests_read : (f : Poly) × IsPolynomialAt t i f
     tests_read = (head.member, head.is_read)
 
     pub tests_less : left (records t.words.now) (word t.words.now i 3) < left (records t.words.now) i
     tests_less = chain_less l.chain more
 
+    -- v is its value.
     module _ {v : ℕ} (is_value : (f : Poly) → IsPolynomialAt t i f → v ≡ value_modulo t.modulus f x) where
       pub tests_next : T v true → TestsLeft T t from first x (word t.words.now i 3)
       unfolding head
@@ -152,6 +151,5 @@ module _ {T : ℕ → Bool → Type 0} {t : Table} {from first : ℕ} {x : List 
             decides = λ fs e b a. l.decides fs e b (rw head.parts (passes_on head.member (subst (λ v. T v true) (is_value head.member head.is_read) h) a));
           }
 
-      pub tests_fail : T v false → (fs : List Poly) → ArePolynomialsFrom t from first fs
-          → TestsEach T t.modulus x fs false
+      pub tests_fail : T v false → (fs : List Poly) → ArePolynomialsFrom t from first fs → TestsEach T t.modulus x fs false
       tests_fail h fs e = l.decides fs e false (rw head.parts (fails_on head.member head.behind (subst (λ v. T v false) (is_value head.member head.is_read) h)))

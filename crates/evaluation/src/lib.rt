@@ -28,7 +28,7 @@ fn add_term(table: Table<'_>, i: usize, v: u64, point: &[u32]) -> u64
 // The value at a point of the polynomial with its head in record `head`.
 fn value_at(table: Table<'_>, head: usize, point: &[u32]) -> u64
     requires record { head < records table.words.now }
-    requires read { (f : Poly) × (IsPolynomialAt table head f) }
+    requires read { (f : Poly) × IsPolynomialAt table head f }
     requires point { Point table.modulus point.now }
     ensures { (f : Poly) → IsPolynomialAt table.entry head f → result ≡ value_modulo table.entry.modulus f point.now }
 {
@@ -50,7 +50,7 @@ fn all_pass<F: Fn(u64) -> bool>(
     test: F,
 ) -> bool
     requires record { from < records table.words.now }
-    requires read { (fs : List Poly) × (ArePolynomialsFrom table from first fs) }
+    requires read { (fs : List Poly) × ArePolynomialsFrom table from first fs }
     requires point { Point table.modulus point.now }
     requires test { F.IsAlwaysCallable test }
     ensures { (fs : List Poly) → ArePolynomialsFrom table.entry from first fs → TestsEach (F.post test) table.entry.modulus point.now fs result }
@@ -68,7 +68,7 @@ fn all_pass<F: Fn(u64) -> bool>(
 // Whether all polynomials from the index `first` on, which record `from` holds, are zero at the point.
 pub fn all_zero(table: Table<'_>, from: usize, first: u32, point: &[u32]) -> bool
     requires record { from < records table.words.now }
-    requires read { (fs : List Poly) × (ArePolynomialsFrom table from first fs) }
+    requires read { (fs : List Poly) × ArePolynomialsFrom table from first fs }
     requires point { Point table.modulus point.now }
     ensures { (fs : List Poly) → ArePolynomialsFrom table.entry from first fs → result ≡ all_zero table.entry.modulus point.now fs }
 {
@@ -78,7 +78,7 @@ pub fn all_zero(table: Table<'_>, from: usize, first: u32, point: &[u32]) -> boo
 // Whether none of them is zero there.
 pub fn none_zero(table: Table<'_>, from: usize, first: u32, point: &[u32]) -> bool
     requires record { from < records table.words.now }
-    requires read { (fs : List Poly) × (ArePolynomialsFrom table from first fs) }
+    requires read { (fs : List Poly) × ArePolynomialsFrom table from first fs }
     requires point { Point table.modulus point.now }
     ensures { (fs : List Poly) → ArePolynomialsFrom table.entry from first fs → result ≡ none_zero table.entry.modulus point.now fs }
 {

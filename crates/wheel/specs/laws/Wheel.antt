@@ -37,10 +37,6 @@ of_remainders P (a, (b, (c, (d, (f, (g, (h, (i, _)))))))) e C =
     or_else P _ 13 h (λ p. or_else P _ 17 i (λ q. absurd (omega arith)))))))))
 
 -- ── the loop over the turns ──
--- no number from 2 to 6 divides what is coprime to 30
-pub none_below_seven : (p : ℕ) → Coprime30 p → (e : ℕ) → 2 ≤ e → e < 7 → p % e ≢ 0
-none_below_seven p C e h l z = let E = coprime_divisor p e C z in omega arith
-
 -- a turn that no candidate divides: no number up to the next turn divides p
 pub turn_over : (p d : ℕ) → Coprime30 p → ((e : ℕ) → 2 ≤ e → e < d → p % e ≢ 0) → Turn p d false → (e : ℕ) → 2 ≤ e → e < d + 30 → p % e ≢ 0
 turn_over p d C f t e h l z = elim (dec_lt e d) [ yes s ↦ f e h s z | no s ↦ t e (omega arith) l (coprime_divisor p e C z) z ]

@@ -4,31 +4,23 @@
 ghost use Rattle.std.specs.Prelude.{◌≡◌, ◌+◌, ◌*◌, ◌/◌, ◌≤◌, length, take, drop};
 ghost use Rattle.decoding.specs.Words.{word_at, words_of};
 
-// The number that four bytes spell, the lowest first.
-fn from_bytes(a: u8, b: u8, c: u8, d: u8) -> u32
-    ensures { result ≡ a + 256 * b + 65536 * c + 16777216 * d }
-{
-    a as u32 + 256 * (b as u32) + 65536 * (c as u32) + 16777216 * (d as u32)
-}
-
 // The word at byte i.
 pub fn word_at(bytes: &[u8], i: usize) -> u32
     requires { i + 4 ≤ length bytes.now }
     ensures { result ≡ word_at bytes.now i }
 {
-    from_bytes(bytes[i], bytes[i + 1], bytes[i + 2], bytes[i + 3])
+    u32::from_le_bytes([bytes[i], bytes[i + 1], bytes[i + 2], bytes[i + 3]])
 }
 
 // Puts the whole words of the bytes to the start of `words`.
+#[tactic(auto, unfolding(crate::specs::Words::words_of, crate::specs::Words::words_from))]
 pub fn decode(bytes: &[u8], words: &mut [u32])
     requires { length bytes.now / 4 ≤ length words.old }
     ensures words_after { take (length bytes.now / 4) words.new ≡ words_of bytes.now }
     ensures words_unchanged { drop (length bytes.now / 4) words.new ≡ drop (length bytes.now / 4) words.old }
 {
     let n = bytes.len() / 4;
-    let mut i = 0;
-    while i < n {
+    for i in 0..n {
         words[i] = word_at(bytes, 4 * i);
-        i += 1;
     }
 }

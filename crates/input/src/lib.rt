@@ -1,44 +1,102 @@
-// Words from a reader by way of a buffer. What the reader gives is free: of a word that is read the contracts say where it stands in the buffer,
-// of words that stood in the buffer already that they are taken in order, none skipped, and of a buffer filled anew that its first is taken.
+// Words from a reader by way of a lent buffer. What the reader gives is free: of a word that is read the contracts say where it stands in the
+// buffer, of words that stood in the buffer already that they are taken in order, none skipped, and of a buffer filled anew that its first is taken.
 #![tactic(auto)]
 
-ghost use Rattle.std.specs.Prelude.{◌≡◌, ◌+◌, ◌≤◌, length};
+ghost use Rattle.std.specs.Prelude.{◌≡◌, ◌+◌, ◌-◌, ◌≤◌, ◌<◌, length, drop, get_or, Some, None, IsSome, IfSome};
 ghost use Rattle.decoding.specs.Words.{word_at};
-ghost use Rattle.input.specs.Input.{Reached, Anew, Enough, Left, Ended, Taken, Within, Counted};
+ghost use Rattle.input.specs.Input.{Before, Enough, Left, further, Taken, Counted};
 
 use std::io::Read;
+use std::marker::Model;
 
-// The bytes of a buffer that are read and not yet used: from `at` up to `end`.
-#[derive(Clone, Copy)]
-pub struct Input {
-    pub at: usize,
-    pub end: usize,
+// The words that a reader gives. The bytes of the buffer that are read and not yet used are from `at` up to `end`.
+#[derive(Drop)]
+pub struct Words<'a, R> {
+    reader: R,
+    buffer: &'a mut [u8],
+    at: usize,
+    end: usize,
 }
 
-#[derive(Clone, Copy)]
-pub enum Word {
-    Read(u32, Input),
-    End,
+impl<'a, R> Model for Words<'a, R> {
+    ghost use Rattle.std.specs.Prelude.{◌≤◌, length};
+    ghost use Rattle.input.specs.Window.{Window};
+
+    ghost Value = { Window };
+
+    ghost view = { λ w. record { bytes = w.buffer.now; at = w.at; end = w.end } };
+
+    ghost invariant = { λ w. (w.at ≤ w.end) × (w.end ≤ length w.buffer.now) };
 }
 
-#[derive(Clone, Copy)]
-pub enum Filled {
-    Full(Input),
-    CutShort,
-}
+impl<'a, R: Read> Words<'a, R> {
+    // Nothing is read yet. The buffer's length is to be a multiple of 4: a word that it cuts is lost.
+    pub fn new(reader: R, buffer: &'a mut [u8]) -> Words<'a, R>
+        ensures { result ≡ record { bytes = buffer.old; at = 0; end = 0 } }
+    {
+        Words {
+            reader,
+            buffer,
+            at: 0,
+            end: 0,
+        }
+    }
 
-// The first words of a slice, or too few.
-#[derive(Clone, Copy)]
-pub enum Words {
-    First(usize, Input),
-    CutShort,
-}
+    // The next word. The buffer is filled anew when it holds no whole word more.
+    pub fn next(&mut self) -> Option<u32>
+        ensures reached { IfSome result (λ x. Before x self.new) }
+        ensures value { Left self.old → (result ≡ Some (word_at self.old.bytes self.old.at)) × (self.new ≡ further 1 self.old) }
+        ensures anew { (Left self.old → ⊥) → IfSome result (λ _. self.new.at ≡ 4) }
+        ensures capacity { length self.new.bytes ≡ length self.old.bytes }
+    {
+        if self.end - self.at < 4 {
+            self.end = read_full(&mut self.reader, self.buffer);
+            self.at = 0;
+        }
+        self.word()
+    }
 
-// Nothing is read yet.
-pub fn begin() -> Input
-    ensures { result ≡ record { at = 0; end = 0 } }
-{
-    Input { at: 0, end: 0 }
+    // The next word of the buffer, where it holds one.
+    fn word(&mut self) -> Option<u32>
+        ensures reached { IfSome result (λ x. Before x self.new) }
+        ensures value { Left self.old → (result ≡ Some (word_at self.old.bytes self.old.at)) × (self.new ≡ further 1 self.old) }
+        ensures none { (Left self.old → ⊥) → (result ≡ None) × (self.new ≡ self.old) }
+    {
+        if self.end - self.at < 4 {
+            return None;
+        }
+        let at = self.at;
+        let buffer = &mut *self.buffer;
+        let word = decoding::word_at(buffer, at);
+        self.at += 4;
+        Some(word)
+    }
+
+    // Reads as many words as the slice has.
+    pub fn fill(&mut self, words: &mut [u32]) -> Option<()>
+        ensures ended { IfSome result (λ _. 0 < length words.new → Before (get_or words.new (length words.new - 1) 0) self.new) }
+        ensures taken { Enough (length words.old) self.old → IsSome result × Taken self.old self.new words.new }
+        ensures capacity { length self.new.bytes ≡ length self.old.bytes }
+    {
+        for i in 0..words.len() {
+            words[i] = self.next()?;
+        }
+        Some(())
+    }
+
+    // Reads a count, and as many words to the start of the slice.
+    pub fn counted(&mut self, words: &mut [u32]) -> Option<usize>
+        ensures within { IfSome result (λ n. (n ≤ length words.new) × (drop n words.new ≡ drop n words.old)) }
+        ensures counted { Left self.old → Counted self.old words.old result self.new words.new }
+        ensures capacity { length self.new.bytes ≡ length self.old.bytes }
+    {
+        let n = self.next()? as usize;
+        if words.len() < n {
+            return None;
+        }
+        self.fill(&mut words[..n])?;
+        Some(n)
+    }
 }
 
 // Reads until the buffer is full, the input ends or a read fails; answers how many bytes it put to the buffer's start.
@@ -55,66 +113,4 @@ pub fn read_full<R: Read>(reader: &mut R, buffer: &mut [u8]) -> usize
         }
     }
     done
-}
-
-// The next word. The buffer is filled anew when it holds no whole word more, so its length is to be a multiple of 4.
-pub fn next<R: Read>(reader: &mut R, buffer: &mut [u8], input: Input) -> Word
-    ensures reached { Reached result buffer.new }
-    ensures value { Left input buffer.old → (result ≡ Word.Read (word_at buffer.old input.at) (record { at = input.at + 4; end = input.end }))
-        × (buffer.new ≡ buffer.old) }
-    ensures anew { (Left input buffer.old → ⊥) → Anew result }
-{
-    let at = input.at;
-    let end = input.end;
-    if end <= buffer.len() && at <= end && 4 <= end - at {
-        return Word::Read(decoding::word_at(buffer, at), Input { at: at + 4, end });
-    }
-    let n = read_full(reader, buffer);
-    if n < 4 {
-        return Word::End;
-    }
-    Word::Read(decoding::word_at(buffer, 0), Input { at: 4, end: n })
-}
-
-// Reads as many words as the slice has.
-pub fn fill<R: Read>(reader: &mut R, buffer: &mut [u8], input: Input, words: &mut [u32]) -> Filled
-    ensures ended { Ended result words.new buffer.new }
-    ensures taken { Enough (length words.old) input buffer.old → Taken input buffer.old result buffer.new words.new }
-{
-    let mut rest = input;
-    let mut i = 0;
-    while i < words.len() {
-        let Word::Read(x, after) = next(reader, buffer, rest) else {
-            return Filled::CutShort;
-        };
-        words[i] = x;
-        rest = after;
-        i += 1;
-    }
-    Filled::Full(rest)
-}
-
-// Reads a count, and as many words to the start of the slice.
-pub fn counted<R: Read>(reader: &mut R, buffer: &mut [u8], input: Input, words: &mut [u32]) -> Words
-    ensures within { Within result words.old words.new }
-    ensures counted { Left input buffer.old → Counted input buffer.old words.old result buffer.new words.new }
-{
-    let Word::Read(count, after) = next(reader, buffer, input) else {
-        return Words::CutShort;
-    };
-    let n = count as usize;
-    if words.len() < n {
-        return Words::CutShort;
-    }
-    let Filled::Full(rest) = fill(reader, buffer, after, &mut words[..n]) else {
-        return Words::CutShort;
-    };
-    Words::First(n, rest)
-}
-
-// A word as a count of elements. The cast asks for a bound: a parameter has one by its type, an element of a lent array has none.
-pub fn size(x: u32) -> usize
-    ensures { result ≡ x }
-{
-    x as usize
 }

@@ -1,14 +1,10 @@
--- The words put so far and those that are left are all, and the words behind them stay.
-use Rattle.std.proofs.Common.{◌-◌, ◌≡◌, ◌≤◌, drop}
-use Rattle.decoding.proofs.DecodeLaws.{Decoded}
+-- The words put so far are the first, and those behind the last stay.
+use Rattle.std.proofs.Common.{◌≡◌, take, drop}
+use Rattle.decoding.specs.Words.{words_from}
 use Rattle.decoding.proofs.decode.Given as goal
 
 abbrev pub invariant-loop-i : goal.invariant-loop-i
 invariant-loop-i l = record {
-  within : l.i ≤ l.n;
-  decoded : Decoded l.bytes l.n l.i l.words;
+  decoded : take l.i l.words ≡ words_from l.bytes 0 l.i;
   others : drop l.n l.words ≡ drop l.n l.initial.words;
 }
-
-abbrev pub decreases-loop-i : goal.decreases-loop-i
-decreases-loop-i l = l.n - l.i

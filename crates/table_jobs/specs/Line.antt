@@ -1,7 +1,7 @@
 -- What the line of a job says.
 use Rattle.std.specs.Prelude.{List, ℕ, zero, suc}
 use Rattle.tables.specs.Read.{read_table}
-use Rattle.tables.specs.Solve.{reading, trial, placing, try_input, try_systems}
+use Rattle.tables.specs.Solve.{checked, answered, try_input, try_systems}
 use Rattle.numbers.specs.declared.Line.{Line}
 use Rattle.numbers.specs.Line.{reading_line, trial_line, place_line}
 use Rattle.table_jobs.specs.declared.Kind.{Kind}
@@ -15,6 +15,6 @@ kind_of (suc (suc k)) = Placing
 
 -- The table w is read, or the point x is tried against it, or against the list w.
 abbrev pub line : Kind → List ℕ → List ℕ → Line
-line Reading w x = reading_line (reading (read_table w)).outcome
-line Trial w x = trial_line (trial (try_input w x)).outcome
-line Placing w x = place_line (placing (try_systems w x)).outcome
+line Reading w x = reading_line (checked (read_table w))
+line Trial w x = trial_line (answered (try_input w x))
+line Placing w x = place_line (answered (try_systems w x))

@@ -25,7 +25,7 @@ fn outcome_number(answer: Answer) -> u32
     let outcome = answer.outcome;
     match outcome {
         Outcome::Systems(_) => 0,
-        Outcome::Refused(why, _) => numbers::number(why),
+        Outcome::Refused(why, _) => u32::from(why),
     }
 }
 

@@ -108,7 +108,7 @@ fn head_of(answer: Answer, count: u32) -> Heading
             nonzero: count,
         },
         Outcome::Refused(why, record) => Heading {
-            outcome: numbers::number(why),
+            outcome: u32::from(why),
             steps: answer.steps,
             value: record,
             nonzero: count,

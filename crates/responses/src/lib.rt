@@ -33,7 +33,7 @@ fn put_answer(text: &mut [u8], answer: Answer, output: &[u32]) -> usize
     let outcome = answer.outcome;
     match outcome {
         Outcome::Refused(why, record) => {
-            let first = [numbers::number(why), answer.steps, record];
+            let first = [u32::from(why), answer.steps, record];
             text::put_line(text, 0, &first)
         }
         Outcome::Systems(count) => {

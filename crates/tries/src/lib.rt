@@ -23,13 +23,9 @@ pub struct Tried {
 fn try_both(table: &[u32], systems: &[u32], numbers: &[u32]) -> Tried
     ensures { result ≡ tried table.now systems.now numbers.now }
 {
-    let trial = points::try_table(table, numbers);
-    let first = trial.outcome;
-    let placing = lists::try_list(systems, numbers);
-    let second = placing.outcome;
     Tried {
-        trial: numbers::trial_line(first),
-        place: numbers::place_line(second),
+        trial: Line::from(points::try_table(table, numbers)),
+        place: Line::from(lists::try_list(systems, numbers)),
     }
 }
 

@@ -5,7 +5,7 @@ use Rattle.responses.proofs.put_answer.Goals as goal
 pub returns-in-Refused : goal.returns-in-Refused
 returns-in-Refused c =
     let e = c.put_line.ensures in
-    (omega (arith, e.near), said_refused c.args.answer.steps c.in-Refused.record c.args.output.now c.in-Refused.is c.number.ensures e.is)
+    (omega (arith, e.near), said_refused c.args.answer.steps c.in-Refused.record c.args.output.now c.in-Refused.is c.from.ensures e.is)
 
 pub returns-in-Systems : goal.returns-in-Systems
 returns-in-Systems c =

@@ -2,7 +2,6 @@
 use Rattle.std.specs.Prelude.{◌≡◌, Bool, true, false, not, List, ℕ, Ok, Err}
 use Rattle.std.specs.Bool.{Decides}
 use Rattle.std.proofs.lemmas.Bool.Decides.{same_from_decides}
-use Rattle.tables.specs.Solved.{PointOf}
 use Rattle.std.proofs.Common.{sym}
 use Rattle.polynomials.specs.Poly.{Poly}
 use Rattle.polynomials.specs.Value.{Point}
@@ -11,6 +10,7 @@ use Rattle.tables.specs.declared.Refusal.{Refusal}
 use Rattle.tables.specs.Words.{word}
 use Rattle.tables.specs.Read.{Input, good, unless, read_table}
 use Rattle.tables.specs.Solve.{is_point, all_zero, none_zero, solves, refusal, checked, try_input, Tries}
+use Rattle.tables.specs.Solved.{PointOf}
 use Rattle.tables.specs.laws.Chains.{checked_refused}
 use Rattle.tables.specs.laws.Accepted.{TableRead, table_read}
 use Rattle.tables.specs.laws.Solved.{point_is}
@@ -21,6 +21,9 @@ use Rattle.evaluation.specs.Walks.{ArePolynomialsFrom}
 -- ── a point ──
 pub point_decided : (p n : ℕ) (x : List ℕ) (b : Bool) → Decides b (PointOf p n x) → b ≡ is_point p n x
 point_decided p n x b h = same_from_decides b (is_point p n x) h (point_is p n x)
+
+pub point_residues : (p n : ℕ) (x : List ℕ) → true ≡ is_point p n x → Point p x
+point_residues p n x e = ((point_is p n x).0 (sym e)).1
 
 -- ── a table ──
 module _ (w x : List ℕ) where
@@ -48,7 +51,8 @@ module _ {w : List ℕ} {t : Table} (of : TableOf w t) {i : Input} (is_read : re
     no_point e = rw (answer, ← e)
 
     -- The point is one. `first` and `second` are the indices of the two chains, a and b what they answer.
-    module _ (is_one : true ≡ is_point t.modulus t.variables x) {first : ℕ} (P : first ≡ word t.words.now 0 2) {a : Bool} (a_is : (fs : List Poly) → ArePolynomialsFrom t 0 first fs → a ≡ all_zero t.modulus x fs) where
+    module _ (is_one : true ≡ is_point t.modulus t.variables x) {first : ℕ} (P : first ≡ word t.words.now 0 2) {a : Bool}
+        (a_is : (fs : List Poly) → ArePolynomialsFrom t 0 first fs → a ≡ all_zero t.modulus x fs) where
       pub some_nonzero : a ≡ false → Tries w x (Ok a)
       unfolding solves
       some_nonzero h = rw (answer, ← is_one, ← a_is i.P (rw P zeros), h)
@@ -57,6 +61,3 @@ module _ {w : List ℕ} {t : Table} (of : TableOf w t) {i : Input} (is_read : re
           → Tries w x (Ok b)
       unfolding solves
       all_zeros h Q b_is = rw (answer, ← is_one, ← a_is i.P (rw P zeros), h, ← b_is i.Q (rw Q nonzeros))
-
-pub point_residues : (p n : ℕ) (x : List ℕ) → true ≡ is_point p n x → Point p x
-point_residues p n x e = ((point_is p n x).0 (sym e)).1

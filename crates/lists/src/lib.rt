@@ -17,7 +17,7 @@ use words::Table;
 #[tactic(auto, using(crate::proofs::ListLaws::solved), unfolding(tables::specs::Solve::solves))]
 fn is_solved(table: Table<'_>, i: usize, point: &[u32]) -> bool
     requires record { i < records table.words.now }
-    requires read { (s : System) × (IsSystemAt table i s) }
+    requires read { (s : System) × IsSystemAt table i s }
     requires point { Point table.modulus point.now }
     ensures { (s : System) → IsSystemAt table.entry i s → result ≡ solves table.entry.modulus point.now s.T s.U }
 {
@@ -26,7 +26,7 @@ fn is_solved(table: Table<'_>, i: usize, point: &[u32]) -> bool
 
 // The place of the first system that the point solves, from 1; 0 for none.
 fn first_solved(table: Table<'_>, point: &[u32]) -> u32
-    requires read { (ss : List System) × (AreSystemsOf table ss) }
+    requires read { (ss : List System) × AreSystemsOf table ss }
     requires point { Point table.modulus point.now }
     ensures { (ss : List System) → AreSystemsOf table.entry ss → result ≡ first_solved table.entry.modulus point.now 1 ss }
 {

@@ -16,7 +16,8 @@ use words::Table;
 // The leading variable of the polynomial with its head in record `head`: that of its first term.
 #[tactic(auto, using(crate::proofs::SystemLaws::leading))]
 fn leader_at(table: Table<'_>, head: usize) -> u32
-    requires { (head < records table.words.now) × ((f : Poly) × (read_head table.words.now table.modulus table.variables head ≡ good f)) }
+    requires record { head < records table.words.now }
+    requires read { (f : Poly) × (read_head table.words.now table.modulus table.variables head ≡ good f) }
     ensures { (f : Poly) → read_head table.entry.words.now table.entry.modulus table.entry.variables head ≡ good f → result ≡ leader f }
 {
     let first = words::index(table.words, head, 0);

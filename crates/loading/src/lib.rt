@@ -95,6 +95,7 @@ fn put_heads(table: Table<'_>, first: u32, target: Target, work: &mut [u32], r: 
 }
 
 // The first branch of an accepted table, whatever the words of the work area were; whether there is room. r is scratch.
+#[tactic(auto, using(words::proofs::Laws::first_record))]
 pub fn start(table: Table<'_>, work: &mut [u32], r: &mut [u64]) -> bool
     requires header { TableOf table.words.now table }
     requires accepted { (t : Input) × (read_table table.words.now ≡ good t) }

@@ -1,7 +1,6 @@
 -- An empty branch, then P's chain, then Q's. All is said in the room that there was at entry.
 use Rattle.std.proofs.Common.{◌∙◌, arith}
 use Rattle.records.specs.Records.{view}
-use Rattle.tables.specs.laws.Accepted.{some_record}
 use Rattle.branches.specs.Area.{capacity}
 use Rattle.branches.proofs.LengthLaws.{same_capacity}
 use Rattle.loading.proofs.StartLaws.{chains_read, no_polynomial, alone_empty, alone_in, filled_in, with_zeros, zeros_put, start_none, start_fails, start_put}
@@ -10,12 +9,6 @@ use Rattle.loading.proofs.start.Goals as goal
 pub returns-then-work-lt8-clause-started : goal.returns-then-work-lt8-clause-started
 returns-then-work-lt8-clause-started c t e =
     let w = c.args.work.now in let few = c.if-work-lt8.true in start_none t (capacity w) (view w) (omega arith)
-
-pub word-requires : goal.word-requires
-word-requires c = (some_record c.args.table.readable, omega arith)
-
-pub word-requires-then-put_heads : goal.word-requires-then-put_heads
-word-requires-then-put_heads c = (some_record c.args.table.readable, omega arith)
 
 pub put_heads-requires-clause-are_read : goal.put_heads-requires-clause-are_read
 put_heads-requires-clause-are_read c =

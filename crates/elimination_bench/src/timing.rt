@@ -1,7 +1,24 @@
 // The processor time of repeated calls.
 ghost use Rattle.std.specs.Prelude.{◌<◌};
 
+use elimination::Answer;
 use std::time::CpuClock;
+
+// A call of `eliminate`, to be made again and again.
+#[derive(Drop)]
+pub struct Call<'a> {
+    pub table: &'a [u32],
+    pub work: &'a mut [u32],
+    pub output: &'a mut [u32],
+    pub limit: u32,
+}
+
+impl Call<'_> {
+    pub fn eliminate(&mut self) -> Answer {
+        let limit = self.limit;
+        elimination::eliminate(self.table, self.work, self.output, limit)
+    }
+}
 
 // Nanoseconds of a call.
 #[derive(Clone, Copy)]
@@ -24,35 +41,25 @@ fn now<C: CpuClock>(clock: &C) -> u64
     0
 }
 
-// The microseconds of so many runs.
-fn batch<C: CpuClock, F: FnMut()>(clock: &C, runs: u32, mut run: F) -> u64
-    requires { F.IsAlwaysCallable run }
+// The microseconds of so many calls.
+fn batch<C: CpuClock>(clock: &C, call: &mut Call<'_>, calls: u32) -> u64
     ensures { result < 35184372088832 }
 {
     let before = now(clock);
-    for _ in 0..runs {
-        run();
+    for _ in 0..calls {
+        call.eliminate();
     }
     now(clock).saturating_sub(before)
 }
 
-// Times so many calls of `eliminate`, in at most 16 batches of as many calls each.
-pub fn measure<C: CpuClock>(
-    clock: &C,
-    table: &[u32],
-    work: &mut [u32],
-    output: &mut [u32],
-    limit: u32,
-    repetitions: u32,
-) -> Timing {
+// Times so many calls, in batches of as many calls each: at most 16 batches, and none without a call.
+pub fn measure<C: CpuClock>(clock: &C, call: &mut Call<'_>, repetitions: u32) -> Timing {
     let batches = repetitions.clamp(1, 16);
     let calls = (repetitions / batches).max(1);
     let mut best: u64 = 35184372088832;
     let mut total: u64 = 0;
-    for _batch in 0..batches {
-        let time = batch(clock, calls, || {
-            elimination::eliminate(table, work, output, limit);
-        });
+    for _ in 0..batches {
+        let time = batch(clock, call, calls);
         best = best.min(time);
         total += time;
     }

@@ -2,8 +2,8 @@
 use Rattle.std.proofs.Common.{◌*◌, ◌≤◌}
 use Rattle.elimination_bench.proofs.timing.measure.Given as goal
 
-abbrev pub invariant-loop-batch : goal.invariant-loop-batch
-invariant-loop-batch g l = record {
+abbrev pub invariant-loop : goal.invariant-loop
+invariant-loop g l = record {
   best : l.best ≤ 35184372088832;
-  total : l.total ≤ 35184372088832 * l._batch;
+  total : l.total ≤ 35184372088832 * l.counter;
 }

@@ -6,17 +6,17 @@
 
 mod timing;
 
-ghost use Rattle.std.specs.Prelude.{◌≡◌, ◌≤◌, length, IfOk};
+ghost use Rattle.std.specs.Prelude.{◌≡◌, ◌≤◌, length, IfSome};
 ghost use Rattle.elimination.specs.Numbers.{outcome_numbers};
-ghost use Rattle.lines.specs.Text.{Ends};
+ghost use Rattle.lines.specs.Written.{capacity};
 
 use elimination::{Answer, Outcome};
-use input::{Filled, Input, Words};
-use lines::{Turn, text};
+use input::Words;
+use lines::Text;
 use std::io;
 use std::io::{Read, Write};
 use std::time::CpuClock;
-use timing::Timing;
+use timing::{Call, Timing};
 
 // 0 or the refusal's number.
 fn outcome_number(answer: Answer) -> u32
@@ -32,141 +32,95 @@ fn outcome_number(answer: Answer) -> u32
 // Adds a line to the text.
 fn print<W: Write>(
     out: &mut W,
-    text: &mut [u8],
-    end: usize,
+    text: &mut Text<'_>,
     timing: Timing,
     answer: Answer,
-) -> io::Result<usize>
-    requires { (end ≤ length text.old) × (128 ≤ length text.old) }
-    ensures { IfOk result (λ last. last ≤ length text.new) }
+) -> io::Result<()>
+    requires { 128 ≤ capacity text.old }
+    ensures { capacity text.new ≡ capacity text.old }
 {
-    let mut last = text::room(out, text, end)?;
-    last = text::put_number(text, last, timing.best);
-    last = text::put_byte(text, last, b' ');
-    last = text::put_number(text, last, timing.mean);
-    last = text::put_byte(text, last, b' ');
-    let numbers = [answer.steps, outcome_number(answer)];
-    text::print_line(out, text, last, &numbers)
+    text.room(out)?;
+    text.put_number(timing.best);
+    text.put_byte(b' ');
+    text.put_number(timing.mean);
+    text.put_byte(b' ');
+    text.print_line(out, &[answer.steps, outcome_number(answer)])
 }
 
-// Answers a job.
-fn answer<C: CpuClock, W: Write>(
-    clock: &C,
-    out: &mut W,
-    table: &[u32],
-    work: &mut [u32],
-    output: &mut [u32],
+// What a job asks: the limit, the repetitions, and how many words the table, the work area and the output have.
+#[derive(Clone, Copy)]
+struct Shape {
     limit: u32,
     repetitions: u32,
-    text: &mut [u8],
-    end: usize,
-) -> io::Result<usize>
-    requires { (end ≤ length text.old) × (128 ≤ length text.old) }
-    ensures { IfOk result (λ last. last ≤ length text.new) }
-{
-    let timing = timing::measure(clock, table, work, output, limit, repetitions);
-    let answer = elimination::eliminate(table, work, output, limit);
-    print(out, text, end, timing, answer)
+    table: usize,
+    work: usize,
+    output: usize,
 }
 
-// Runs the next job.
-fn run_job<C: CpuClock, R: Read, W: Write>(
-    clock: &C,
-    reader: &mut R,
-    out: &mut W,
-    bytes: &mut [u8],
-    from: Input,
-    table: &mut [u32],
-    work: &mut [u32],
-    output: &mut [u32],
-    text: &mut [u8],
-    end: usize,
-) -> io::Result<Turn>
-    requires { (end ≤ length text.old) × (128 ≤ length text.old) }
-    ensures { IfOk result (λ turn. Ends turn text.new) }
+// Reads the next job, its table to the start of the slice.
+fn read<R: Read>(words: &mut Words<'_, R>, table: &mut [u32]) -> Option<Shape>
+    ensures { IfSome result (λ shape. shape.table ≤ length table.new) }
 {
-    let mut head = [0u32; 4];
-    let Filled::Full(behind) = input::fill(reader, bytes, from, &mut head) else {
-        return Ok(Turn::End(end));
-    };
-    let Words::First(n, rest) = input::counted(reader, bytes, behind, table) else {
-        return Ok(Turn::End(end));
-    };
-    let w = input::size(head[1]);
-    let o = input::size(head[2]);
-    if work.len() < w {
-        return Ok(Turn::End(end));
-    }
-    if output.len() < o {
-        return Ok(Turn::End(end));
-    }
-    let last = answer(
-        clock,
-        out,
-        &table[..n],
-        &mut work[..w],
-        &mut output[..o],
-        head[0],
-        head[3],
-        text,
-        end,
-    )?;
-    Ok(Turn::Next(rest, last))
+    let limit = words.next()?;
+    let work = words.next()? as usize;
+    let output = words.next()? as usize;
+    let repetitions = words.next()?;
+    let table = words.counted(table)?;
+    Some(Shape {
+        limit,
+        repetitions,
+        table,
+        work,
+        output,
+    })
 }
 
-// Runs all jobs; answers where the text that is not yet written ends. A proved loop has to end, and nothing says that the input does: the
-// turns are counted down from a number that no run uses up.
+// Runs all jobs, and writes their lines. A proved loop has to end, and nothing says that the input does: no run uses up so many turns.
 fn run_jobs<C: CpuClock, R: Read, W: Write>(
     clock: &C,
-    reader: &mut R,
+    words: &mut Words<'_, R>,
     out: &mut W,
-    bytes: &mut [u8],
     table: &mut [u32],
     work: &mut [u32],
     output: &mut [u32],
-    text: &mut [u8],
-) -> io::Result<usize>
-    requires { 128 ≤ length text.old }
-    ensures { IfOk result (λ last. last ≤ length text.new) }
+    text: &mut Text<'_>,
+) -> io::Result<()>
+    requires { 128 ≤ capacity text.old }
 {
-    let mut rest = input::begin();
-    let mut end = 0;
-    let mut turns = u64::MAX;
-    while turns > 0 {
-        match run_job(
-            clock, reader, out, bytes, rest, table, work, output, text, end,
-        )? {
-            Turn::End(last) => {
-                return Ok(last);
-            }
-            Turn::Next(after, last) => {
-                rest = after;
-                end = last;
-            }
+    for _ in 0..u64::MAX {
+        let Some(shape) = read(words, table) else {
+            break;
+        };
+        if work.len() < shape.work || output.len() < shape.output {
+            break;
         }
-        turns -= 1;
+        let mut call = Call {
+            table: &table[..shape.table],
+            work: &mut work[..shape.work],
+            output: &mut output[..shape.output],
+            limit: shape.limit,
+        };
+        let timing = timing::measure(clock, &mut call, shape.repetitions);
+        let answer = call.eliminate();
+        print(out, text, timing, answer)?;
     }
-    Ok(end)
+    text.write(out)
 }
 
 // The table's buffer has room for one record more than a table may have, the other two for 64 more.
 fn main(rt: HostRuntime) -> io::Result<()> {
-    let mut reader = rt.stdin();
-    let mut out = rt.stdout();
     let mut bytes = [0u8; 65536];
     let mut text = [0u8; 65536];
     let mut table = [0u32; 262148];
     let mut work = [0u32; 262400];
     let mut output = [0u32; 262400];
-    let end = run_jobs(
+    run_jobs(
         &rt,
-        &mut reader,
-        &mut out,
-        &mut bytes,
+        &mut Words::new(rt.stdin(), &mut bytes),
+        &mut rt.stdout(),
         &mut table,
         &mut work,
         &mut output,
-        &mut text,
-    )?;
-    text::write(&mut out, &text, end)
+        &mut Text::new(&mut text),
+    )
 }

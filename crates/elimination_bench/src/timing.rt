@@ -1,7 +1,24 @@
 // The processor time of repeated calls.
-ghost use Rattle.std.specs.Prelude.{◌≡◌, ◌<◌, min, max};
+ghost use Rattle.std.specs.Prelude.{◌<◌};
 
+use elimination::Answer;
 use std::time::CpuClock;
+
+// A call of `eliminate`, to be made again and again.
+#[derive(Drop)]
+pub struct Call<'a> {
+    pub table: &'a [u32],
+    pub work: &'a mut [u32],
+    pub output: &'a mut [u32],
+    pub limit: u32,
+}
+
+impl Call<'_> {
+    pub fn eliminate(&mut self) -> Answer {
+        let limit = self.limit;
+        elimination::eliminate(self.table, self.work, self.output, limit)
+    }
+}
 
 // Nanoseconds of a call.
 #[derive(Clone, Copy)]
@@ -25,82 +42,29 @@ fn now<C: CpuClock>(clock: &C) -> u64
 }
 
 // The microseconds of so many calls.
-fn batch<C: CpuClock>(
-    clock: &C,
-    table: &[u32],
-    work: &mut [u32],
-    output: &mut [u32],
-    limit: u32,
-    calls: u32,
-) -> u64
+fn batch<C: CpuClock>(clock: &C, call: &mut Call<'_>, calls: u32) -> u64
     ensures { result < 35184372088832 }
 {
     let before = now(clock);
-    let mut left = calls;
-    while 0 < left {
-        elimination::eliminate(table, work, output, limit);
-        left -= 1;
+    for _ in 0..calls {
+        call.eliminate();
     }
-    let after = now(clock);
-    if after < before {
-        return 0;
-    }
-    after - before
+    now(clock).saturating_sub(before)
 }
 
-// At most 16 batches, and none without a call.
-fn batches_of(repetitions: u32) -> u32
-    ensures { result ≡ min (max repetitions 1) 16 }
-{
-    if repetitions < 1 {
-        return 1;
-    }
-    if 16 < repetitions {
-        return 16;
-    }
-    repetitions
-}
-
-fn at_least_one(n: u32) -> u32
-    ensures { result ≡ max n 1 }
-{
-    if n < 1 {
-        return 1;
-    }
-    n
-}
-
-fn least(a: u64, b: u64) -> u64
-    ensures { result ≡ min a b }
-{
-    if a < b {
-        return a;
-    }
-    b
-}
-
-// Times so many calls of `eliminate`, in batches of as many calls each.
-pub fn measure<C: CpuClock>(
-    clock: &C,
-    table: &[u32],
-    work: &mut [u32],
-    output: &mut [u32],
-    limit: u32,
-    repetitions: u32,
-) -> Timing {
-    let batches = batches_of(repetitions);
-    let calls = at_least_one(repetitions / batches);
+// Times so many calls, in batches of as many calls each: at most 16 batches, and none without a call.
+pub fn measure<C: CpuClock>(clock: &C, call: &mut Call<'_>, repetitions: u32) -> Timing {
+    let batches = repetitions.clamp(1, 16);
+    let calls = (repetitions / batches).max(1);
     let mut best: u64 = 35184372088832;
     let mut total: u64 = 0;
-    let mut left = batches;
-    while 0 < left {
-        let time = batch(clock, table, work, output, limit, calls);
-        best = least(best, time);
+    for _ in 0..batches {
+        let time = batch(clock, call, calls);
+        best = best.min(time);
         total += time;
-        left -= 1;
     }
     Timing {
-        best: 1000 * best / (calls as u64),
-        mean: 1000 * total / (calls as u64) / (batches as u64),
+        best: 1000 * best / u64::from(calls),
+        mean: 1000 * total / u64::from(calls) / u64::from(batches),
     }
 }

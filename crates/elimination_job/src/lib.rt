@@ -1,17 +1,14 @@
 // A job of `elimination_jobs`: its shape, read from the input; its run; its first line.
 #![tactic(auto)]
 
-ghost use Rattle.std.specs.Prelude.{◌≡◌, [], ◌∷◌, ◌+◌, ◌≤◌, min, length, replicate, IfOk, IsOkAnd};
+ghost use Rattle.std.specs.Prelude.{◌≡◌, [], ◌∷◌, ◌≤◌, length, replicate, IfSome};
 ghost use Rattle.rules.specs.Eliminate.{eliminated, output_after};
 ghost use Rattle.delivery.specs.Answer.{answer_of};
-ghost use Rattle.lines.specs.Text.{LineAdded};
-ghost use Rattle.elimination_job.specs.Heading.{heading_of, nonzero, Shaped};
+ghost use Rattle.elimination_job.specs.Heading.{heading_of, nonzero};
 
 use elimination::{Answer, Outcome};
-use input::{Filled, Input, Word, Words};
-use lines::text;
-use std::io;
-use std::io::{Read, Write};
+use input::Words;
+use std::io::Read;
 
 // What a job asks: words of the table, of the work area and of the output; what the latter two hold before; the words that the list is read
 // from; the number of points.
@@ -26,12 +23,6 @@ pub struct Shape {
     pub points: u32,
 }
 
-#[derive(Clone, Copy)]
-pub enum Job {
-    Next(Shape, Input),
-    End,
-}
-
 // The first line of a job.
 #[derive(Clone, Copy)]
 pub struct Heading {
@@ -41,58 +32,42 @@ pub struct Heading {
     pub nonzero: u32,
 }
 
-// Reads the next job up to its points, its table to the start of the slice.
-pub fn read<R: Read>(reader: &mut R, bytes: &mut [u8], from: Input, table: &mut [u32]) -> Job
-    ensures { Shaped result table.new }
-{
-    let mut head = [0u32; 5];
-    let Filled::Full(behind) = input::fill(reader, bytes, from, &mut head) else {
-        return Job::End;
-    };
-    let Words::First(n, after) = input::counted(reader, bytes, behind, table) else {
-        return Job::End;
-    };
-    let Word::Read(points, rest) = input::next(reader, bytes, after) else {
-        return Job::End;
-    };
-    Job::Next(
-        Shape {
-            limit: head[0],
-            table: n,
-            work: input::size(head[1]),
-            output: input::size(head[2]),
-            filling: head[3],
-            list: input::size(head[4]),
-            points,
-        },
-        rest,
-    )
+impl Heading {
+    // The numbers of the line, in their order.
+    pub fn numbers(self) -> [u32; 4]
+        ensures { result ≡ self.outcome ∷ self.steps ∷ self.value ∷ self.nonzero ∷ [] }
+    {
+        [self.outcome, self.steps, self.value, self.nonzero]
+    }
 }
 
-// Puts x into every word.
-fn fill(words: &mut [u32], x: u32)
-    ensures { words.new ≡ replicate (length words.old) x }
+// Reads the next job up to its points, its table to the start of the slice.
+pub fn read<R: Read>(words: &mut Words<'_, R>, table: &mut [u32]) -> Option<Shape>
+    ensures { IfSome result (λ shape. shape.table ≤ length table.new) }
 {
-    let mut i = 0;
-    while i < words.len() {
-        words[i] = x;
-        i += 1;
-    }
+    let limit = words.next()?;
+    let work = words.next()? as usize;
+    let output = words.next()? as usize;
+    let filling = words.next()?;
+    let list = words.next()? as usize;
+    let table = words.counted(table)?;
+    let points = words.next()?;
+    Some(Shape {
+        limit,
+        table,
+        work,
+        output,
+        filling,
+        list,
+        points,
+    })
 }
 
 // How many words are not zero.
 fn count_nonzero(words: &[u32]) -> usize
     ensures { (result ≡ nonzero words.now) × (result ≤ length words.now) }
 {
-    let mut count = 0;
-    let mut i = words.len();
-    while 0 < i {
-        i -= 1;
-        if words[i] != 0 {
-            count += 1;
-        }
-    }
-    count
+    words.iter().filter(|x| **x != 0).count()
 }
 
 // The first line, by an answer and the count of words of the work area that are not zero.
@@ -124,37 +99,8 @@ pub fn run(table: &[u32], work: &mut [u32], output: &mut [u32], limit: u32, fill
         (replicate (length output.old) filling) }
     ensures work_cleared { work.new ≡ replicate (length work.old) 0 }
 {
-    fill(work, filling);
-    fill(output, filling);
+    work.fill(filling);
+    output.fill(filling);
     let answer = elimination::eliminate(table, work, output, limit);
     head_of(answer, count_nonzero(work) as u32)
-}
-
-// Adds the first line to the text.
-pub fn print<W: Write>(
-    out: &mut W,
-    text: &mut [u8],
-    end: usize,
-    heading: Heading,
-) -> io::Result<usize>
-    requires { (end ≤ length text.old) × (128 ≤ length text.old) }
-    ensures upper_bound { IfOk result (λ last. last ≤ length text.new) }
-    ensures line_added { end + 212 ≤ length text.old
-        → IsOkAnd result (λ last. LineAdded (heading.outcome ∷ heading.steps ∷ heading.value ∷ heading.nonzero ∷ []) end text.old last text.new) }
-{
-    let numbers = [
-        heading.outcome,
-        heading.steps,
-        heading.value,
-        heading.nonzero,
-    ];
-    text::print_line(out, text, end, &numbers)
-}
-
-// The lesser of two lengths.
-pub fn shorter(a: usize, b: usize) -> usize
-    ensures value { result ≡ min a b }
-    ensures upper_bound { result ≤ b }
-{
-    if a < b { a } else { b }
 }

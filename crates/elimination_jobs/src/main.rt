@@ -7,138 +7,79 @@
 // The run ends with the input, or at a job that is cut short or too long for the buffers; what it printed before stays.
 #![tactic(auto)]
 
-ghost use Rattle.std.specs.Prelude.{◌≤◌, length, IfOk};
-ghost use Rattle.lines.specs.Text.{Ends};
+ghost use Rattle.std.specs.Prelude.{◌≡◌, ◌≤◌, length};
+ghost use Rattle.lines.specs.Written.{capacity};
 
-use elimination_job::{Job, Shape};
-use input::Input;
-use lines::{Turn, text};
+use input::Words;
+use lines::Text;
 use std::io;
 use std::io::{Read, Write};
 
-// Answers a job: its first line, the line of the output, and a line for each point.
-fn answer<R: Read, W: Write>(
-    reader: &mut R,
-    out: &mut W,
-    bytes: &mut [u8],
-    from: Input,
-    table: &[u32],
-    work: &mut [u32],
-    output: &mut [u32],
-    shape: Shape,
-    text: &mut [u8],
-    end: usize,
-) -> io::Result<Turn>
-    requires { (length work.old ≤ 262400) × (end ≤ length text.old) × (128 ≤ length text.old) }
-    ensures { IfOk result (λ turn. Ends turn text.new) }
-{
-    let heading = elimination_job::run(table, work, output, shape.limit, shape.filling);
-    let first = elimination_job::print(out, text, end, heading)?;
-    let second = text::print_line(out, text, first, output)?;
-    let m = elimination_job::shorter(shape.list, output.len());
-    tries::run_all(
-        reader,
-        out,
-        bytes,
-        from,
-        table,
-        &output[..m],
-        shape.points,
-        text,
-        second,
-    )
-}
-
-// Runs the next job.
+// Runs the next job, and adds its first line, the line of the output, and a line for each point; answers whether the input has it whole.
 fn run_job<R: Read, W: Write>(
-    reader: &mut R,
+    words: &mut Words<'_, R>,
     out: &mut W,
-    bytes: &mut [u8],
-    from: Input,
     table: &mut [u32],
     work: &mut [u32],
     output: &mut [u32],
-    text: &mut [u8],
-    end: usize,
-) -> io::Result<Turn>
-    requires { (length work.old ≤ 262400) × (end ≤ length text.old) × (128 ≤ length text.old) }
-    ensures { IfOk result (λ turn. Ends turn text.new) }
+    text: &mut Text<'_>,
+) -> io::Result<bool>
+    requires { (length work.old ≤ 262400) × (128 ≤ capacity text.old) }
+    ensures { capacity text.new ≡ capacity text.old }
 {
-    let Job::Next(shape, rest) = elimination_job::read(reader, bytes, from, table) else {
-        return Ok(Turn::End(end));
+    let Some(shape) = elimination_job::read(words, table) else {
+        return Ok(false);
     };
-    let n = shape.table;
-    let w = shape.work;
-    let o = shape.output;
-    if work.len() < w {
-        return Ok(Turn::End(end));
+    if work.len() < shape.work || output.len() < shape.output {
+        return Ok(false);
     }
-    if output.len() < o {
-        return Ok(Turn::End(end));
-    }
-    answer(
-        reader,
-        out,
-        bytes,
-        rest,
-        &table[..n],
-        &mut work[..w],
-        &mut output[..o],
-        shape,
-        text,
-        end,
-    )
+    let table = &table[..shape.table];
+    let output = &mut output[..shape.output];
+    let heading = elimination_job::run(
+        table,
+        &mut work[..shape.work],
+        output,
+        shape.limit,
+        shape.filling,
+    );
+    text.print_line(out, &heading.numbers())?;
+    text.print_line(out, output)?;
+    let list = &output[..shape.list.min(output.len())];
+    tries::run_all(words, out, table, list, shape.points, text)
 }
 
-// Runs all jobs; answers where the text that is not yet written ends. A proved loop has to end, and nothing says that the input does: the
-// turns are counted down from a number that no run uses up.
+// Runs all jobs, and writes their lines. A proved loop has to end, and nothing says that the input does: no run uses up so many turns.
 fn run_jobs<R: Read, W: Write>(
-    reader: &mut R,
+    words: &mut Words<'_, R>,
     out: &mut W,
-    bytes: &mut [u8],
     table: &mut [u32],
     work: &mut [u32],
     output: &mut [u32],
-    text: &mut [u8],
-) -> io::Result<usize>
-    requires { (length work.old ≤ 262400) × (128 ≤ length text.old) }
-    ensures { IfOk result (λ last. last ≤ length text.new) }
+    text: &mut Text<'_>,
+) -> io::Result<()>
+    requires { (length work.old ≤ 262400) × (128 ≤ capacity text.old) }
 {
-    let mut rest = input::begin();
-    let mut end = 0;
-    let mut turns = u64::MAX;
-    while turns > 0 {
-        match run_job(reader, out, bytes, rest, table, work, output, text, end)? {
-            Turn::End(last) => {
-                return Ok(last);
-            }
-            Turn::Next(after, last) => {
-                rest = after;
-                end = last;
-            }
+    for _ in 0..u64::MAX {
+        if !run_job(words, out, table, work, output, text)? {
+            break;
         }
-        turns -= 1;
     }
-    Ok(end)
+    text.write(out)
 }
 
 // The buffers have some more room than a table may have, and than the work area uses.
 fn main(rt: HostRuntime) -> io::Result<()> {
-    let mut reader = rt.stdin();
-    let mut out = rt.stdout();
     let mut bytes = [0u8; 65536];
     let mut text = [0u8; 65536];
     let mut table = [0u32; 262148];
     let mut work = [0u32; 262400];
     let mut output = [0u32; 262400];
-    let end = run_jobs(
-        &mut reader,
-        &mut out,
-        &mut bytes,
+    run_jobs(
+        &mut Words::new(rt.stdin(), &mut bytes),
+        &mut rt.stdout(),
         &mut table,
         &mut work,
         &mut output,
-        &mut text,
-    )?;
-    text::write(&mut out, &text, end)
+        &mut Text::new(&mut text),
+    )
 }

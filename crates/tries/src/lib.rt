@@ -1,12 +1,12 @@
 // Points against a table and its list, tried for `elimination_jobs`.
 #![tactic(auto)]
 
-ghost use Rattle.std.specs.Prelude.{◌≡◌, [], ◌∷◌, ◌+◌, ◌≤◌, length, IfOk, IsOkAnd};
-ghost use Rattle.lines.specs.Text.{LineAdded, Ends};
+ghost use Rattle.std.specs.Prelude.{◌≡◌, [], ◌∷◌, ◌≤◌};
+ghost use Rattle.lines.specs.Written.{capacity};
 ghost use Rattle.tries.specs.Tried.{tried};
 
-use input::{Input, Words};
-use lines::{Turn, text};
+use input::Words;
+use lines::Text;
 use numbers::Line;
 use std::io;
 use std::io::{Read, Write};
@@ -16,6 +16,16 @@ use std::io::{Read, Write};
 pub struct Tried {
     pub trial: Line,
     pub place: Line,
+}
+
+impl Tried {
+    // The numbers of a point's line, in their order.
+    fn numbers(self) -> [u32; 4]
+        ensures { result ≡ self.trial.outcome ∷ self.trial.value ∷ self.place.outcome ∷ self.place.value ∷ [] }
+    {
+        let Tried { trial, place } = self;
+        [trial.outcome, trial.value, place.outcome, place.value]
+    }
 }
 
 // Tries a point against both.
@@ -29,81 +39,25 @@ fn try_both(table: &[u32], systems: &[u32], numbers: &[u32]) -> Tried
     }
 }
 
-// Adds a point's line to the text.
-fn print<W: Write>(out: &mut W, text: &mut [u8], end: usize, tried: Tried) -> io::Result<usize>
-    requires { (end ≤ length text.old) × (128 ≤ length text.old) }
-    ensures upper_bound { IfOk result (λ last. last ≤ length text.new) }
-    ensures line_added { end + 212 ≤ length text.old
-        → IsOkAnd result (λ last. LineAdded (tried.trial.outcome ∷ tried.trial.value ∷ tried.place.outcome ∷ tried.place.value ∷ []) end text.old last text.new) }
-{
-    let a = tried.trial;
-    let b = tried.place;
-    let numbers = [a.outcome, a.value, b.outcome, b.value];
-    text::print_line(out, text, end, &numbers)
-}
-
-// Tries the next point.
-fn run_one<R: Read, W: Write>(
-    reader: &mut R,
-    out: &mut W,
-    bytes: &mut [u8],
-    from: Input,
-    table: &[u32],
-    systems: &[u32],
-    numbers: &mut [u32],
-    text: &mut [u8],
-    end: usize,
-) -> io::Result<Turn>
-    requires { (end ≤ length text.old) × (128 ≤ length text.old) }
-    ensures { IfOk result (λ turn. Ends turn text.new) }
-{
-    let Words::First(m, rest) = input::counted(reader, bytes, from, numbers) else {
-        return Ok(Turn::End(end));
-    };
-    let tried = try_both(table, systems, &numbers[..m]);
-    Ok(Turn::Next(rest, print(out, text, end, tried)?))
-}
-
-// Tries so many points of at most 16 numbers.
+// Tries so many points of at most 16 numbers, and adds a line for each; answers whether the input has them all.
 pub fn run_all<R: Read, W: Write>(
-    reader: &mut R,
+    words: &mut Words<'_, R>,
     out: &mut W,
-    bytes: &mut [u8],
-    from: Input,
     table: &[u32],
     systems: &[u32],
     count: u32,
-    text: &mut [u8],
-    end: usize,
-) -> io::Result<Turn>
-    requires { (end ≤ length text.old) × (128 ≤ length text.old) }
-    ensures { IfOk result (λ turn. Ends turn text.new) }
+    text: &mut Text<'_>,
+) -> io::Result<bool>
+    requires { 128 ≤ capacity text.old }
+    ensures { capacity text.new ≡ capacity text.old }
 {
-    let mut numbers = [0u32; 16];
-    let mut rest = from;
-    let mut last = end;
-    let mut left = count;
-    while 0 < left {
-        match run_one(
-            reader,
-            out,
-            bytes,
-            rest,
-            table,
-            systems,
-            &mut numbers,
-            text,
-            last,
-        )? {
-            Turn::End(to) => {
-                return Ok(Turn::End(to));
-            }
-            Turn::Next(after, to) => {
-                rest = after;
-                last = to;
-            }
-        }
-        left -= 1;
+    let mut point = [0u32; 16];
+    for _ in 0..count {
+        let Some(n) = words.counted(&mut point) else {
+            return Ok(false);
+        };
+        let tried = try_both(table, systems, &point[..n]);
+        text.print_line(out, &tried.numbers())?;
     }
-    Ok(Turn::Next(rest, last))
+    Ok(true)
 }

@@ -1,9 +1,6 @@
--- The text ends within its buffer.
-use Rattle.std.proofs.Common.{◌≤◌, length}
+use Rattle.std.proofs.Common.{◌≤◌}
+use Rattle.lines.specs.Written.{capacity}
 use Rattle.elimination_bench.proofs.run_jobs.Given as goal
 
-abbrev pub invariant-loop-turns : goal.invariant-loop-turns
-invariant-loop-turns g l = l.end ≤ length l.text
-
-abbrev pub decreases-loop-turns : goal.decreases-loop-turns
-decreases-loop-turns g l = l.turns
+abbrev pub invariant-loop : goal.invariant-loop
+invariant-loop g l = 128 ≤ capacity l.text

@@ -1,2 +1,0 @@
-pub mod HeadingLaws
-pub mod RunLaws

@@ -6,8 +6,6 @@ ghost use Rattle.std.specs.Prelude.{◌≡◌, ◌≤◌, ◌<◌};
 ghost use Rattle.tables.specs.Words.{records};
 ghost use Rattle.extent.specs.Extent.{chain_last, extent};
 
-use tables::Next;
-
 // The last record of the chain that word j of record i starts; i itself where it starts none.
 fn chain_last(list: &[u32], i: usize, j: usize) -> usize
     requires { (i < records list.now) × (j < 4) }
@@ -16,23 +14,15 @@ fn chain_last(list: &[u32], i: usize, j: usize) -> usize
 {
     let mut at = i;
     let mut index = words::word(list, i, j);
-    loop {
-        match words::follow(list, at, index) {
-            Next::To(k) => {
-                at = k;
-                index = words::word(list, k, 3);
-            }
-            Next::End => {
-                return at;
-            }
-            Next::Astray => {
-                return at;
-            }
-        }
+    while let Ok(Some(k)) = words::follow(list, at, index) {
+        at = k;
+        index = words::word(list, k, 3);
     }
+    at
 }
 
 // How many records the list takes that stands in the first words, whatever follows it.
+#[tactic(auto, unfolding(crate::specs::Extent::extent, crate::specs::Extent::behind))]
 pub fn written_records(list: &[u32]) -> usize
     ensures value { result ≡ extent list.now }
     ensures upper_bound { result ≤ records list.now }

@@ -1,82 +1,62 @@
--- A point against a table: what the numbers and the answers of its parts say of it.
-use mathlib.Core.Path.{◌≡◌, refl, sym, ◌∙◌, ap}
-use mathlib.Core.Bool.{Bool, true, false, not}
-use mathlib.Core.List.{List}
-use Prim.Native.Nat.{ℕ, ◌≤◌}
-use lib.ListN.{length}
+-- A point against a table: what the tests of a point and the answers of its polynomials say of it.
+use Rattle.std.specs.Prelude.{◌≡◌, Bool, true, false, not, List, ℕ, Ok, Err}
+use Rattle.std.specs.Bool.{Decides}
+use Rattle.std.proofs.lemmas.Bool.Decides.{same_from_decides}
+use Rattle.tables.specs.Solved.{PointOf}
+use Rattle.std.proofs.Common.{sym}
 use Rattle.polynomials.specs.Poly.{Poly}
 use Rattle.polynomials.specs.Value.{Point}
-use Rattle.tables.specs.Words.{word, records}
-use Rattle.tables.specs.declared.Reason.{Reason}
 use Rattle.tables.specs.declared.Reason.TheVariants.{Point as PointReason}
-use Rattle.tables.specs.declared.Reading.{Reading}
-use Rattle.tables.specs.declared.ReadOutcome.TheVariants.{Accepted, Refused as ReadRefused}
-use Rattle.tables.specs.declared.TrialOutcome.TheVariants.{Yes, No, Refused as TrialRefused}
-use Rattle.tables.specs.Read.{good, refused, unless, Input, read_heads, read_table}
-use Rattle.tables.specs.Solve.{is_point, solves, reading, yes_or_no, trial, try_input}
-use Rattle.evaluation.specs.Walks.{all_match}
-use Rattle.tables.specs.laws.Chains.{reading_good, reading_refused, readable_words}
+use Rattle.tables.specs.declared.Refusal.{Refusal}
+use Rattle.tables.specs.Words.{word}
+use Rattle.tables.specs.Read.{Input, good, unless, read_table}
+use Rattle.tables.specs.Solve.{is_point, all_zero, none_zero, solves, refusal, checked, try_input, Tries}
+use Rattle.tables.specs.laws.Chains.{checked_refused}
 use Rattle.tables.specs.laws.Accepted.{TableRead, table_read}
-use Rattle.tables.specs.Solved.{PointOf}
 use Rattle.tables.specs.laws.Solved.{point_is}
+use Rattle.words.specs.declared.Table.{Table}
+use Rattle.words.specs.Table.{TableOf}
+use Rattle.evaluation.specs.Walks.{ArePolynomialsFrom}
 
-pub not_point : (p n : ℕ) (x : List ℕ) → ¬ PointOf p n x → false ≡ is_point p n x
-not_point p n x h = go (is_point p n x) (point_is p n x).0
-  where
-    go : (b : Bool) → (b ≡ true → PointOf p n x) → false ≡ b
-    go true f = absurd (h (f refl))
-    go false f = refl
+-- ── a point ──
+pub point_decided : (p n : ℕ) (x : List ℕ) (b : Bool) → Decides b (PointOf p n x) → b ≡ is_point p n x
+point_decided p n x b h = same_from_decides b (is_point p n x) h (point_is p n x)
 
 -- ── a table ──
-module _ (w x : List ℕ) (r : Reading) (e : r ≡ reading (read_table w)) where
-  pub table_refused : (why : Reason) (at : ℕ) → r.outcome ≡ ReadRefused why at → record { outcome = TrialRefused why at } ≡ trial (try_input w x)
+module _ (w x : List ℕ) where
+  pub table_refused : {e : Refusal} → Err e ≡ checked (read_table w) → Tries w x (Err e)
   unfolding try_input
-  table_refused why at h =
-      let q : read_table w ≡ refused why at = reading_refused (read_table w) (ap (λ (s : Reading). s.outcome) (sym e) ∙ h) in
-      rw q
+  table_refused h = rw (checked_refused (read_table w) (sym h))
 
-  pub table_accepted : r.outcome ≡ Accepted → (t : Input) × (read_table w ≡ good t)
-  table_accepted h = reading_good (read_table w) (ap (λ (s : Reading). s.outcome) (sym e) ∙ h)
+-- The table of an accepted input.
+module _ {w : List ℕ} {t : Table} (of : TableOf w t) {i : Input} (is_read : read_table w ≡ good i) where
+  k : TableRead w i
+  k = table_read w i is_read
 
--- An accepted table has its header.
-pub accepted_words : (w : List ℕ) {r : Reading} → r ≡ reading (read_table w) → r.outcome ≡ Accepted → 4 ≤ length w
-accepted_words w {r} e h = let t = table_accepted w w r e h in readable_words (table_read w t.0 t.1).readable
+  pub zeros : ArePolynomialsFrom t 0 (word t.words.now 0 2) i.P
+  zeros = rw (of.words, of.modulus, of.variables) k.zeros
 
--- The answers, along the code's tests: is x a point, are all of P zero there, is none of Q? The code's p and n are the first words of the table.
-module _ (w x : List ℕ) (t : Input) (is_read : read_table w ≡ good t) where
-  k : TableRead w t
-  k = table_read w t is_read
+  pub nonzeros : ArePolynomialsFrom t 0 (word t.words.now 0 3) i.Q
+  nonzeros = rw (of.words, of.modulus, of.variables) k.nonzeros
 
-  -- What `all_match` says of the chain from an index in the header.
-  abbrev Tried : Bool → Bool → ℕ → Type 0
-  Tried r b start =
-      (fs : List Poly) → read_heads w (word w 0 0) (word w 0 1) (records w) 0 start ≡ good fs → r ≡ all_match (word w 0 0) x b fs
+  module _ (x : List ℕ) where
+    answer : try_input w x ≡ unless (not (is_point t.modulus t.variables x)) PointReason 0 (good (solves t.modulus x i.P i.Q))
+    unfolding try_input
+    answer = rw (is_read, k.modulus, k.variables, of.modulus, of.variables)
 
-  answer : trial (try_input w x)
-      ≡ trial (unless (not (is_point (word w 0 0) (word w 0 1) x)) PointReason 0 (good (solves (word w 0 0) x t.P t.Q)))
-  unfolding try_input
-  answer = rw (is_read, k.modulus, k.variables)
+    pub no_point : false ≡ is_point t.modulus t.variables x → Tries w x (Err (refusal PointReason 0))
+    no_point e = rw (answer, ← e)
 
-  module _ (r : Bool) (r-is : r ≡ is_point (word w 0 0) (word w 0 1) x) where
-    pub no_point : r ≡ false → record { outcome = TrialRefused PointReason 0 } ≡ trial (try_input w x)
-    no_point h = rw (answer, ← r-is, h)
+    -- The point is one. `first` and `second` are the indices of the two chains, a and b what they answer.
+    module _ (is_one : true ≡ is_point t.modulus t.variables x) {first : ℕ} (P : first ≡ word t.words.now 0 2) {a : Bool} (a_is : (fs : List Poly) → ArePolynomialsFrom t 0 first fs → a ≡ all_zero t.modulus x fs) where
+      pub some_nonzero : a ≡ false → Tries w x (Ok a)
+      unfolding solves
+      some_nonzero h = rw (answer, ← is_one, ← a_is i.P (rw P zeros), h)
 
-    module _ (h : r ≡ true) where
-      pub point_residues : Point (word w 0 0) x
-      point_residues = ((point_is (word w 0 0) (word w 0 1) x).0 (sym r-is ∙ h)).1
+      pub all_zeros : a ≡ true → {second : ℕ} → second ≡ word t.words.now 0 3 → {b : Bool} → ((fs : List Poly) → ArePolynomialsFrom t 0 second fs → b ≡ none_zero t.modulus x fs)
+          → Tries w x (Ok b)
+      unfolding solves
+      all_zeros h Q b_is = rw (answer, ← is_one, ← a_is i.P (rw P zeros), h, ← b_is i.Q (rw Q nonzeros))
 
-      module _ (a : Bool) (a_is : Tried a true (word w 0 2)) where
-        pub some_nonzero : a ≡ false → record { outcome = No } ≡ trial (try_input w x)
-        unfolding solves
-        some_nonzero h₂ = rw (answer, ← r-is, h, ← a_is t.P k.zeros, h₂)
-
-        module _ (h₂ : a ≡ true) (b : Bool) (b-is : Tried b false (word w 0 3)) where
-          answer_last : trial (try_input w x) ≡ yes_or_no b
-          unfolding solves
-          answer_last = rw (answer, ← r-is, h, ← a_is t.P k.zeros, h₂, ← b-is t.Q k.nonzeros)
-
-          pub some_zero : b ≡ false → record { outcome = No } ≡ trial (try_input w x)
-          some_zero h₃ = rw (answer_last, h₃)
-
-          pub all_solved : b ≡ true → record { outcome = Yes } ≡ trial (try_input w x)
-          all_solved h₃ = rw (answer_last, h₃)
+pub point_residues : (p n : ℕ) (x : List ℕ) → true ≡ is_point p n x → Point p x
+point_residues p n x e = ((point_is p n x).0 (sym e)).1

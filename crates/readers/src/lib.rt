@@ -1,9 +1,8 @@
 // A walk along a chain: the table and the record number reached.
 #![tactic(auto)]
 
-ghost use Rattle.std.specs.Prelude.{◌≡◌, ◌<◌, eqb};
+ghost use Rattle.std.specs.Prelude.{◌≡◌, ◌↔◌, ◌<◌, IsTrue};
 ghost use Rattle.tables.specs.Words.{word, records};
-ghost use Rattle.readers.specs.Reader.{reader_at, stepped};
 
 #[derive(Clone, Copy)]
 pub struct Reader<'a> {
@@ -11,40 +10,46 @@ pub struct Reader<'a> {
     pub at: usize,
 }
 
-// A reader at record i.
-pub fn new<'a>(table: &'a [u32], i: usize) -> Reader<'a>
-    ensures { result ≡ reader_at table.entry i }
-{
-    Reader { table, at: i }
-}
+impl<'a> Reader<'a> {
+    ghost use Rattle.readers.specs.Reader.{reader_at, stepped};
 
-// The number of the record reached.
-pub fn at<'a>(r: Reader<'a>) -> usize
-    ensures { result ≡ r.entry.at }
-{
-    r.at
-}
+    // A reader at record i.
+    pub fn new(table: &'a [u32], i: usize) -> Self
+        ensures { result ≡ reader_at table.entry i }
+    {
+        Reader { table, at: i }
+    }
 
-// Whether the chain has ended: index 0 leads to no record.
-pub fn is_over<'a>(r: Reader<'a>) -> bool
-    ensures { result ≡ eqb r.entry.at 0 }
-{
-    r.at == 0
-}
+    // The number of the record reached.
+    pub fn at(self) -> usize
+        ensures { result ≡ self.entry.at }
+    {
+        self.at
+    }
 
-// Word j of the record reached.
-pub fn word<'a>(r: Reader<'a>, j: usize) -> u32
-    requires { (r.at < records r.table.now) × (j < 4) }
-    ensures { result ≡ word r.entry.table.now r.entry.at j }
-{
-    words::word(r.table, r.at, j)
-}
+    // Whether the chain has ended: index 0 leads to no record.
+    pub fn is_over(self) -> bool
+        ensures { IsTrue result ↔ (self.entry.at ≡ 0) }
+    {
+        self.at == 0
+    }
 
-// The reader, moved on by the index in word j of the record reached.
-pub fn step<'a>(r: Reader<'a>, j: usize) -> Reader<'a>
-    requires { (r.at < records r.table.now) × (j < 4) }
-    ensures { result ≡ stepped r.entry j }
-{
-    let at = words::index(r.table, r.at, j);
-    Reader { table: r.table, at }
+    // Word j of the record reached.
+    pub fn word(self, j: usize) -> u32
+        requires { (self.at < records self.table.now) × (j < 4) }
+        ensures { result ≡ word self.entry.table.now self.entry.at j }
+    {
+        words::word(self.table, self.at, j)
+    }
+
+    // The reader, moved on by the index in word j of the record reached.
+    pub fn step(self, j: usize) -> Self
+        requires { (self.at < records self.table.now) × (j < 4) }
+        ensures { result ≡ stepped self.entry j }
+    {
+        Reader {
+            at: words::index(self.table, self.at, j),
+            ..self
+        }
+    }
 }

@@ -1,10 +1,10 @@
 -- The count of the systems that were read.
-use Rattle.std.specs.Prelude.{List, length}
+use Rattle.std.specs.Prelude.{List, ℕ, length, Result, Ok, Err}
+use Rattle.tables.specs.declared.Refusal.{Refusal}
 use Rattle.tables.specs.Read.{Read, good, refused, System}
-use Rattle.systems.specs.declared.Counted.{Counted}
-use Rattle.systems.specs.declared.Counted.TheVariants.{Systems, Refused}
+use Rattle.tables.specs.Solve.{refusal}
 
 -- The count of systems, or the refusal.
-abbrev pub counted : Read (List System) → Counted
-counted (good ss) = Systems (length ss)
-counted (refused why at) = Refused why at
+abbrev pub counted : Read (List System) → Result ℕ Refusal
+counted (good ss) = Ok (length ss)
+counted (refused why at) = Err (refusal why at)

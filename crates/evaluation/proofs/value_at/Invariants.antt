@@ -7,9 +7,9 @@ use Rattle.evaluation.proofs.value_at.Given as goal
 
 abbrev pub invariant-loop-r : goal.invariant-loop-r
 invariant-loop-r l = record {
-  on_table : l.r.table.now ≡ l.table;
-  still : ValueLeft l.table l.p l.n l.head l.point l.v l.r.at;
+  on_table : l.r.table ≡ l.table.words;
+  still : ValueLeft l.table l.head l.point l.v l.r.at;
 }
 
 abbrev pub decreases-loop-r : goal.decreases-loop-r
-decreases-loop-r l = left (records l.table) l.r.at
+decreases-loop-r l = left (records l.table.words.now) l.r.at

@@ -1,12 +1,6 @@
 -- Of a written list, whatever follows it, the extent is the records that the list needs.
-use Rattle.std.specs.Prelude.{◌≡◌}
-use Rattle.std.proofs.Math.Path.{refl, ap}
-use Rattle.std.proofs.Common.{◌∙◌, eq-eqb, ne_eqb, le-ltb}
-use Rattle.std.proofs.Math.Bool.{true, false}
-use mathlib.Core.List.{List, [], ◌∷◌, ◌++◌}
-use Prim.Native.Nat.{ℕ, zero, suc, ◌+◌, ◌≤◌, ◌<◌}
-use native.Mathlib.Omega.{arith}
-use Rattle.std.proofs.Math.ListN.{length}
+use Rattle.std.specs.Prelude.{◌≡◌, refl, true, false, List, [], ◌∷◌, ◌++◌, ℕ, zero, suc, ◌+◌, ◌≤◌, ◌<◌, length}
+use Rattle.std.proofs.Common.{ap, ◌∙◌, arith, eq-eqb, ne_eqb, le-ltb}
 use Rattle.polynomials.specs.Poly.{Poly}
 use Rattle.tables.specs.Words.{word, records, follow, Followed, end, to, astray}
 use Rattle.tables.specs.Read.{System, Listing}
@@ -88,11 +82,11 @@ module _ (w : List ℕ) where
       ap (chain w (records w) h) r.word_0 ∙ terms_end f (records w) h (omega (arith, b.within, length_terms (suc h) f)) b
 
   -- A chain with a head, and one without.
-  pub behind_some : (s h none : ℕ) → (h ≡ s → ⊥) → behind w s h none ≡ chain_last w h 0
+  behind_some : (s h none : ℕ) → (h ≡ s → ⊥) → behind w s h none ≡ chain_last w h 0
   unfolding behind
   behind_some s h none n = ap (λ b. elim b as (λ b. ℕ) [ true ↦ none | false ↦ chain_last w h 0 ]) (ne_eqb h s n)
 
-  pub behind_none : (s h none : ℕ) → h ≡ s → behind w s h none ≡ none
+  behind_none : (s h none : ℕ) → h ≡ s → behind w s h none ≡ none
   unfolding behind
   behind_none s h none e = ap (λ b. elim b as (λ b. ℕ) [ true ↦ none | false ↦ chain_last w h 0 ]) (eq-eqb h s e)
 
@@ -157,7 +151,7 @@ module _ (w : List ℕ) where
       ∙ behind_end i j x.U (behind w i (chain_last w i 0) i) (omega arith) us (ap (λ (k : ℕ). suc (behind w i (chain w (records w) i k) i)) r.word_0 ∙ t)
       ∙ omega arith
 
-  pub list_last_some : (s : ℕ) → (s ≡ 0 → ⊥) → list_last w s ≡ system_last w s
+  list_last_some : (s : ℕ) → (s ≡ 0 → ⊥) → list_last w s ≡ system_last w s
   list_last_some s n = ap (λ b. elim b as (λ b. ℕ) [ true ↦ 0 | false ↦ system_last w s ]) (ne_eqb s 0 n)
 
   list_system : {k stop : ℕ} → LastSystem 1 k stop → suc (list_last w k) ≡ stop
@@ -175,7 +169,7 @@ module _ (w : List ℕ) where
       ∙ list_system (systems_end x xs (records w) 0 1 (omega (arith, s.within, length_systems 1 (x ∷ xs), length_systems_size (x ∷ xs))) (omega arith) s)
 
   -- ── the list ──
-  pub extent_some : 4 ≤ length w → extent w ≡ suc (list_last w (chain_last w 0 2))
+  extent_some : 4 ≤ length w → extent w ≡ suc (list_last w (chain_last w 0 2))
   unfolding extent
   extent_some h = ap (λ b. elim b as (λ b. ℕ) [ true ↦ 0 | false ↦ suc (list_last w (chain_last w 0 2)) ]) (le-ltb (length w) 4 h)
 

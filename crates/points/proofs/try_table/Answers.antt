@@ -1,74 +1,36 @@
--- An accepted table's first words give p, n and the two chains that `all_match` tries.
-use Rattle.std.proofs.Common.{◌≡◌, List, ℕ}
-use Rattle.tables.specs.Read.{Input, good, read_table}
-use Rattle.tables.specs.Solve.{reading}
-use Rattle.tables.specs.declared.Reading.{Reading}
-use Rattle.tables.specs.declared.ReadOutcome.TheVariants.{Accepted}
-use Rattle.tables.specs.laws.Accepted.{some_record, TableRead, table_read}
-use Rattle.points.proofs.PointLaws.{table_refused, table_accepted, no_point, point_residues, some_nonzero, some_zero, all_solved}
+use Rattle.std.proofs.lemmas.Result.{err_from_is_err_and}
+use Rattle.points.proofs.PointLaws.{table_refused, zeros, nonzeros, no_point, some_nonzero, all_zeros, point_residues}
 use Rattle.points.proofs.try_table.Goals as goal
 
--- ── what an accepted table's words say ──
-module _ (w : List ℕ) {r : Reading} (e : r ≡ reading (read_table w)) (h : r.outcome ≡ Accepted) where
-  input : (t : Input) × (read_table w ≡ good t)
-  input = table_accepted w w r e h
-
-  told : TableRead w input.0
-  told = table_read w input.0 input.1
-
--- ── the goals ──
-pub returns-in-Refused : goal.returns-in-Refused
-returns-in-Refused c =
-    let a = c.args in
-    table_refused a.table.now a.point.now c.read_table-reading.result c.read_table-reading.ensures _ _ c.in-Refused.is
+pub returns-in_err-table : goal.returns-in_err-table
+returns-in_err-table c =
+    let p = err_from_is_err_and c.from_residual.result c.from_residual.ensures.1 in
+    rw (p.1, p.2) (table_refused c.args.table.now c.args.point.now c.in_err-table.ensures.err)
 
 pub returns-then-not-is_point : goal.returns-then-not-is_point
 returns-then-not-is_point c =
-    let a = c.args in
-    let t = input c.args.table.now c.read_table-reading.ensures c.in_default.is in
-    no_point a.table.now a.point.now t.0 t.1 c.is_point.result c.is_point.ensures c.if-not-is_point.true
+    let T = c.in_ok-table.ensures.ok in
+    rw c.refusal.ensures (no_point T.0 T.1.1 c.args.point.now (rw c.if-not-is_point.true at c.is_point.ensures))
 
-pub all_match-requires-clause-readable : goal.all_match-requires-clause-readable
-all_match-requires-clause-readable c =
-    let t = input c.args.table.now c.read_table-reading.ensures c.in_default.is in
-    let k = told c.args.table.now c.read_table-reading.ensures c.in_default.is in
-    (k.readable, some_record k.readable, (t.0.P, k.zeros))
+pub all_zero-requires-clause-read : goal.all_zero-requires-clause-read
+all_zero-requires-clause-read c = let T = c.in_ok-table.ensures.ok in rw c.word.ensures (T.1.0.P, zeros T.0 T.1.1)
 
-pub all_match-requires-clause-point : goal.all_match-requires-clause-point
-all_match-requires-clause-point c =
-    let a = c.args in
-    let t = input c.args.table.now c.read_table-reading.ensures c.in_default.is in
-    point_residues a.table.now a.point.now t.0 t.1 c.is_point.result c.is_point.ensures c.if-not-is_point.false
+pub all_zero-requires-clause-point : goal.all_zero-requires-clause-point
+all_zero-requires-clause-point c = point_residues c.in_ok-table.table.modulus c.in_ok-table.table.variables c.args.point.now (rw c.if-not-is_point.false at c.is_point.ensures)
 
-pub returns-then-not-all_match : goal.returns-then-not-all_match
-returns-then-not-all_match c =
-    let a = c.args in
-    let t = input c.args.table.now c.read_table-reading.ensures c.in_default.is in
-    some_nonzero a.table.now a.point.now t.0 t.1 c.is_point.result c.is_point.ensures c.if-not-is_point.false
-    c.all_match.result c.all_match.ensures c.if-not-all_match.true
+pub none_zero-requires-clause-read : goal.none_zero-requires-clause-read
+none_zero-requires-clause-read c = let T = c.in_ok-table.ensures.ok in rw c.word-then-all_zero.ensures (T.1.0.Q, nonzeros T.0 T.1.1)
 
-pub all_match-requires-2-clause-readable : goal.all_match-requires-2-clause-readable
-all_match-requires-2-clause-readable c =
-    let t = input c.args.table.now c.read_table-reading.ensures c.in_default.is in
-    let k = told c.args.table.now c.read_table-reading.ensures c.in_default.is in
-    (k.readable, some_record k.readable, (t.0.Q, k.nonzeros))
+pub none_zero-requires-clause-point : goal.none_zero-requires-clause-point
+none_zero-requires-clause-point c = point_residues c.in_ok-table.table.modulus c.in_ok-table.table.variables c.args.point.now (rw c.if-not-is_point.false at c.is_point.ensures)
 
-pub all_match-requires-2-clause-point : goal.all_match-requires-2-clause-point
-all_match-requires-2-clause-point c =
-    let a = c.args in
-    let t = input c.args.table.now c.read_table-reading.ensures c.in_default.is in
-    point_residues a.table.now a.point.now t.0 t.1 c.is_point.result c.is_point.ensures c.if-not-is_point.false
+pub returns-then-all_zero : goal.returns-then-all_zero
+returns-then-all_zero c =
+    let T = c.in_ok-table.ensures.ok in
+    all_zeros T.0 T.1.1 c.args.point.now (rw c.if-not-is_point.false at c.is_point.ensures) c.word.ensures c.all_zero.ensures c.if-all_zero.true
+    c.word-then-all_zero.ensures c.none_zero.ensures
 
-pub returns-then-not-all_match-2 : goal.returns-then-not-all_match-2
-returns-then-not-all_match-2 c =
-    let a = c.args in
-    let t = input c.args.table.now c.read_table-reading.ensures c.in_default.is in
-    some_zero a.table.now a.point.now t.0 t.1 c.is_point.result c.is_point.ensures c.if-not-is_point.false
-    c.all_match.result c.all_match.ensures c.if-not-all_match.false c.all_match-2.result c.all_match-2.ensures c.if-not-all_match-2.true
-
-pub returns : goal.returns
-returns c =
-    let a = c.args in
-    let t = input c.args.table.now c.read_table-reading.ensures c.in_default.is in
-    all_solved a.table.now a.point.now t.0 t.1 c.is_point.result c.is_point.ensures c.if-not-is_point.false
-    c.all_match.result c.all_match.ensures c.if-not-all_match.false c.all_match-2.result c.all_match-2.ensures c.if-not-all_match-2.false
+pub returns-else-all_zero : goal.returns-else-all_zero
+returns-else-all_zero c =
+    let T = c.in_ok-table.ensures.ok in
+    some_nonzero T.0 T.1.1 c.args.point.now (rw c.if-not-is_point.false at c.is_point.ensures) c.word.ensures c.all_zero.ensures c.if-all_zero.false

@@ -1,22 +1,26 @@
--- First the header, then the systems, then the header's count of them, and the first refusal is the answer.
-use Rattle.std.proofs.Common.{sym}
-use Rattle.tables.specs.laws.Chains.{header_readable}
-use Rattle.systems.proofs.SystemLaws.{list_header_refused, list_refused, list_good, list_broken}
+-- The header, then the systems, then the header's count of them.
+use Rattle.std.proofs.Common.{◌∙◌}
+use Rattle.std.proofs.lemmas.Result.{err_from_is_err_and}
+use Rattle.systems.proofs.SystemLaws.{list_refused, list_uncounted, list_miscounted, list_counted}
 use Rattle.systems.proofs.check_list.Goals as goal
 
-pub returns-in-Refused : goal.returns-in-Refused
-returns-in-Refused c = sym (list_header_refused c.args.table.now (sym c.in-Refused.ensures))
+pub returns-in_err-table-clause-err : goal.returns-in_err-table-clause-err
+returns-in_err-table-clause-err c =
+    let e = err_from_is_err_and c.from_residual.result c.from_residual.ensures.1 in
+    rw (e.1, e.2) (list_refused c.args.words.now c.in_err-table.ensures.err)
 
-pub check_systems-requires : goal.check_systems-requires
-check_systems-requires c = header_readable c.args.table.now (sym c.in_default.ensures)
+pub returns-in_err-count-clause-err : goal.returns-in_err-count-clause-err
+returns-in_err-count-clause-err c =
+    let e = err_from_is_err_and c.from_residual-in_err-count.result c.from_residual-in_err-count.ensures.1 in
+    let t = c.in_ok-table.ensures.ok in
+    rw (e.1, e.2) (list_uncounted c.args.words.now t.0 t.1 c.in_err-count.ensures)
 
-pub returns-then-count-table : goal.returns-then-count-table
-returns-then-count-table c =
-    sym (list_good c.args.table.now (sym c.in_default.ensures) _ (sym c.in-Systems.ensures) c.if-count-table.true)
+pub returns-then-count-word-clause-err : goal.returns-then-count-word-clause-err
+returns-then-count-word-clause-err c =
+    let t = c.in_ok-table.ensures.ok in
+    rw c.refusal.ensures (list_miscounted c.args.words.now t.0 t.1 c.in_ok-count.ensures (λ e. c.if-count-word.true (rw c.word.ensures e)))
 
-pub returns-in-Refused-check_systems : goal.returns-in-Refused-check_systems
-returns-in-Refused-check_systems c = sym (list_refused c.args.table.now (sym c.in_default.ensures) (sym c.in-Refused-check_systems.ensures))
-
-pub returns-else-count-table : goal.returns-else-count-table
-returns-else-count-table c =
-    sym (list_broken c.args.table.now (sym c.in_default.ensures) _ (sym c.in-Systems.ensures) c.if-count-table.false)
+pub returns-clause-ok : goal.returns-clause-ok
+returns-clause-ok c =
+    let t = c.in_ok-table.ensures.ok in
+    (t.0, list_counted c.args.words.now t.0 t.1 c.in_ok-count.ensures (c.if-count-word.false ∙ c.word.ensures))

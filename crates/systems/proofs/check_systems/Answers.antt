@@ -1,48 +1,59 @@
-use Rattle.std.proofs.Common.{sym, arith}
+-- Each way that an index leads, and the system there.
+use Rattle.std.proofs.Common.{arith}
+use Rattle.std.proofs.lemmas.Result.{err_from_is_err_and}
 use Rattle.tables.specs.Words.{word}
-use Rattle.tables.specs.laws.Chains.{checked_good, checked_refused, next_inside, whole_records}
-use Rattle.systems.proofs.SystemLaws.{counting_first, counting_end, counting_astray, counting_refused, counting_on}
+use Rattle.tables.specs.laws.Chains.{left_less, whole_records}
+use Rattle.words.proofs.Laws.{first_record}
+use Rattle.systems.proofs.SystemLaws.{counting_first, count_leads, count_strays, count_end, count_inside, count_refused, count_on}
 use Rattle.systems.proofs.check_systems.Goals as goal
 
-pub word-i-requires : goal.word-i-requires
-word-i-requires c = ((whole_records c.args.table.now c.requires.whole).1, omega arith)
+-- ── the first index ──
+pub returns-in_err-next : goal.returns-in_err-next
+returns-in_err-next c =
+    let t = c.args.table in
+    let e = err_from_is_err_and c.from_residual.result c.from_residual.ensures.1 in
+    let first = counting_first t.words.now t.modulus t.variables (word t.words.now 0 2) (first_record t) in
+    rw (e.1, e.2) (count_strays t.words.now t.modulus t.variables first (rw (← c.word.ensures) c.in_err-next.ensures))
 
-pub loop-j-init : goal.loop-j-init
-loop-j-init c =
-    let a = c.args in
-    let w = a.table.now in
-    rw c.word-i.ensures (counting_first w a.p a.n (word w 0 2) (whole_records w c.requires.whole).1)
+pub loop-next-init : goal.loop-next-init
+loop-next-init c =
+    let t = c.args.table in
+    let first = counting_first t.words.now t.modulus t.variables (word t.words.now 0 2) (first_record t) in
+    let l = count_leads t.words.now t.modulus t.variables first (rw (← c.word.ensures) c.in_ok-next.ensures) in
+    record { inside = λ i. count_inside t.words.now t.modulus t.variables l; leads = l }
 
-pub returns-in-End : goal.returns-in-End
-returns-in-End c = let a = c.args in counting_end a.table.now a.p a.n c.loop-j.invariant (sym c.in-End.ensures)
+pub returns : goal.returns
+returns c = let t = c.args.table in count_end t.words.now t.modulus t.variables c.loop-next.invariant.leads c.in_default.is
 
-pub overflow_cast-result : goal.overflow_cast-result
-overflow_cast-result c = omega (arith, c.loop-j.invariant.enough.inside, (whole_records c.args.table.now c.requires.whole).2)
-
-pub returns-in-Astray : goal.returns-in-Astray
-returns-in-Astray c = let a = c.args in counting_astray a.table.now a.p a.n c.loop-j.invariant (sym c.in-Astray.ensures)
-
-pub check_system-requires : goal.check_system-requires
-check_system-requires c = (c.requires, (next_inside c.args.table.now c.loop-j.at c.loop-j.i c.in-To.j (sym c.in-To.ensures)).1)
-
-pub returns-in-Refused : goal.returns-in-Refused
-returns-in-Refused c =
-    let a = c.args in
-    counting_refused a.table.now a.p a.n c.loop-j.invariant (sym c.in-To.ensures) (checked_refused _ (sym c.in-Refused.ensures))
+-- ── the system that it leads to ──
+pub returns-in_err-check_system : goal.returns-in_err-check_system
+returns-in_err-check_system c =
+    let t = c.args.table in
+    let e = err_from_is_err_and c.from_residual-in_err-check_system.result c.from_residual-in_err-check_system.ensures.1 in
+    rw (e.1, e.2) (count_refused t.words.now t.modulus t.variables c.loop-next.invariant.leads c.in-Some.is c.in_err-check_system.ensures)
 
 pub overflow_add-count : goal.overflow_add-count
 overflow_add-count c =
-    omega (arith, c.loop-j.invariant.few, c.loop-j.invariant.enough.inside, (whole_records c.args.table.now c.requires.whole).2)
+    let inside = c.loop-next.invariant.inside c.in-Some.i c.in-Some.is in
+    let t = c.args.table in
+    omega (arith, (whole_records t.words.now t.readable.whole).2)
 
-pub word-i-requires-in-To : goal.word-i-requires-in-To
-word-i-requires-in-To c = ((next_inside c.args.table.now c.loop-j.at c.loop-j.i c.in-To.j (sym c.in-To.ensures)).1, omega arith)
+-- ── the next index ──
+pub returns-in_err-next-2 : goal.returns-in_err-next-2
+returns-in_err-next-2 c =
+    let t = c.args.table in
+    let e = err_from_is_err_and c.from_residual-in_err-next-2.result c.from_residual-in_err-next-2.ensures.1 in
+    let on = count_on t.words.now t.modulus t.variables c.loop-next.invariant.leads c.in-Some.is c.in_ok-check_system.ensures in
+    rw (e.1, e.2) (count_strays t.words.now t.modulus t.variables on (rw (← c.word-in-Some.ensures) c.in_err-next-2.ensures))
 
-pub loop-j-smaller : goal.loop-j-smaller
-loop-j-smaller c = omega (arith, next_inside c.args.table.now c.loop-j.at c.loop-j.i c.in-To.j (sym c.in-To.ensures))
+pub loop-next-smaller : goal.loop-next-smaller
+loop-next-smaller c =
+    let inside = c.loop-next.invariant.inside c.in-Some.i c.in-Some.is in
+    left_less c.args.table.words.now c.word-in-Some.result c.in-Some.i c.in_ok-next-2.next c.loop-next.next c.in-Some.is inside.1 c.in_ok-next-2.ensures
 
-pub loop-j-preserved : goal.loop-j-preserved
-loop-j-preserved c =
-    let a = c.args in
-    let s = checked_good _ (sym c.in_default.ensures) in
-    let inside = next_inside a.table.now c.loop-j.at c.loop-j.i c.in-To.j (sym c.in-To.ensures) in
-    rw c.word-i-in-To.ensures (counting_on a.table.now a.p a.n c.loop-j.invariant inside.0 (sym c.in-To.ensures) s.1)
+pub loop-next-preserved : goal.loop-next-preserved
+loop-next-preserved c =
+    let t = c.args.table in
+    let on = count_on t.words.now t.modulus t.variables c.loop-next.invariant.leads c.in-Some.is c.in_ok-check_system.ensures in
+    let l = count_leads t.words.now t.modulus t.variables on (rw (← c.word-in-Some.ensures) c.in_ok-next-2.ensures) in
+    record { inside = λ i. count_inside t.words.now t.modulus t.variables l; leads = l }

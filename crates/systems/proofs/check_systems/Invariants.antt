@@ -1,13 +1,18 @@
--- The count and what is read from index i on, which record `at` holds, decide the whole count. The measure is the number of records behind `at`.
-use Rattle.std.proofs.Common.{◌-◌}
+-- The count and what is read from where the index leads decide the whole count.
+use Rattle.std.proofs.Common.{◌≡◌, ℕ, ◌<◌, Some}
 use Rattle.tables.specs.Words.{word, records}
 use Rattle.tables.specs.Read.{read_systems}
+use Rattle.tables.specs.laws.Chains.{left}
 use Rattle.systems.specs.Count.{counted}
-use Rattle.systems.proofs.SystemLaws.{Counting}
+use Rattle.systems.proofs.SystemLaws.{CountLeads}
 use Rattle.systems.proofs.check_systems.Given as goal
 
-abbrev pub invariant-loop-j : goal.invariant-loop-j
-invariant-loop-j l = Counting l.table l.p l.n l.at l.i l.count (counted (read_systems l.table l.p l.n (records l.table) 0 (word l.table 0 2)))
+abbrev pub invariant-loop-next : goal.invariant-loop-next
+invariant-loop-next l =
+    let w = l.table.words.now in record {
+      inside : (i : ℕ) → l.next ≡ Some i → (l.count < i) × (i < records w);
+      leads : CountLeads w l.table.modulus l.table.variables l.next l.count (counted (read_systems w l.table.modulus l.table.variables (records w) 0 (word w 0 2)));
+    }
 
-abbrev pub decreases-loop-j : goal.decreases-loop-j
-decreases-loop-j l = records l.table - l.at
+abbrev pub decreases-loop-next : goal.decreases-loop-next
+decreases-loop-next l = left l.table.words.now l.next

@@ -1,59 +1,57 @@
-use Rattle.std.proofs.Common.{◌≡◌, sym, ap, arith}
-use Rattle.polynomials.specs.Poly.{Poly}
-use Rattle.tables.specs.Read.{good, read_head}
-use Rattle.tables.specs.Solve.{checked}
-use Rattle.tables.specs.laws.Chains.{checked_good, checked_refused, next_inside, whole_records, triangle_chain}
-use Rattle.tables.specs.laws.Chains.{reached_end, reached_astray, reached_refused, reached_on}
-use Rattle.systems.proofs.SystemLaws.{led_refused, led_broken, led_good}
+-- Each way that an index leads, and the polynomial there.
+use Rattle.std.proofs.lemmas.Result.{err_from_is_err_and}
+use Rattle.tables.specs.laws.Chains.{reached_first, strays_from, leads_from, leads_end, leads_inside, left_less, triangle_chain}
+use Rattle.systems.proofs.SystemLaws.{triangle_refused, triangle_broken, triangle_on}
 use Rattle.systems.proofs.check_triangle.Goals as goal
 
-pub returns-in-End : goal.returns-in-End
-returns-in-End c = let a = c.args in reached_end (triangle_chain a.table.now a.p a.n) c.loop-j.invariant (sym c.in-End.ensures)
+-- ── the first index ──
+pub returns-in_err-next : goal.returns-in_err-next
+returns-in_err-next c =
+    let t = c.args.table in
+    let C = triangle_chain t.words.now t.modulus t.variables in
+    let e = err_from_is_err_and c.from_residual.result c.from_residual.ensures.1 in
+    rw (e.1, e.2) (strays_from C (reached_first C 0 c.args.system _ c.requires) (rw (← c.word.ensures) c.in_err-next.ensures))
 
-pub overflow_cast-result : goal.overflow_cast-result
-overflow_cast-result c = omega (arith, c.loop-j.invariant.enough.inside, (whole_records c.args.table.now c.requires.0.whole).2)
+pub loop-next-init : goal.loop-next-init
+loop-next-init c =
+    let t = c.args.table in
+    let C = triangle_chain t.words.now t.modulus t.variables in
+    let l = leads_from C (reached_first C 0 c.args.system _ c.requires) (rw (← c.word.ensures) c.in_ok-next.ensures) in
+    record { inside = λ i. leads_inside C l; leads = l }
 
-pub returns-in-Astray : goal.returns-in-Astray
-returns-in-Astray c = let a = c.args in reached_astray (triangle_chain a.table.now a.p a.n) c.loop-j.invariant (sym c.in-Astray.ensures)
+pub returns : goal.returns
+returns c = let t = c.args.table in leads_end (triangle_chain t.words.now t.modulus t.variables) c.loop-next.invariant.leads c.in_default.is
 
-pub check_head-requires : goal.check_head-requires
-check_head-requires c = (c.requires.0, (next_inside c.args.table.now c.loop-j.at c.loop-j.i c.in-To.j (sym c.in-To.ensures)).1)
+-- ── the polynomial that it leads to ──
+pub returns-in_err-check_head : goal.returns-in_err-check_head
+returns-in_err-check_head c =
+    let t = c.args.table in
+    let e = err_from_is_err_and c.from_residual-in_err-check_head.result c.from_residual-in_err-check_head.ensures.1 in
+    rw (e.1, e.2) (triangle_refused t.words.now t.modulus t.variables c.loop-next.invariant.leads c.in-Some.is c.in_err-check_head.ensures)
 
-pub returns-in-Refused : goal.returns-in-Refused
-returns-in-Refused c =
-    let a = c.args in
-    reached_refused (triangle_chain a.table.now a.p a.n) c.loop-j.invariant (sym c.in-To.ensures)
-    (ap checked (led_refused a.table.now a.p a.n c.loop-j.last _ (checked_refused _ (sym c.in-Refused.ensures))))
+pub returns-then-leader-last : goal.returns-then-leader-last
+returns-then-leader-last c =
+    let t = c.args.table in
+    rw c.refusal.ensures
+    (triangle_broken t.words.now t.modulus t.variables c.loop-next.invariant.leads c.in-Some.is c.in_ok-check_head.ensures c.leader_at-leader.ensures c.if-leader-last.true)
 
-pub leader_at-k-requires : goal.leader_at-k-requires
-leader_at-k-requires c = (
-  c.requires.0,
-  (next_inside c.args.table.now c.loop-j.at c.loop-j.i c.in-To.j (sym c.in-To.ensures)).1,
-  checked_good _ (sym c.in_default.ensures),
-)
+-- ── the next index ──
+pub returns-in_err-next-2 : goal.returns-in_err-next-2
+returns-in_err-next-2 c =
+    let t = c.args.table in
+    let e = err_from_is_err_and c.from_residual-in_err-next-2.result c.from_residual-in_err-next-2.ensures.1 in
+    let on = triangle_on t.words.now t.modulus t.variables c.loop-next.invariant.leads c.in-Some.is c.in_ok-check_head.ensures c.leader_at-leader.ensures c.if-leader-last.false in
+    rw (e.1, e.2) (strays_from (triangle_chain t.words.now t.modulus t.variables) on (rw (← c.word-in-Some.ensures) c.in_err-next-2.ensures))
 
-pub overflow_cast-result-then-k-last : goal.overflow_cast-result-then-k-last
-overflow_cast-result-then-k-last c =
-    let inside = next_inside c.args.table.now c.loop-j.at c.loop-j.i c.in-To.j (sym c.in-To.ensures) in
-    omega (arith, inside.1, (whole_records c.args.table.now c.requires.0.whole).2)
+pub loop-next-smaller : goal.loop-next-smaller
+loop-next-smaller c =
+    let inside = c.loop-next.invariant.inside c.in-Some.i c.in-Some.is in
+    left_less c.args.table.words.now c.word-in-Some.result c.in-Some.i c.in_ok-next-2.next c.loop-next.next c.in-Some.is inside c.in_ok-next-2.ensures
 
-pub returns-then-k-last : goal.returns-then-k-last
-returns-then-k-last c =
-    let a = c.args in
-    let f : (f : Poly) × (read_head a.table.now a.p a.n c.in-To.j ≡ good f) = checked_good _ (sym c.in_default.ensures) in
-    reached_refused (triangle_chain a.table.now a.p a.n) c.loop-j.invariant (sym c.in-To.ensures)
-    (ap checked (led_broken a.table.now a.p a.n c.loop-j.last _ f.1 (omega (arith, c.leader_at-k.ensures f.0 f.1))))
-
-pub word-i-requires-in-To : goal.word-i-requires-in-To
-word-i-requires-in-To c = ((next_inside c.args.table.now c.loop-j.at c.loop-j.i c.in-To.j (sym c.in-To.ensures)).1, omega arith)
-
-pub loop-j-smaller : goal.loop-j-smaller
-loop-j-smaller c = omega (arith, next_inside c.args.table.now c.loop-j.at c.loop-j.i c.in-To.j (sym c.in-To.ensures))
-
-pub loop-j-preserved : goal.loop-j-preserved
-loop-j-preserved c =
-    let a = c.args in
-    let f : (f : Poly) × (read_head a.table.now a.p a.n c.in-To.j ≡ good f) = checked_good _ (sym c.in_default.ensures) in
-    let k = c.leader_at-k.ensures f.0 f.1 in
-    rw (c.word-i-in-To.ensures, k)
-    (reached_on (triangle_chain a.table.now a.p a.n) c.loop-j.invariant (sym c.in-To.ensures) (led_good a.table.now a.p a.n c.loop-j.last _ f.1 (omega (arith, k))))
+pub loop-next-preserved : goal.loop-next-preserved
+loop-next-preserved c =
+    let t = c.args.table in
+    let C = triangle_chain t.words.now t.modulus t.variables in
+    let on = triangle_on t.words.now t.modulus t.variables c.loop-next.invariant.leads c.in-Some.is c.in_ok-check_head.ensures c.leader_at-leader.ensures c.if-leader-last.false in
+    let l = leads_from C on (rw (← c.word-in-Some.ensures) c.in_ok-next-2.ensures) in
+    record { inside = λ i. leads_inside C l; leads = l }

@@ -1,14 +1,18 @@
--- What is read from index i on, which record `at` holds, decides the whole chain. The measure is the number of records behind `at`.
-use Rattle.std.proofs.Common.{◌-◌}
+-- What is read from where the index leads, with the last leading variable, decides what is read of the whole chain.
+use Rattle.std.proofs.Common.{◌≡◌, ℕ, ◌<◌, Some}
 use Rattle.tables.specs.Words.{word, records}
 use Rattle.tables.specs.Read.{read_triangle}
 use Rattle.tables.specs.Solve.{checked}
-use Rattle.tables.specs.laws.Chains.{triangle_chain, Reached}
+use Rattle.tables.specs.laws.Chains.{Leads, left, triangle_chain}
 use Rattle.systems.proofs.check_triangle.Given as goal
 
-abbrev pub invariant-loop-j : goal.invariant-loop-j
-invariant-loop-j l =
-    Reached (triangle_chain l.table l.p l.n) l.last l.at l.i (checked (read_triangle l.table l.p l.n (records l.table) 0 l.system (word l.table l.system 0)))
+abbrev pub invariant-loop-next : goal.invariant-loop-next
+invariant-loop-next l =
+    let w = l.table.words.now in record {
+      inside : (i : ℕ) → l.next ≡ Some i → i < records w;
+      leads : Leads (triangle_chain w l.table.modulus l.table.variables) l.last l.next
+          (checked (read_triangle w l.table.modulus l.table.variables (records w) 0 l.system (word w l.system 0)));
+    }
 
-abbrev pub decreases-loop-j : goal.decreases-loop-j
-decreases-loop-j l = records l.table - l.at
+abbrev pub decreases-loop-next : goal.decreases-loop-next
+decreases-loop-next l = left l.table.words.now l.next

@@ -2,14 +2,14 @@
 use Rattle.std.proofs.Common.{◌≡◌}
 use Rattle.tables.specs.Words.{records}
 use Rattle.tables.specs.laws.Linked.{left}
-use Rattle.evaluation.proofs.ValueLaws.{MatchLeft}
-use Rattle.evaluation.proofs.all_match.Given as goal
+use Rattle.evaluation.proofs.ValueLaws.{TestsLeft}
+use Rattle.evaluation.proofs.all_pass.Given as goal
 
 abbrev pub invariant-loop-r : goal.invariant-loop-r
-invariant-loop-r l = record {
-  on_table : l.r.table.now ≡ l.table;
-  still : MatchLeft l.table l.p l.n l.from l.first l.point l.zero l.r.at;
+invariant-loop-r g l = record {
+  on_table : l.r.table ≡ l.table.words;
+  still : TestsLeft (goal.F-post g l.test) l.table l.from l.first l.point l.r.at;
 }
 
 abbrev pub decreases-loop-r : goal.decreases-loop-r
-decreases-loop-r l = left (records l.table) l.r.at
+decreases-loop-r g l = left (records l.table.words.now) l.r.at

@@ -1,5 +1,5 @@
 -- The text of an answer, and of the list in the output, is that of the elimination; the other buffers are as `Responded` says.
-use mathlib.Core.Path.{◌≡◌, refl, sym, ◌∙◌, ap, ap₂}
+use mathlib.Core.Path.{◌≡◌, refl, sym, ◌∙◌, ap, ap₂, subst}
 use mathlib.Core.Bool.{Bool, true, false, not, ◌||◌}
 use mathlib.Core.List.{List, [], ◌∷◌, ◌++◌}
 use Prim.Native.Nat.{ℕ, zero, suc, ◌+◌, ◌*◌, ◌%◌, ◌≤◌, ◌<◌}
@@ -18,6 +18,7 @@ use Rattle.delivery.specs.Answer.{answer_of}
 use Rattle.extent.specs.Extent.{extent}
 use Rattle.extent.proofs.laws.Extent.{extent_of_list}
 use Rattle.decoding.specs.Words.{words_of}
+use Rattle.lines.specs.Written.{Written, Adds}
 use Rattle.lines.specs.Text.{line_text}
 use Rattle.responses.specs.Said.{records_text, said_of, said}
 use Rattle.responses.specs.Response.{answer_text, too_long_or_broken, response}
@@ -70,15 +71,17 @@ module _ (bytes : List ℕ) where
   unfolding response
   by_test p = ap (λ (a : Bool). elim a as (λ c. List ℕ) [ true ↦ line_text (1 ∷ 0 ∷ 0 ∷ []) | false ↦ answer_text (eliminated (words_of bytes) 16384 16384 100000) ]) p
 
-  pub refused : {t : List ℕ} → too_long_or_broken bytes ≡ true → t ≡ line_text (1 ∷ 0 ∷ 0 ∷ []) → t ≡ response bytes
-  refused p e = e ∙ sym (by_test p)
+  pub refused : {t t' : Written} → too_long_or_broken bytes ≡ true → Adds (line_text (1 ∷ 0 ∷ 0 ∷ [])) t t' → Adds (response bytes) t t'
+  refused p a = rw (by_test p) a
 
-  pub answered : {t : List ℕ} {a : Answer} {out : List ℕ} (w out₀ : List ℕ) (work output : ℕ) → too_long_or_broken bytes ≡ false → w ≡ words_of bytes → work ≡ 16384 → output ≡ 16384
-      → a ≡ answer_of (eliminated w work output 100000) → out ≡ output_after (eliminated w work output 100000) out₀ → t ≡ said a out → t ≡ response bytes
-  answered {t} {a} {out} w out₀ work output p ew ek eo ea eout e =
+  pub answered : {t t' : Written} {a : Answer} {out : List ℕ} (w out₀ : List ℕ) (work output : ℕ) → too_long_or_broken bytes ≡ false → w ≡ words_of bytes → work ≡ 16384 → output ≡ 16384
+      → a ≡ answer_of (eliminated w work output 100000) → out ≡ output_after (eliminated w work output 100000) out₀ → Adds (said a out) t t' → Adds (response bytes) t t'
+  answered {t} {t'} {a} {out} w out₀ work output p ew ek eo ea eout put =
       let x = eliminated w work output 100000 in
-      e ∙ ap₂ (λ (a : Answer) (o : List ℕ). said a o) ea eout
+      subst (λ (s : List ℕ). Adds s t t')
+      (ap₂ (λ (a : Answer) (o : List ℕ). said a o) ea eout
       ∙ said_of_elimination w work output 100000 out₀ x refl
       ∙ ap (λ (v : List ℕ). answer_text (eliminated v work output 100000)) ew
       ∙ ap₂ (λ (m n : ℕ). answer_text (eliminated (words_of bytes) m n 100000)) ek eo
-      ∙ sym (by_test p)
+      ∙ sym (by_test p))
+      put

@@ -1,10 +1,6 @@
 -- Laws about the text of an answer.
-use mathlib.Core.Path.{◌≡◌, sym, ◌∙◌, ap}
-use mathlib.Core.List.{List, [], ◌∷◌, ◌++◌, append_assoc, append-nil}
-use Prim.Native.Nat.{ℕ, zero, suc, ◌+◌, ◌*◌, ◌-◌, ◌<◌}
-use native.Mathlib.Omega.{arith}
-use native.Mathlib.Numerals.{add-one}
-use lib.ListN.{take, drop}
+use Rattle.std.proofs.Common.{◌≡◌, refl, ◌∙◌, ap, List, [], ◌∷◌, ◌++◌, append_assoc, append-nil, length-append, ℕ, zero, suc, ◌+◌, ◌*◌, add-one, arith, take, drop}
+use Rattle.lines.specs.Written.{Written, Adds}
 use Rattle.lines.specs.Text.{line_text}
 use Rattle.tables.specs.Reason.{number}
 use Rattle.tables.specs.declared.Reason.{Reason}
@@ -13,40 +9,36 @@ use Rattle.run.specs.declared.Outcome.TheVariants.{Systems, Refused}
 use Rattle.extent.specs.Extent.{extent}
 use Rattle.responses.specs.Said.{records_text, said_of}
 
--- The text x and the lines of the records that are left, from record i on, are the whole.
-abbrev pub Recorded : List ℕ → ℕ → List ℕ → ℕ → List ℕ → Type 0
-Recorded w n whole i x = x ++ records_text w i (n - i) ≡ whole
+Adds-append : {s s' : List ℕ} {t t' t'' : Written} → Adds s t t' → Adds s' t' t'' → Adds (s ++ s') t t''
+Adds-append {s} {s'} {t} a b =
+    record { bytes = b.bytes ∙ ap (λ (x : List ℕ). x ++ s') a.bytes ∙ append_assoc t.bytes s s'; free = omega (arith, a.free, b.free, length-append s s') }
 
-next_line : (w : List ℕ) (i k : ℕ) → 0 < k → records_text w i k ≡ line_text (take 4 (drop (4 * i) w)) ++ records_text w (suc i) (k - 1)
+-- ── the records of a list ──
+records_text-suc : (w : List ℕ) (i k : ℕ) → records_text w i (suc k) ≡ records_text w i k ++ line_text (take 4 (drop (4 * (i + k)) w))
 unfolding records_text
-next_line w i zero h = absurd (omega arith)
-next_line w i (suc k) h = let e : k ≡ suc k - 1 = omega arith in ap (λ (m : ℕ). line_text (take 4 (drop (4 * i) w)) ++ records_text w (suc i) m) e
+records_text-suc w i zero = let e : i + 0 ≡ i = omega arith in rw (e, append-nil) refl
+records_text-suc w i (suc k) =
+    let e : suc i + k ≡ i + suc k = omega arith in
+    rw (records_text-suc w (suc i) k, e, append_assoc) refl
 
-pub recorded_on : (w : List ℕ) (n i k : ℕ) (x : List ℕ) {y whole : List ℕ} → i < n → k ≡ 4 → Recorded w n whole i x → y ≡ x ++ line_text (take k (drop (4 * i) w)) → Recorded w n whole (i + 1) y
-recorded_on w n i k x {y} h f r e =
-    let l = line_text (take 4 (drop (4 * i) w)) in
-    let m : n - (i + 1) ≡ n - i - 1 = omega arith in
-    ap (λ (j : ℕ). y ++ records_text w j (n - (i + 1))) (add-one i)
-    ∙ ap (λ (j : ℕ). y ++ records_text w (suc i) j) m
-    ∙ ap (λ (t : List ℕ). t ++ records_text w (suc i) (n - i - 1)) (e ∙ ap (λ (j : ℕ). x ++ line_text (take j (drop (4 * i) w))) f)
-    ∙ append_assoc x l (records_text w (suc i) (n - i - 1))
-    ∙ sym (ap (λ (t : List ℕ). x ++ t) (next_line w i (n - i) (omega arith)))
-    ∙ r
-
-pub recorded_end : (w : List ℕ) (n i : ℕ) (x : List ℕ) {whole : List ℕ} → i ≡ n → Recorded w n whole i x → x ≡ whole
+pub no_record : (w : List ℕ) (t : Written) → Adds (records_text w 0 0) t t
 unfolding records_text
-recorded_end w n i x e r =
-    let z : 0 ≡ n - i = omega arith in
-    sym (append-nil x) ∙ ap (λ (k : ℕ). x ++ records_text w i k) z ∙ r
+no_record w t = record { bytes = rw append-nil refl; free = omega arith }
+
+-- The line of one record more.
+pub next_record : (w : List ℕ) (i k : ℕ) {t t' t'' : Written} → k ≡ 4 → Adds (records_text w 0 i) t t' → Adds (line_text (take k (drop (4 * i) w))) t' t''
+    → Adds (records_text w 0 (i + 1)) t t''
+next_record w i k f a b =
+    let z : 0 + i ≡ i = omega arith in
+    rw (add-one, records_text-suc w 0 i, z) (Adds-append a (rw f at b))
 
 -- ── the whole text ──
-pub said_refused : (steps at : ℕ) (out : List ℕ) {why : Reason} {o : Outcome} {n : ℕ} {t : List ℕ} → o ≡ Refused why at → n ≡ number why → t ≡ line_text (n ∷ steps ∷ at ∷ []) → t ≡ said_of steps o out
-unfolding said_of
-said_refused steps at out eo en e = e ∙ ap (λ (k : ℕ). line_text (k ∷ steps ∷ at ∷ [])) en ∙ ap (λ (x : Outcome). said_of steps x out) (sym eo)
+module _ (steps : ℕ) (out : List ℕ) {o : Outcome} {t t' : Written} where
+  pub said_refused : {why : Reason} {at n : ℕ} → o ≡ Refused why at → n ≡ number why → Adds (line_text (n ∷ steps ∷ at ∷ [])) t t' → Adds (said_of steps o out) t t'
+  unfolding said_of
+  said_refused eo en a = rw (eo, ← en) a
 
-pub said_systems : (steps count : ℕ) (out x : List ℕ) {o : Outcome} {k : ℕ} {t : List ℕ} → o ≡ Systems count → x ≡ line_text (0 ∷ steps ∷ count ∷ [])
-    → k ≡ extent out → t ≡ x ++ records_text out 0 k → t ≡ said_of steps o out
-unfolding said_of
-said_systems steps count out x {o} {k} eo ex ek e =
-    e ∙ ap (λ (j : ℕ). x ++ records_text out 0 j) ek ∙ ap (λ (y : List ℕ). y ++ records_text out 0 (extent out)) ex
-    ∙ ap (λ (z : Outcome). said_of steps z out) (sym eo)
+  pub said_systems : {count k : ℕ} {t'' : Written} → o ≡ Systems count → k ≡ extent out → Adds (line_text (0 ∷ steps ∷ count ∷ [])) t t'
+      → Adds (records_text out 0 k) t' t'' → Adds (said_of steps o out) t t''
+  unfolding said_of
+  said_systems eo ek a b = rw eo (Adds-append a (rw ek at b))

@@ -17,7 +17,8 @@ use Rattle.rules.specs.Run.{run, first_branch, start, run_of}
 use Rattle.rules.specs.Written.{terms_words, heads_words, systems_words, list_words, list_records}
 use Rattle.rules.specs.Eliminate.{room_of, limits_of, eliminated}
 use Rattle.decoding.specs.Words.{words_from, words_of}
-use Rattle.lines.specs.Text.{digits_of, decimal, rest_text, line_text}
+use Rattle.std.specs.Fmt.{digits}
+use Rattle.lines.specs.Text.{rest_text, line_text}
 use Rattle.responses.specs.Said.{records_text}
 use Rattle.responses.specs.Response.{answer_text, response}
 
@@ -51,5 +52,5 @@ unfolding no_divisor_from is_prime is_modulus inverse inverse_from
     polynomials_size branch_size branches_size systems_size live
     rule_with rule_of within_room remainder_by replace apply step run first_branch start run_of
     terms_words heads_words systems_words list_words list_records room_of limits_of eliminated
-    words_from words_of digits_of decimal rest_text line_text records_text answer_text response
+    words_from words_of digits rest_text line_text records_text answer_text response
 printed = refl

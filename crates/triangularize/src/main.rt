@@ -3,7 +3,7 @@
 // or the refusal's record; after an outcome of 0, each written record on a line.
 #![tactic(auto)]
 
-use lines::text;
+use lines::Text;
 use std::io;
 
 // One byte more than is accepted is read. The longest text has 4,096 lines of 85 bytes and one of 64; 128 bytes more are free.
@@ -12,8 +12,9 @@ fn main(rt: HostRuntime) -> io::Result<()> {
     let mut words = [0u32; 16384];
     let mut work = [0u32; 16384];
     let mut output = [0u32; 16384];
-    let mut text = [0u8; 348352];
+    let mut buffer = [0u8; 348352];
     let n = input::read_full(&mut rt.stdin(), &mut bytes);
-    let end = responses::respond(&bytes[..n], &mut words, &mut work, &mut output, &mut text);
-    text::write(&mut rt.stdout(), &text, end)
+    let mut text = Text::new(&mut buffer);
+    responses::respond(&bytes[..n], &mut words, &mut work, &mut output, &mut text);
+    text.write(&mut rt.stdout())
 }

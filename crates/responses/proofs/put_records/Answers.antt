@@ -1,21 +1,21 @@
-use Rattle.std.proofs.Common.{arith, ◌+◌, ◌*◌, ◌-◌, take, drop}
+use Rattle.std.proofs.Common.{arith, ◌≡◌, ◌+◌, ◌*◌, ◌-◌, drop, length, length-append, ap}
 use Rattle.std.proofs.Math.ListN.{length-take}
-use Rattle.responses.proofs.SaidLaws.{recorded_on, recorded_end}
+use Rattle.responses.proofs.SaidLaws.{no_record, next_record}
 use Rattle.responses.proofs.put_records.Goals as goal
+
+pub loop-i-init : goal.loop-i-init
+loop-i-init c = record { near = omega arith; added = no_record c.args.list.now c.args.text.now }
 
 pub loop-i-preserved : goal.loop-i-preserved
 loop-i-preserved c =
     let l = c.loop-i in
     let w = c.args.list.now in
     let k = 4 * l.i + 4 - 4 * l.i in
-    let e = c.put_line-last.ensures in
+    let e = c.put_line.ensures in
     record {
-      within = omega arith;
-      near = omega (arith, e.near, length-take k (drop (4 * l.i) w));
-      recorded = recorded_on w c.args.n l.i k (take l.last l.text) c.loop-i-test.true (omega arith) l.invariant.recorded e.is;
+      near = omega (arith, l.invariant.near, e.near, e.is.free, ap length e.is.bytes, length-append l.text.bytes, length-take k (drop (4 * l.i) w));
+      added = next_record w l.i k (omega arith) l.invariant.added e.is;
     }
 
 pub returns : goal.returns
-returns c =
-    let l = c.loop-i in
-    (omega arith, recorded_end c.args.list.now c.args.n l.i (take l.last l.text) (omega arith) l.invariant.recorded)
+returns c = let e : c.args.n ≡ c.loop-i.i = omega arith in rw e c.loop-i.invariant.added

@@ -2,7 +2,7 @@
 // buffer, of words that stood in the buffer already that they are taken in order, none skipped, and of a buffer filled anew that its first is taken.
 #![tactic(auto)]
 
-ghost use Rattle.std.specs.Prelude.{◌≡◌, ◌+◌, ◌-◌, ◌≤◌, ◌<◌, length, drop, get_or, Some, None, IsSome, IfSome};
+ghost use Rattle.std.specs.Prelude.{◌≡◌, ◌+◌, ◌-◌, ◌≤◌, ◌<◌, length, take, drop, get_or, Some, None, IsSome, IfSome};
 ghost use Rattle.decoding.specs.Words.{word_at};
 ghost use Rattle.input.specs.Input.{Before, Enough, Left, further, Taken, Counted};
 
@@ -40,6 +40,13 @@ impl<'a, R: Read> Words<'a, R> {
             at: 0,
             end: 0,
         }
+    }
+
+    // The bytes that are read and not yet used.
+    pub fn buffer(&self) -> &[u8]
+        ensures { result.now ≡ take (self.now.end - self.now.at) (drop self.now.at self.now.bytes) }
+    {
+        &self.buffer[self.at..self.end]
     }
 
     // The next word. The buffer is filled anew when it holds no whole word more.

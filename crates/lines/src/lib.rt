@@ -65,11 +65,18 @@ impl<'a> Text<'a> {
         self.put(itoa::Buffer::new().format(n).as_bytes());
     }
 
+    // The text so far.
+    pub fn as_bytes(&self) -> &[u8]
+        ensures { result.now ≡ self.now.bytes }
+    {
+        &self.buffer[..self.end]
+    }
+
     // Writes the text so far.
     pub fn write<W: Write>(&self, out: &mut W) -> io::Result<()>
         ensures { OnOk result (Appends (W.contents out.old) (W.contents out.new) self.now.bytes) }
     {
-        out.write_all(&self.buffer[..self.end])
+        out.write_all(self.as_bytes())
     }
 
     // Makes room for 128 bytes more: writes the text so far if there is less, and begins anew.

@@ -50,11 +50,11 @@ def places():
     yield 1, "numbers for none", named("terms::leader monomials::highest heads::leader_at highest_leader systems::leader_at search::rank_at"
         " lists::first_solved extent::chain_last elimination_bench::now")
     yield 1, "bools and numbers for kinds", grep(r"^ *pub \w+: bool,$|^ *let mut \w+ = false;") + [
-        (*f[:3], "%s of %s" % (n, f.name)) for f in FNS for n, t in f.params if t == "bool" and n != "b" or n in ("kind", "reason")]
+        (*f[:3], "%s of %s" % (n, f.name)) for f in FNS for n, t in f.params if t == "bool" and n != "b" or n in ("kind", "reason") and t in ("u32", "u64")]
     yield 1, "refusals as numbers", named("numbers::number elimination_bench::outcome_number polynomial_jobs::refusal") + grep(
         r"^ *pub outcome: u32|^ *outcome: 0,|Line \{ outcome: 0|refusal\(out, tag, \d+\)|= \[[01], (0|answer)")
     yield 2, "functions that have a twin", twins(TWINS, named)
-    yield 2, "types that have a twin (at point 1 too)", twins(TWIN_TYPES, lambda g: grep(r"^(pub )?(enum|struct) (%s)\b" % "|".join(g.split())))
+    yield 2, "types that have a twin (at point 1 too)", twins(TWIN_TYPES, lambda g: grep(r"^(pub )?(enum|struct) (%s)\b(?!<)" % "|".join(g.split())))
     yield 2, "statements written again for each constant", grep(r"if p % (\d|d|\(d \+ \d+\)) == 0|= montgomery::multiply_reduced")
     loops = list(all_loops())
     yield 3, "loops that count an index", [x for kind, x in loops if kind == "counts"]
@@ -64,7 +64,7 @@ def places():
     yield 4, "order: the lesser, the greatest, the least", named(ORDER) + grep(r"^ *if (\w+) < (\w+) \{\n(\s+\w+ = \w+;\n)?\s+(\1 = \2|\2 = \1);")
     yield 4, "copying and filling: functions, and calls of the copy", named(COPY) + grep(r"polynomials::copy\(")
     yield 4, "conversion", named(CONVERT) + grep(r"4294967296\) as u32|refusal\(out, tag, \d+\)")
-    yield 4, "printing", named(PRINT)
+    yield 4, "printing", [x for x in named(PRINT) if "operands" not in x[1]]
     yield 4, "[lines with casts by `as`]", grep(r"^.* as ([ui]\d|usize).*$")
     stands = collections.defaultdict(set)
     for f, fact in ((f, fact) for f in FNS for c in f.clauses for fact in facts(c)):
@@ -80,7 +80,8 @@ def places():
     yield 6, "how many words of a lent slice were written, as an answer", where(lambda f: lent(f) and re.search(r"usize|Formed|Gathered|Turn", f.result))
     yield 6, "polynomials as flat pairs of words: functions that take or give [u64]", where(lambda f: "[u64]" in f.result + str(f.params))
     yield 6, "the work area as an arena of indices: functions that take it", where(lambda f: {"w", "work"} & set(dict(f.params)))
-    yield 6, "tables and lists as flat words: functions that take one", where(lambda f: {"table", "list", "systems"} & set(dict(f.params)))
+    yield 6, "tables and lists as flat words: functions that take one", where(lambda f: any(
+        "[u32]" in t and (n in ("table", "list", "systems") or n == "words" and "Table<" in f.result) for n, t in f.params))
     yield 6, "lists searched by hand", named("finding::contains search::other_from terms::initial_words")
     yield 7, "a switch tested", grep(r"if closing \{|if in_q \{|if crowded \{|root != zero|if kind == \d")
     yield 7, "a switch set, or handed over as a literal", grep(r"closing: (true|false)|, (true|false)\)|crowded = (true|false)")
@@ -166,7 +167,7 @@ def all_loops():
         for m in re.compile(r"^( *)(?:let \w+ = )?(?:'\w+: )?(while|loop)\b(.*)\{$", re.M).finditer(text, f.start, f.end):
             body = text[m.end():text.index("\n" + m.group(1) + "}", m.end())]
             counts = any(re.search(r"\b%s [+-]= \d+;" % v, body) for v in re.findall(r"[a-z]\w*", m.group(3)))
-            walks = re.search(r"words::follow\(|readers::step\(|word\(table, \w, 3\) as|= (i|end) \+ 1 \+ n;|\+= size;", body)
+            walks = re.search(r"\bfollow\(|readers::step\(|= r\.step\(|word\((table, )?\w, 3\) as|= (i|end) \+ 1 \+ n;|\+= size;", m.group(0) + body)
             yield "walks" if walks else "counts" if counts else "other", (*f[:2], text.count("\n", 0, m.start()) + 1, m.group(0).strip())
 
 

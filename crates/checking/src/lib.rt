@@ -58,6 +58,7 @@ fn check_terms(table: Table<'_>, head: usize) -> Result<(), Refusal>
     requires { head < records table.words.now }
     ensures { result ≡ checked (read_terms table.entry.words.now table.entry.modulus table.entry.variables (records table.entry.words.now) 0 first head (word table.entry.words.now head 0)) }
 {
+    // No iterator: it would yield a Result for each record, and the loop would stand around it all the same.
     let mut next = table.follow(head, table.word(head, 0))?;
     let mut m: u32 = 0;
     let mut last = None;

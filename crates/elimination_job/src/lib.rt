@@ -43,7 +43,8 @@ impl Heading {
 
 // Reads the next job up to its points, its table to the start of the slice.
 pub fn read<R: Read>(words: &mut Words<'_, R>, table: &mut [u32]) -> Option<Shape>
-    ensures { IfSome result (λ shape. shape.table ≤ length table.new) }
+    ensures shape { IfSome result (λ shape. shape.table ≤ length table.new) }
+    ensures capacity { length words.new.bytes ≡ length words.old.bytes }
 {
     let limit = words.next()?;
     let work = words.next()? as usize;

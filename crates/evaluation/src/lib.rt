@@ -33,6 +33,7 @@ fn value_at(table: Table<'_>, head: usize, point: &[u32]) -> u64
     ensures { (f : Poly) → IsPolynomialAt table.entry head f → result ≡ value_modulo table.entry.modulus f point.now }
 {
     let mut v = 0;
+    // A chain is walked by the reader that document 01 names.
     let mut r = Reader::new(table.words, head).step(0);
     while !r.is_over() {
         v = add_term(table, r.at(), v, point);
@@ -65,7 +66,8 @@ fn all_pass<F: Fn(u64) -> bool>(
     true
 }
 
-// Whether all polynomials from the index `first` on, which record `from` holds, are zero at the point.
+// Whether all polynomials from the index `first` on, which record `from` holds, are zero at the point. `from` is for the contract alone
+// (docs/DECISIONS.md, 26).
 pub fn all_zero(table: Table<'_>, from: usize, first: u32, point: &[u32]) -> bool
     requires record { from < records table.words.now }
     requires read { (fs : List Poly) × ArePolynomialsFrom table from first fs }

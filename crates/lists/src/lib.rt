@@ -24,7 +24,7 @@ fn is_solved(table: Table<'_>, i: usize, point: &[u32]) -> bool
     all_zero(table, i, table.word(i, 0), point) && none_zero(table, i, table.word(i, 1), point)
 }
 
-// The place of the first system that the point solves, from 1; 0 for none.
+// The place of the first system that the point solves, from 1, or 0: document 01's answer.
 fn first_solved(table: Table<'_>, point: &[u32]) -> u32
     requires read { (ss : List System) × AreSystemsOf table ss }
     requires point { Point table.modulus point.now }

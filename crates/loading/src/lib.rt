@@ -49,6 +49,7 @@ fn load_head(table: Table<'_>, head: usize, out: &mut [u64]) -> usize
         → Written f result out.new × Holds table.entry.modulus (take result out.new) }
 {
     let mut k = 0;
+    // The chain is accepted: no index is tested again.
     let mut i = table.word(head, 0) as usize;
     while i != 0 {
         out[k] = table.word(i, 0) as u64;
@@ -83,6 +84,7 @@ fn put_heads(table: Table<'_>, first: u32, target: Target, work: &mut [u32], r: 
         → Filled table.entry.modulus (capacity work.old) target fs c result (view work.new) }
     ensures outside_stays { outside work.new ≡ outside work.old }
 {
+    // The chain is accepted: no index is tested again.
     let mut i = first as usize;
     while i != 0 {
         let m = load_monic(table, i, r);

@@ -4,6 +4,7 @@
 ghost use Rattle.std.specs.Prelude.{◌≡◌, ◌↔◌, ◌<◌, IsTrue};
 ghost use Rattle.tables.specs.Words.{word, records};
 
+// Document 01 names this form: "one small reader: the table and the record number reached".
 #[derive(Clone, Copy)]
 pub struct Reader<'a> {
     pub table: &'a [u32],

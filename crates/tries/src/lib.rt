@@ -1,7 +1,7 @@
 // Points against a table and its list, tried for `elimination_jobs`.
 #![tactic(auto)]
 
-ghost use Rattle.std.specs.Prelude.{◌≡◌, [], ◌∷◌, ◌≤◌};
+ghost use Rattle.std.specs.Prelude.{◌≡◌, [], ◌∷◌, ◌≤◌, length};
 ghost use Rattle.lines.specs.Written.{capacity};
 ghost use Rattle.tries.specs.Tried.{tried};
 
@@ -49,7 +49,8 @@ pub fn run_all<R: Read, W: Write>(
     text: &mut Text<'_>,
 ) -> io::Result<bool>
     requires { 128 ≤ capacity text.old }
-    ensures { capacity text.new ≡ capacity text.old }
+    ensures room { capacity text.new ≡ capacity text.old }
+    ensures buffer { length words.new.bytes ≡ length words.old.bytes }
 {
     let mut point = [0u32; 16];
     for _ in 0..count {

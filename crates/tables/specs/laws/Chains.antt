@@ -11,12 +11,13 @@ use Rattle.polynomials.specs.Division.{leader}
 use Rattle.polynomials.specs.laws.Bounds.{or_false_both}
 use Rattle.tables.specs.declared.Reason.{Reason}
 use Rattle.tables.specs.declared.Reason.TheVariants.{Shape, Prime, Variables, Index, Coefficient, Exponent, Order, Terms, Broken}
+use Rattle.tables.specs.declared.Astray.{Astray}
 use Rattle.tables.specs.declared.Refusal.{Refusal}
 use Rattle.tables.specs.Words.{word, records, is_whole, follow, Followed, end, to, astray, term_at}
 use Rattle.tables.specs.Read.{Read, good, refused, then, unless, Input, Before, after, not_below, has_above}
 use Rattle.tables.specs.Read.{read_term, read_terms, read_head, read_heads, read_triangle, read_system, read_systems, read_header}
 use Rattle.tables.specs.Solve.{refusal, checked}
-use Rattle.tables.specs.Walk.{Readable, accepted, next_from}
+use Rattle.tables.specs.Walk.{Readable, accepted, next, next_from}
 
 -- ── what was read ──
 pub checked_good : {A : Type 0} (r : Read A) → checked r ≡ Ok tt → (a : A) × (r ≡ good a)
@@ -130,6 +131,21 @@ followed_end w at i e = go (eqb i 0) (ltb at i && ltb i (records w)) (eqb-true i
     go true b u e = u refl
     go false true u e = let z : ◌≡◌ {A = ℕ} 0 1 = cc in absurd (omega arith)
     go false false u e = let z : ◌≡◌ {A = ℕ} 0 1 = cc in absurd (omega arith)
+
+pub next_end : (f : Followed) → next f ≡ Ok None → f ≡ end
+next_end end e = refl
+next_end (to j) e = cc
+next_end astray e = cc
+
+pub next_to : (f : Followed) {j : ℕ} → next f ≡ Ok (Some j) → f ≡ to j
+next_to end e = cc
+next_to (to j) e = cc
+next_to astray e = cc
+
+pub next_astray : (f : Followed) {a : Astray} → next f ≡ Err a → f ≡ astray
+next_astray end e = cc
+next_astray (to j) e = cc
+next_astray astray e = refl
 
 pub next_from_end : (at : ℕ) (f : Followed) → next_from at f ≡ Ok None → f ≡ end
 next_from_end at end e = refl

@@ -6,19 +6,17 @@ use Rattle.std.proofs.lemmas.Iterator.{cases_from_any, YieldsList-from_slice}
 use Rattle.std.proofs.lemmas.List.Elements.{AllWithin-from_all}
 use Rattle.wheel.specs.Wheel.{Turn}
 use Rattle.wheel.specs.declared.TheConstants.{OFFSETS}
+use Rattle.wheel.proofs.Turns.{turn_divided, turn_passed}
 use Rattle.wheel.proofs.turn_divides.Goals as goal
 
 at_most_24 : (k : ℕ) → k < 8 → slice_index OFFSETS k ≤ 24
 at_most_24 k h = AllWithin-from_all (λ o. o ≤ 24) OFFSETS (search rules) k 0 (omega arith) h
 
--- one of the candidates divides p, or none does and no other number of the turn is coprime to 30
+-- one of the candidates divides p, or none does
 turn_told : (p d : ℕ) (r : Bool) → d % 30 ≡ 7 →
     MatchBool r ((k : ℕ) × (k < 8) × HoldsAt (λ o. p % (d + o) ≡ 0) OFFSETS k) (AllWithin (λ o. p % (d + o) ≢ 0) OFFSETS 0 8) → Turn p d r
-turn_told p d true s (k, l, z) = (d + slice_index OFFSETS k, omega arith, omega (arith, at_most_24 k l), z 0)
-turn_told p d false s none = λ e l u C z.
-    let other : (k : ℕ) → k < 8 → e ≢ d + slice_index OFFSETS k =
-    λ k h q. none k 0 (omega arith) h (ap (λ x. p % x) (sym q) ∙ z) in
-    omega (arith, other 0, other 1, other 2, other 3, other 4, other 5, other 6, other 7)
+turn_told p d true s (k, l, z) = turn_divided p d (d + slice_index OFFSETS k) (z 0) (omega arith) (omega (arith, at_most_24 k l))
+turn_told p d false s none = turn_passed p d s (λ k h. none k 0 (omega arith) h)
 
 pub returns : goal.returns
 returns c =

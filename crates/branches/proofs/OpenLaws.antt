@@ -14,6 +14,7 @@ use Rattle.branches.specs.Open.{open_of}
 use Rattle.branches.proofs.AreaLaws.{lies, place, place_add, at_of, at_is, own_read, skips, finds, found, Found, place_inside}
 use Rattle.branches.proofs.AreaLaws.{parted_p, parted_q, parted_q_behind, parted_at_p, parted_at_q}
 use Rattle.branches.proofs.ControlLaws.{w0_is, w1_is, w2_is}
+use Rattle.polynomials.specs.declared.Term.{Term as Packed}
 
 -- What the control record and the branch's own say.
 pub opened_is : {v : List Rec} {most : ℕ} {b : Stored} {bs ss : List Stored} (H : Held v most (with_open b bs ss)) {at p q t : ℕ} → at ≡ (get_or v 0 zero_record).w0
@@ -86,7 +87,7 @@ module _ {v : List Rec} {most : ℕ} {b : Stored} {bs ss : List Stored} (H : Hel
         (each_member Storable i b.Q [] h H.storable.0.0.1) _ (t ∙ skip_q i (omega arith))
 
     pub end_q : skip_to v from o.q ≡ place (at_of bs) (b.P ++ b.Q)
-    end_q = skip_q o.q (omega (arith, q_is)) ∙ ap (λ (l : List (List ℕ)). place (at_of bs) (b.P ++ l)) (take_all o.q b.Q (omega (arith, q_is)))
+    end_q = skip_q o.q (omega (arith, q_is)) ∙ ap (λ (l : List (List Packed)). place (at_of bs) (b.P ++ l)) (take_all o.q b.Q (omega (arith, q_is)))
 
     pub end_q_inside : skip_to v from o.q ≤ most
     end_q_inside = skip_q_inside o.q (omega (arith, q_is))

@@ -11,6 +11,7 @@ use Rattle.stored.specs.Stored.{polys_records}
 use Rattle.branches.specs.Area.{capacity, outside}
 use Rattle.branches.proofs.AreaLaws.{Lies, place}
 use Rattle.branches.proofs.LengthLaws.{same_capacity}
+use Rattle.polynomials.specs.declared.Term.{Term as Packed}
 
 -- ── lists of records ──
 -- Two lists that agree from n on do so from m on.
@@ -23,7 +24,7 @@ drop_paste_le : (v : List Rec) (to : ℕ) (s : List Rec) (n : ℕ) {m : ℕ} →
 drop_paste_le v to s n i k h = drop_further (paste v to s n) v h (drop-paste v to s n i k)
 
 -- What lies behind a branch, the free records and the systems is `beyond`.
-pub drop_lies : {v pre : List Rec} {own : Rec} {fs : List (List ℕ)} {free : List Rec} (systems : List Rec) {beyond : List Rec} {at most : ℕ} → Lies v pre own fs free (systems ++ beyond) at
+pub drop_lies : {v pre : List Rec} {own : Rec} {fs : List (List Packed)} {free : List Rec} (systems : List Rec) {beyond : List Rec} {at most : ℕ} → Lies v pre own fs free (systems ++ beyond) at
     → place at fs + length free + length systems ≡ most → drop most v ≡ beyond
 drop_lies {v} {pre} {own} {fs} {free} systems {beyond} {at} {most} L room =
     let front : List Rec = pre ++ (own ∷ (polys_records fs ++ (free ++ systems))) in

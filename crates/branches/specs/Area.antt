@@ -8,12 +8,13 @@ use Rattle.residues.specs.Each.{Each}
 use Rattle.records.specs.Records.{Rec, record_of, view, words_behind}
 use Rattle.stored.specs.Stored.{polys_records, Storable}
 use Rattle.branches.specs.Words.{put_p, put_q_before, remove}
+use Rattle.polynomials.specs.declared.Term.{Term as Packed}
 
--- A branch, its polynomials as pairs of words.
+-- A branch, its polynomials as packed terms.
 pub record Stored : Type 0 where
-  pub P : List (List ℕ)
-  pub Q : List (List ℕ)
-  pub T : List (List ℕ)
+  pub P : List (List Packed)
+  pub Q : List (List Packed)
+  pub T : List (List Packed)
 
 -- Its records: the counts and where the branch under it starts; then P, Q and T.
 abbrev pub branch_records : ℕ → Stored → List Rec
@@ -73,10 +74,10 @@ has_branch a = elim a.branches [ [] ↦ false | b ∷ bs ↦ true ]
 abbrev pub with_open : Stored → List Stored → List Stored → Area
 with_open b bs ss = record { branches = b ∷ bs; systems = ss }
 
-abbrev pub put_into_p : List ℕ → Stored → Stored
+abbrev pub put_into_p : List Packed → Stored → Stored
 put_into_p f b = record { P = put_p f b.P; Q = b.Q; T = b.T }
 
-abbrev pub put_into_q : ℕ → List ℕ → Stored → Stored
+abbrev pub put_into_q : ℕ → List Packed → Stored → Stored
 put_into_q left f b = record { P = b.P; Q = put_q_before left f b.Q; T = b.T }
 
 abbrev pub without_p : ℕ → Stored → Stored
@@ -90,17 +91,17 @@ abbrev pub closed : ℕ → Stored → Stored
 closed i b = record { P = remove i b.P; Q = b.Q; T = get_or b.P i [] ∷ b.T }
 
 -- The branch set aside: P without its member at place i, then the initial, then the rest.
-abbrev pub aside : ℕ → List ℕ → List ℕ → Stored → Stored
+abbrev pub aside : ℕ → List Packed → List Packed → Stored → Stored
 aside i initial rest b = record { P = put_p rest (put_p initial (remove i b.P)); Q = b.Q; T = b.T }
 
 -- The branch that stays open at a split, made from the one set aside: the pivot f is put back at place i among the first n members of P, and
 -- the initial goes to the end of Q.
-abbrev pub kept_open : ℕ → ℕ → List ℕ → List ℕ → Stored → Stored
+abbrev pub kept_open : ℕ → ℕ → List Packed → List Packed → Stored → Stored
 kept_open i n f initial c =
     record { P = take i c.P ++ (f ∷ take (n - i) (drop i c.P)); Q = c.Q ++ (initial ∷ []); T = c.T }
 
 -- The state after a split.
-abbrev pub split_area : ℕ → List ℕ → List ℕ → Stored → List Stored → List Stored → Area
+abbrev pub split_area : ℕ → List Packed → List Packed → Stored → List Stored → List Stored → Area
 split_area i initial rest b bs ss = record { branches = put_into_q 0 initial b ∷ (aside i initial rest b ∷ bs); systems = ss }
 
 -- The state a if so many records hold it, and otherwise a₀.
@@ -108,7 +109,7 @@ abbrev pub fitting : ℕ → Area → Area → Area
 fitting most a₀ a = elim (leb (size a) most) [ true ↦ a | false ↦ a₀ ]
 
 -- The state in which a split that finds no room stops: the pivot is taken out of P; then, as far as there is room, the initial is put in and then the rest.
-abbrev pub unfinished_split : ℕ → ℕ → List ℕ → List ℕ → Stored → List Stored → List Stored → Area
+abbrev pub unfinished_split : ℕ → ℕ → List Packed → List Packed → Stored → List Stored → List Stored → Area
 unfinished_split most i initial rest b bs ss =
     fitting most (fitting most (with_open (without_p i b) bs ss) (with_open (put_into_p initial (without_p i b)) bs ss))
     (with_open (aside i initial rest b) bs ss)

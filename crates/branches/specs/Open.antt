@@ -9,6 +9,6 @@ abbrev pub open_of : Stored → List Stored → Open
 open_of b bs = record { first = (stack (b ∷ bs)).1 + 1; p = length b.P; q = length b.Q; t = length b.T }
 
 -- Its own record is 2 where an empty branch waits, in record 1.
-over_one : open_of (record { P = []; Q = [] ∷ ((1 ∷ 0 ∷ []) ∷ []); T = [] }) (empty ∷ []) ≡ record { first = 3; p = 0; q = 2; t = 0 }
+over_one : open_of (record { P = []; Q = [] ∷ ((record { coefficient = 1; monomial = 0 } ∷ []) ∷ []); T = [] }) (empty ∷ []) ≡ record { first = 3; p = 0; q = 2; t = 0 }
 unfolding polys_records
 over_one = refl

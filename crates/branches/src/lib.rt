@@ -1,6 +1,6 @@
 // The state of a run in the work area: the open branch, the waiting ones, and the listed systems; `specs/Area.antt` has the layout. How
-// many records it has; the listed systems (`specs/Listed.antt`); whether a polynomial is 1; and what is read of the open branch: its own record (`specs/Open.antt`), whether
-// Q holds a polynomial, and the words of one.
+// many records it has; the listed systems (`specs/Listed.antt`); whether a polynomial is 1; and what is read of the open branch: its own
+// record (`specs/Open.antt`), whether Q holds a polynomial, and the terms of one.
 #![tactic(auto)]
 
 ghost use Rattle.std.specs.Prelude.{◌≡◌, [], ◌≤◌, ◌<◌, length, get_or, take, drop};
@@ -10,15 +10,13 @@ ghost use Rattle.branches.specs.Listed.{listed_of};
 ghost use Rattle.branches.specs.Open.{open_of};
 ghost use Rattle.branches.specs.Words.{is_one};
 
+use polynomials::Term;
+
 // How many records of a work area are used.
 pub fn count_records(w: &[u32]) -> usize
     ensures { result ≡ capacity w.now }
 {
-    let all = w.len() / 4;
-    if all < 65536 {
-        return all;
-    }
-    65536
+    (w.len() / 4).min(65536)
 }
 
 // The listed systems: the record at which they start, and how many there are.
@@ -62,21 +60,21 @@ pub fn open_branch(w: &[u32]) -> Open
     }
 }
 
+// The term 1.
+const ONE: Term = Term {
+    coefficient: 1,
+    monomial: 0,
+};
+
 // Whether f is 1.
-pub fn is_one(f: &[u64]) -> bool
+pub fn is_one(f: &[Term]) -> bool
     ensures { result ≡ is_one f.now }
 {
-    if f.len() != 2 {
-        return false;
-    }
-    if f[0] != 1 {
-        return false;
-    }
-    f[1] == 0
+    f == [ONE].as_slice()
 }
 
 // Whether Q holds f.
-pub fn q_contains(w: &[u32], f: &[u64]) -> bool
+pub fn q_contains(w: &[u32], f: &[Term]) -> bool
     requires opened { Opened w.now }
     requires storable { Storable f.now }
     ensures { WhenOpen w.now (λ b bs ss. result ≡ member f.now b.Q) }
@@ -86,19 +84,19 @@ pub fn q_contains(w: &[u32], f: &[u64]) -> bool
     finding::contains(w, from, b.q as usize, f)
 }
 
-// How many words the member of P at place i takes.
-pub fn words_p(w: &[u32], i: usize) -> usize
+// How many terms the member of P at place i has.
+pub fn terms_p(w: &[u32], i: usize) -> usize
     requires opened { Opened w.now }
     requires when_open { WhenOpen w.now (λ b bs ss. i < length b.P) }
     ensures { WhenOpen w.now (λ b bs ss. result ≡ length (get_or b.P i [])) }
 {
     let b = open_branch(w);
     let head = stored::skip(w, b.first, i);
-    2 * records::get0(w, head) as usize
+    records::get0(w, head) as usize
 }
 
-// Loads the member of P at place i into the first words of `out`; how many.
-pub fn load_p(w: &[u32], i: usize, out: &mut [u64]) -> usize
+// Loads the member of P at place i into the first terms of `out`; how many.
+pub fn load_p(w: &[u32], i: usize, out: &mut [Term]) -> usize
     requires opened { Opened w.now }
     requires when_open { WhenOpen w.now (λ b bs ss. i < length b.P) }
     requires when_open_2 { WhenOpen w.now (λ b bs ss. length (get_or b.P i []) ≤ length out.old) }
@@ -111,11 +109,11 @@ pub fn load_p(w: &[u32], i: usize, out: &mut [u64]) -> usize
     stored::load(w, from, out)
 }
 
-// Loads the member of Q at place i into the first words of `out`; how many.
-pub fn load_q(w: &[u32], i: usize, out: &mut [u64]) -> usize
+// Loads the member of Q at place i into the first terms of `out`; how many.
+pub fn load_q(w: &[u32], i: usize, out: &mut [Term]) -> usize
     requires opened { Opened w.now }
     requires when_open { WhenOpen w.now (λ b bs ss. i < length b.Q) }
-    requires in_bounds { 512 ≤ length out.old }
+    requires in_bounds { 256 ≤ length out.old }
     ensures { WhenOpen w.now (λ b bs ss.
         (result ≡ length (get_or b.Q i [])) × (take result out.new ≡ get_or b.Q i [])
         × (drop result out.new ≡ drop result out.old)) }

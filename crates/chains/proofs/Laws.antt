@@ -4,6 +4,7 @@ use mathlib.Core.List.{List, [], ◌∷◌, ◌++◌, map}
 use Prim.Native.Nat.{ℕ, zero, suc, ◌+◌, ◌*◌, ◌≤◌, ◌<◌}
 use native.Mathlib.Omega.{arith}
 use lib.ListN.{length, take, drop, get_or, length-drop}
+use Rattle.std.proofs.lemmas.List.{length-map}
 use lib.Seq.{paste, drop-cons, length-take-le, take_at, drop_at}
 use Rattle.polynomials.specs.Poly.{Poly}
 use Rattle.polynomials.specs.Packed.{bytes, word, exponents, term, terms}
@@ -12,9 +13,11 @@ use Rattle.rules.specs.Room.{polynomials_size}
 use Rattle.rules.specs.Written.{index_of, terms_words, heads_words}
 use Rattle.rules.proofs.laws.Lengths.{length_terms, length_heads}
 use Rattle.records.specs.Records.{Rec, zero_record}
-use Rattle.stored.specs.Stored.{size_at, pairs_of, words_at, skip_to, polys_at}
+use Rattle.polynomials.specs.laws.Terms.{length_terms as length_packed}
+use Rattle.polynomials.specs.declared.Term.{Term as Packed}
+use Rattle.stored.specs.Stored.{size_at, term_of, poly_at, skip_to, polys_at}
 use Rattle.stored.proofs.Laws.{skip_le}
-use Rattle.representation.specs.laws.Sizes.{length_terms_at}
+use Rattle.stored.specs.laws.Stored.{length_poly_at}
 use Rattle.chains.proofs.Over.{over, over_nil, paste_over, over_behind, record_behind}
 
 -- A monomial's two words.
@@ -37,22 +40,19 @@ index_is (x ∷ l) i k some none = some (omega arith)
 -- ── terms ──
 -- The terms in the m records from j on.
 abbrev pub terms_in : List Rec → ℕ → ℕ → Poly
-terms_in v j m = terms (pairs_of (take m (drop j v)))
+terms_in v j m = terms (map term_of (take m (drop j v)))
 
 terms_in_turn : (v : List Rec) (j m j' m' : ℕ) → m ≡ suc m' → suc j ≡ j' → j + m ≤ length v
-    → terms_in v j m ≡ term (get_or v j zero_record).w0 ((get_or v j zero_record).w1 * 4294967296 + (get_or v j zero_record).w2) ∷ terms_in v j' m'
-unfolding pairs_of terms
+    → terms_in v j m ≡ term (term_of (get_or v j zero_record)) ∷ terms_in v j' m'
+unfolding terms
 terms_in_turn v j m j' m' em ej h =
-    (λ t. terms (pairs_of (take (em t) (drop-cons v j zero_record (omega arith) t))))
-    ∙ ap (λ (k : ℕ). term (get_or v j zero_record).w0 ((get_or v j zero_record).w1 * 4294967296 + (get_or v j zero_record).w2) ∷ terms_in v k m') ej
-
-length_terms_of : (r : List Rec) → length (terms (pairs_of r)) ≡ length r
-unfolding pairs_of terms
-length_terms_of [] = refl
-length_terms_of (x ∷ r) = ap suc (length_terms_of r)
+    (λ t. terms (map term_of (take (em t) (drop-cons v j zero_record (omega arith) t))))
+    ∙ ap (λ (k : ℕ). term (term_of (get_or v j zero_record)) ∷ terms_in v k m') ej
 
 length_terms_in : (v : List Rec) (j m : ℕ) → j + m ≤ length v → length (terms_in v j m) ≡ m
-length_terms_in v j m h = length_terms_of (take m (drop j v)) ∙ length-take-le m (drop j v) (simp length-drop (omega arith))
+length_terms_in v j m h =
+    length_packed (map term_of (take m (drop j v))) ∙ length-map (take m (drop j v)) term_of
+    ∙ length-take-le m (drop j v) (simp length-drop (omega arith))
 
 -- A term written, then those behind it.
 pub terms_turn : (v : List Rec) (out out' : List ℕ) (p p' j j' m m' a b x y : ℕ) → out' ≡ paste out (4 * p) (a ∷ b ∷ x ∷ y ∷ []) 4
@@ -75,11 +75,11 @@ terms_turn v out out' p p' j j' m m' a b x y e ep em ej inside fits ea eb ex hb 
     ∙ ap (λ (f : Poly). over out (4 * p) (terms_words p f)) (sym (terms_in_turn v j m j' m' em ej inside))
 
 pub terms_end : (v : List Rec) (out : List ℕ) (p j m : ℕ) → m ≡ 0 → over out (4 * p) (terms_words p (terms_in v j m)) ≡ out
-unfolding terms_words terms pairs_of
+unfolding terms_words terms
 terms_end v out p j m e = ap (λ (k : ℕ). over out (4 * p) (terms_words p (terms_in v j k))) e ∙ over_nil out (4 * p)
 
 -- ── heads ──
-pub polys_at_turn : (v : List Rec) (i k k' : ℕ) → k ≡ suc k' → polys_at v i k ≡ words_at v i ∷ polys_at v (i + 1 + size_at v i) k'
+pub polys_at_turn : (v : List Rec) (i k k' : ℕ) → k ≡ suc k' → polys_at v i k ≡ poly_at v i ∷ polys_at v (i + 1 + size_at v i) k'
 polys_at_turn v i k k' e = ap (polys_at v i) e
 
 pub skip_to_turn : (v : List Rec) (i k k' : ℕ) → k ≡ suc k' → skip_to v i k ≡ skip_to v (i + 1 + size_at v i) k'
@@ -100,40 +100,41 @@ unfolding polynomials_size
 size_polys_at v i zero h = omega arith
 size_polys_at v i (suc k) h =
     let j : ℕ = i + 1 + size_at v i in
-    omega (arith, size_polys_at v j k h, length_terms_at v i (omega (arith, skip_le v j k)))
+    omega (arith, size_polys_at v j k h, length_packed (poly_at v i), length_poly_at v i (omega (arith, skip_le v j k)))
 
 -- A head and its terms written, then the heads behind them.
-pub heads_turn : (v : List Rec) (out mid out' : List ℕ) (p p' i k k' n first next : ℕ)
+pub heads_turn : (v : List Rec) (out mid out' : List ℕ) (p p' i i' k k' n first next : ℕ)
     → mid ≡ paste out (4 * p) (first ∷ 0 ∷ 0 ∷ next ∷ []) 4
-    → out' ≡ paste mid (4 * (p + 1)) (terms_words (p + 1) (terms (words_at v i))) (4 * size_at v i)
-    → length mid ≡ length out → n ≡ size_at v i → p' ≡ p + 1 + n → k ≡ suc k' → i + 1 + n ≤ length v → 4 * p' ≤ length out
+    → out' ≡ paste mid (4 * (p + 1)) (terms_words (p + 1) (terms (poly_at v i))) (4 * size_at v i)
+    → length mid ≡ length out → n ≡ size_at v i → i' ≡ i + 1 + n → p' ≡ p + 1 + n → k ≡ suc k' → i + 1 + n ≤ length v → 4 * p' ≤ length out
     → (0 < n → first ≡ p + 1) → (n ≡ 0 → first ≡ 0) → (0 < k' → next ≡ p') → (k' ≡ 0 → next ≡ 0)
-    → over out' (4 * p') (heads_words p' (map terms (polys_at v (i + 1 + n) k'))) ≡ over out (4 * p) (heads_words p (map terms (polys_at v i k)))
+    → over out' (4 * p') (heads_words p' (map terms (polys_at v i' k'))) ≡ over out (4 * p) (heads_words p (map terms (polys_at v i k)))
 unfolding heads_words
-heads_turn v out mid out' p p' i k k' n first next e₁ e₂ same en ep ek inside fits some none more last =
-    let f : Poly = terms (words_at v i) in
+heads_turn v out mid out' p p' i i' k k' n first next e₁ e₂ same en ei ep ek inside fits some none more last =
+    let f : Poly = terms (poly_at v i) in
     let fs : List Poly = map terms (polys_at v (i + 1 + size_at v i) k') in
-    let lf : length f ≡ size_at v i = length_terms_at v i (omega arith) in
+    let lf : length f ≡ size_at v i = length_packed (poly_at v i) ∙ length_poly_at v i (omega arith) in
     let lt : length (terms_words (p + 1) f) ≡ 4 * size_at v i = omega (arith, length_terms (p + 1) f) in
     let lfs : length fs ≡ k' = length_polys_at v (i + 1 + size_at v i) k' in
+    let to : i' ≡ i + 1 + size_at v i = omega arith in
     let sp : p + 1 ≡ suc p = omega arith in
     let sp' : p' ≡ suc (p + length f) = omega arith in
     let head : first ≡ index_of f (suc p) = index_is f (suc p) first (λ h. some (omega arith) ∙ sp) (λ h. none (omega arith)) in
     let link : next ≡ index_of fs (suc (p + length f)) = index_is fs (suc (p + length f)) next (λ h. more (omega arith) ∙ sp') (λ h. last (omega arith)) in
-    (λ t. over ((e₂ ∙ paste_over mid (4 * (p + 1)) (terms_words (p + 1) f) (4 * size_at v i) lt) t) (4 * p') (heads_words p' (map terms (polys_at v (i + 1 + en t) k'))))
+    (λ t. over ((e₂ ∙ paste_over mid (4 * (p + 1)) (terms_words (p + 1) f) (4 * size_at v i) lt) t) (4 * p') (heads_words p' (map terms (polys_at v (to t) k'))))
     ∙ over_behind mid (4 * (p + 1)) (terms_words (p + 1) f) (4 * p') (heads_words p' fs) (omega arith) (omega arith)
     ∙ record_behind out mid p (p + 1) first 0 0 next (terms_words (p + 1) f ++ heads_words p' fs) e₁ refl (omega arith)
     ∙ (λ t. over out (4 * p) (head t ∷ 0 ∷ 0 ∷ link t ∷ (terms_words (sp t) f ++ heads_words (sp' t) fs)))
-    ∙ ap (λ (l : List (List ℕ)). over out (4 * p) (heads_words p (map terms l))) (sym (polys_at_turn v i k k' ek))
+    ∙ ap (λ (l : List (List Packed)). over out (4 * p) (heads_words p (map terms l))) (sym (polys_at_turn v i k k' ek))
 
 pub heads_end : (v : List Rec) (out : List ℕ) (p i k : ℕ) → k ≡ 0 → over out (4 * p) (heads_words p (map terms (polys_at v i k))) ≡ out
 unfolding heads_words
 heads_end v out p i k e = ap (λ (n : ℕ). over out (4 * p) (heads_words p (map terms (polys_at v i n)))) e ∙ over_nil out (4 * p)
 
 -- Heads written, by the polynomials that they are of.
-pub heads_over : (o o' : List ℕ) (p n : ℕ) (fs gs : List (List ℕ)) → o' ≡ paste o (4 * p) (heads_words p (map terms fs)) (4 * n) → fs ≡ gs
+pub heads_over : (o o' : List ℕ) (p n : ℕ) (fs gs : List (List Packed)) → o' ≡ paste o (4 * p) (heads_words p (map terms fs)) (4 * n) → fs ≡ gs
     → polynomials_size (map terms gs) ≡ n → o' ≡ over o (4 * p) (heads_words p (map terms gs))
 heads_over o o' p n fs gs e same l =
     let H : List ℕ = heads_words p (map terms gs) in
-    e ∙ ap (λ (hs : List (List ℕ)). paste o (4 * p) (heads_words p (map terms hs)) (4 * n)) same
+    e ∙ ap (λ (hs : List (List Packed)). paste o (4 * p) (heads_words p (map terms hs)) (4 * n)) same
     ∙ paste_over o (4 * p) H (4 * n) (omega (arith, length_heads p (map terms gs)))

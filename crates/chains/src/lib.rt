@@ -6,23 +6,21 @@ ghost use Rattle.std.proofs.Math.Seq.{paste};
 ghost use Rattle.polynomials.specs.Packed.{terms};
 ghost use Rattle.rules.specs.Written.{terms_words, heads_words};
 ghost use Rattle.records.specs.Records.{room, view};
-ghost use Rattle.stored.specs.Stored.{size_at, words_at, skip_to, polys_at};
+ghost use Rattle.stored.specs.Stored.{size_at, poly_at, skip_to, polys_at};
 
 // Writes the terms of the polynomial at record `from` of the work area to the records from `to` on.
 fn write_terms(w: &[u32], from: usize, out: &mut [u32], to: usize)
     requires from_bound { (from < room w.now) × (from + 1 + size_at (view w.now) from ≤ room w.now) }
     requires from_in_bounds { (4 * (to + size_at (view w.now) from) ≤ length out.old) × (to + size_at (view w.now) from ≤ 65536) }
-    ensures { out.new ≡ paste out.old (4 * to) (terms_words to (terms (words_at (view w.now) from))) (4 * size_at (view w.now) from) }
+    ensures { out.new ≡ paste out.old (4 * to) (terms_words to (terms (poly_at (view w.now) from))) (4 * size_at (view w.now) from) }
 {
     let n = records::get0(w, from) as usize;
-    let mut i = 0;
-    while i < n {
+    for i in 0..n {
         let c = records::get0(w, from + 1 + i);
         let high = records::get1(w, from + 1 + i);
         let low = records::get2(w, from + 1 + i);
         let next = if i + 1 < n { (to + i + 1) as u32 } else { 0 };
         records::write(out, to + i, c, high, low, next);
-        i += 1;
     }
 }
 
@@ -36,15 +34,13 @@ pub fn write_heads(w: &[u32], from: usize, k: usize, out: &mut [u32], to: usize)
 {
     let mut i = from;
     let mut at = to;
-    let mut left = k;
-    while 0 < left {
+    for j in 0..k {
         let n = records::get0(w, i) as usize;
         let first = if n == 0 { 0 } else { (at + 1) as u32 };
-        let next = if left == 1 { 0 } else { (at + 1 + n) as u32 };
+        let next = if j + 1 == k { 0 } else { (at + 1 + n) as u32 };
         records::write(out, at, first, 0, 0, next);
         write_terms(w, i, out, at + 1);
-        i = i + 1 + n;
-        at = at + 1 + n;
-        left -= 1;
+        i += 1 + n;
+        at += 1 + n;
     }
 }

@@ -5,6 +5,8 @@ ghost use Rattle.std.specs.Prelude.{◌≡◌, [], ◌<◌, length, get_or};
 ghost use Rattle.stored.specs.Stored.{Storable};
 ghost use Rattle.branches.specs.Area.{Opened, without_p, without_q, closed, WhenOpen, OpenBecomes, outside};
 
+use polynomials::Term;
+
 // Takes the member of P at place i out.
 pub fn remove_p(w: &mut [u32], i: usize)
     requires opened { Opened w.old }
@@ -30,7 +32,7 @@ pub fn remove_q(w: &mut [u32], i: usize)
 }
 
 // Moves the member of P at place i, which is f, to the front of T.
-pub fn close(w: &mut [u32], i: usize, f: &[u64])
+pub fn close(w: &mut [u32], i: usize, f: &[Term])
     requires opened { Opened w.old }
     requires when_open { WhenOpen w.old (λ b bs ss. (i < length b.P) × (get_or b.P i [] ≡ f.now)) }
     requires storable { Storable f.now }

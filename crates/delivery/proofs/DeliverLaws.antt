@@ -15,10 +15,11 @@ use Rattle.branches.specs.Listed.{listed_of}
 use Rattle.branches.proofs.ControlLaws.{top_is}
 use Rattle.representation.specs.Represent.{AllListed, system_of}
 use Rattle.representation.specs.laws.Sizes.{length_systems_records, systems_size_reverse}
+use Rattle.polynomials.specs.declared.Term.{Term as Packed}
 
 -- ── the records of one system ──
 -- Its polynomials, in the order of their records.
-abbrev polynomials : Stored → List (List ℕ)
+abbrev polynomials : Stored → List (List Packed)
 polynomials b = b.P ++ (b.Q ++ b.T)
 
 abbrev own : Stored → Rec
@@ -54,7 +55,7 @@ module _ (b b' : Stored) (post post' : List Rec) (e : branch_records 0 b ++ post
       ∙ ap (drop (length (branch_records 0 b))) e
       ∙ drop_at (branch_records 0 b') post' (length (branch_records 0 b)) (sym same_long)
 
-none : (fs : List (List ℕ)) → length fs ≡ 0 → fs ≡ []
+none : (fs : List (List Packed)) → length fs ≡ 0 → fs ≡ []
 none [] e = refl
 none (f ∷ fs) e = absurd (omega arith)
 

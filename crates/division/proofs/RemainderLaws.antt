@@ -1,9 +1,7 @@
 -- The rounds of a division, one at a time: what at most n rounds from R on form, as a caller's loop meets each round.
-use mathlib.Core.Path.{◌≡◌, refl, ap}
-use mathlib.Core.Bool.{Bool, true, false}
-use Prim.Native.Nat.{ℕ, zero, suc, ◌≤◌, ◌<◌}
-use native.Mathlib.Omega.{arith}
-use borrow.Author.Tests.{le-leb, lt-leb}
+use Rattle.std.specs.Prelude.{◌≡◌, refl, Bool, true, false, ℕ, zero, suc, ◌≤◌, ◌<◌}
+use Rattle.std.proofs.Common.{ap, arith, le-leb}
+use Rattle.std.proofs.lemmas.Bool.{lt-leb}
 use Rattle.polynomials.specs.Poly.{Poly}
 use Rattle.polynomials.specs.Division.{degree}
 use Rattle.polynomials.specs.Bounds.{Bounds, Bounded, within, and_then, bounded_round, bounded_remainder}

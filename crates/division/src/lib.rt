@@ -10,102 +10,111 @@ ghost use Rattle.polynomials.specs.Working.{Holds, Forms};
 ghost use Rattle.products.specs.Lent.{lent_for_product};
 ghost use Rattle.division.specs.Lent.{lent_for_difference, lent_for_round};
 
-use polynomials::Formed;
+use polynomials::{Passed, Term};
 
-// R, the first n words of r, becomes what one round leaves. i is T's initial, t is T; x, y and z are lent besides. Stack: that of `product`,
-// so none to speak of in buffers below 1,024 words.
+const ONE: Term = Term {
+    coefficient: 1,
+    monomial: 0,
+};
+
+// R, the first n terms of r, becomes what one round leaves. i is T's initial, t is T; x, y and z are lent besides. Stack: that of `product`,
+// so none to speak of in buffers below 512 terms.
 pub fn round(
     p: u64,
     k: u32,
     d: u64,
     e: u64,
-    i: &[u64],
-    t: &[u64],
-    r: &mut [u64],
+    i: &[Term],
+    t: &[Term],
+    r: &mut [Term],
     n: usize,
-    x: &mut [u64],
-    y: &mut [u64],
-    z: &mut [u64],
-) -> Formed
-    requires le_p { (1 ≤ p) × (p < 2147483648) × (k < 8) × (1 ≤ d) × (d ≤ e) }
-    requires holds { Holds p t.now × (degree k (terms t.now) ≡ d) }
-    requires holds_2 { Holds p i.now × (terms i.now ≡ coefficient k d (terms t.now)) }
-    requires n_in_bounds { (n ≤ length r.old) × Holds p (take n r.old) × (degree k (terms (take n r.old)) ≡ e) }
-    requires t_in_bounds { (lent_for_round n (length i.now) (length t.now) ≤ length r.old) × (lent_for_round n (length i.now) (length t.now) ≤ length x.old)
-        × (lent_for_round n (length i.now) (length t.now) ≤ length y.old) × (lent_for_round n (length i.now) (length t.now) ≤ length z.old) }
+    x: &mut [Term],
+    y: &mut [Term],
+    z: &mut [Term],
+) -> Result<usize, Passed>
+    requires modulus { (1 ≤ p) × (p < 2147483648) }
+    requires degrees { (k < 8) × (1 ≤ d) × (d ≤ e) }
+    requires pivot { Holds p t.now × (degree k (terms t.now) ≡ d) }
+    requires initial { Holds p i.now × (terms i.now ≡ coefficient k d (terms t.now)) }
+    requires n_within { n ≤ length r.old }
+    requires dividend { Holds p (take n r.old) × (degree k (terms (take n r.old)) ≡ e) }
+    requires r_lent { lent_for_round n (length i.now) (length t.now) ≤ length r.old }
+    requires x_lent { lent_for_round n (length i.now) (length t.now) ≤ length x.old }
+    requires y_lent { lent_for_round n (length i.now) (length t.now) ≤ length y.old }
+    requires z_lent { lent_for_round n (length i.now) (length t.now) ≤ length z.old }
     ensures { Forms (bounded_round standard p k d (terms t.now) (terms (take n r.old))) result r.new }
 {
-    match times_initial(p, i, &r[..n], x, z) {
-        Formed::Words(a) => {
-            let l = factors::factor(r, n, k, d, e);
-            subtract_product(p, t, r, l, &x[..a], y, z)
-        }
-        Formed::OverDegree => Formed::OverDegree,
-        Formed::OverTerms => Formed::OverTerms,
-    }
+    let a = times_initial(p, i, &r[..n], x, z)?;
+    let l = factors::factor(r, n, k, d, e);
+    subtract_product(p, t, r, l, &x[..a], y, z)
 }
 
-// i times f, in the first words of x. The initial is 1 in many divisions: then f is copied.
-#[tactic(auto, using(crate::proofs::RoundLaws::copy_forms))]
-fn times_initial(p: u64, i: &[u64], f: &[u64], x: &mut [u64], z: &mut [u64]) -> Formed
-    requires le_p { (1 ≤ p) × (p < 2147483648) }
-    requires holds { Holds p i.now }
-    requires holds_2 { Holds p f.now }
-    requires f_in_bounds { (lent_for_product (length i.now) (length f.now) ≤ length x.old) × (lent_for_product (length i.now) (length f.now) ≤ length z.old) }
+// i times f, in the first terms of x. The initial is 1 in many divisions: then f is copied.
+fn times_initial(
+    p: u64,
+    i: &[Term],
+    f: &[Term],
+    x: &mut [Term],
+    z: &mut [Term],
+) -> Result<usize, Passed>
+    requires modulus { (1 ≤ p) × (p < 2147483648) }
+    requires i_holds { Holds p i.now }
+    requires f_holds { Holds p f.now }
+    requires x_lent { lent_for_product (length i.now) (length f.now) ≤ length x.old }
+    requires z_lent { lent_for_product (length i.now) (length f.now) ≤ length z.old }
     ensures { Forms (bounded_product standard p (terms i.now) (terms f.now)) result x.new }
 {
-    if i.len() == 2 && i[0] == 1 && i[1] == 0 {
-        polynomials::copy(f, 0, x, 0);
-        return Formed::Words(f.len());
+    if i == [ONE].as_slice() {
+        let n = f.len();
+        x[..n].copy_from_slice(f);
+        return Ok(n);
     }
     products::product(p, i, f, x, z)
 }
 
-// a minus the product of the first l words of r and t: in the first words of r.
+// a minus the product of the first l terms of r and t: in the first terms of r.
 fn subtract_product(
     p: u64,
-    t: &[u64],
-    r: &mut [u64],
+    t: &[Term],
+    r: &mut [Term],
     l: usize,
-    a: &[u64],
-    y: &mut [u64],
-    z: &mut [u64],
-) -> Formed
-    requires le_p { (1 ≤ p) × (p < 2147483648) }
-    requires holds { Holds p t.now }
-    requires l_in_bounds { (l ≤ length r.old) × (lent_for_difference (length a.now) l (length t.now) ≤ length r.old) × Holds p (take l r.old) }
-    requires holds_2 { Holds p a.now }
-    requires t_in_bounds { (lent_for_product l (length t.now) ≤ length y.old) × (lent_for_product l (length t.now) ≤ length z.old) }
+    a: &[Term],
+    y: &mut [Term],
+    z: &mut [Term],
+) -> Result<usize, Passed>
+    requires modulus { (1 ≤ p) × (p < 2147483648) }
+    requires t_holds { Holds p t.now }
+    requires l_within { l ≤ length r.old }
+    requires factor { Holds p (take l r.old) }
+    requires a_holds { Holds p a.now }
+    requires r_lent { lent_for_difference (length a.now) l (length t.now) ≤ length r.old }
+    requires y_lent { lent_for_product l (length t.now) ≤ length y.old }
+    requires z_lent { lent_for_product l (length t.now) ≤ length z.old }
     ensures { Forms (and_then (bounded_product standard p (terms (take l r.old)) (terms t.now))
         (bounded_difference standard p (terms a.now))) result r.new }
 {
-    if l == 2 {
+    if l == 1 {
         return subtract_row(p, t, r, a);
     }
-    match products::product(p, &r[..l], t, y, z) {
-        Formed::Words(b) => sums::difference(p, a, &y[..b], r),
-        Formed::OverDegree => Formed::OverDegree,
-        Formed::OverTerms => Formed::OverTerms,
-    }
+    let b = products::product(p, &r[..l], t, y, z)?;
+    sums::difference(p, a, &y[..b], r)
 }
 
-// `subtract_product` where the first two words of r are the factor, a single term: by one merge.
-fn subtract_row(p: u64, t: &[u64], r: &mut [u64], a: &[u64]) -> Formed
-    requires le_p { (1 ≤ p) × (p < 2147483648) }
-    requires holds { Holds p t.now }
-    requires in_bounds { (2 ≤ length r.old) × Holds p (take 2 r.old) }
-    requires holds_2 { Holds p a.now × (length a.now + length t.now ≤ length r.old) }
-    ensures { Forms (and_then (bounded_product standard p (terms (take 2 r.old)) (terms t.now))
+// `subtract_product` where the first term of r is the factor: by one merge.
+fn subtract_row(p: u64, t: &[Term], r: &mut [Term], a: &[Term]) -> Result<usize, Passed>
+    requires modulus { (1 ≤ p) × (p < 2147483648) }
+    requires t_holds { Holds p t.now }
+    requires r_nonempty { 1 ≤ length r.old }
+    requires factor { Holds p (take 1 r.old) }
+    requires a_holds { Holds p a.now }
+    requires r_lent { length a.now + length t.now ≤ length r.old }
+    ensures { Forms (and_then (bounded_product standard p (terms (take 1 r.old)) (terms t.now))
         (bounded_difference standard p (terms a.now))) result r.new }
 {
-    let c = r[0];
-    let m = r[1];
-    if degrees::degrees_over(&r[..2], t) {
-        return Formed::OverDegree;
+    let row = r[0];
+    if degrees::degrees_over(&r[..1], t) {
+        return Err(Passed::Degree);
     }
-    let n = sums::add_multiple(p, p - c, m, t, a, r);
-    if 512 < n {
-        return Formed::OverTerms;
-    }
-    Formed::Words(n)
+    let n = sums::add_multiple(p, p - row.coefficient, row.monomial, t, a, r);
+    if n <= 256 { Ok(n) } else { Err(Passed::Terms) }
 }

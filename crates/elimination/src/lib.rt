@@ -16,13 +16,14 @@ ghost use Rattle.elimination.specs.Eliminates.{Eliminates};
 ghost use Rattle.elimination.specs.Worked.{Worked};
 
 pub use run::{Answer, Outcome};
+use polynomials::Term;
 use tables::{Reason, Refusal};
 use words::Table;
 
 // The run of a work area that was started.
-fn run_started(table: Table<'_>, work: &mut [u32], limit: u32, divided: &mut [u64]) -> Answer
+fn run_started(table: Table<'_>, work: &mut [u32], limit: u32, divided: &mut [Term]) -> Answer
     requires ready { (a : Area) × HeldIn work.old a × Ready table.modulus a }
-    requires in_bounds { 512 ≤ length divided.old }
+    requires in_bounds { 256 ≤ length divided.old }
     ensures ran { (a : Area) → HeldIn work.old a → Ready table.entry.modulus a
         → Ran (run (limits_in (capacity work.old)) table.entry.modulus limit 0 (state_of a)) table.entry.modulus result.steps result.outcome (view work.new) (capacity work.old) }
     ensures outside_stays { outside work.new ≡ outside work.old }
@@ -46,7 +47,10 @@ fn eliminate_accepted(table: Table<'_>, work: &mut [u32], output: &mut [u32], li
     ensures too_small { capacity work.old < 2 → work.new ≡ work.old }
     ensures outside_stays { outside work.new ≡ outside work.old }
 {
-    let mut divided = [0u64; 512];
+    let mut divided = [Term {
+        coefficient: 0,
+        monomial: 0,
+    }; 256];
     if !loading::start(table, work, &mut divided) {
         return Answer {
             steps: 0,
@@ -58,7 +62,7 @@ fn eliminate_accepted(table: Table<'_>, work: &mut [u32], output: &mut [u32], li
 }
 
 // Eliminates the table: on success the list of systems stands in the first words of the output. The work area may hold anything, and is zero
-// afterwards. Stack: about 90 KiB, of which a small job clears 6; 128 KiB more where a product gathers over 1,024 words, 1.0 MiB where over 8,192.
+// afterwards. Stack: about 90 KiB, of which a small job clears 6; 128 KiB more where a product gathers over 512 terms, 1.0 MiB where over 4,096.
 pub fn eliminate(table: &[u32], work: &mut [u32], output: &mut [u32], limit: u32) -> Answer
     ensures { Eliminates table.now work.old output.old limit result work.new output.new }
 {

@@ -8,6 +8,7 @@ ghost use Rattle.tables.specs.Words.{word, records};
 ghost use Rattle.tables.specs.Solve.{all_zero, none_zero};
 ghost use Rattle.evaluation.specs.Walks.{IsPolynomialAt, ArePolynomialsFrom, TestsEach, plus_term};
 
+use polynomials::Term;
 use readers::Reader;
 use words::Table;
 
@@ -20,9 +21,11 @@ fn add_term(table: Table<'_>, i: usize, v: u64, point: &[u32]) -> u64
     ensures { result ≡ plus_term table.entry.words.now table.entry.modulus point.now i v }
 {
     let p = u64::from(table.modulus);
-    let c = u64::from(table.word(i, 0));
-    let m = monomials::packed(table.word(i, 1), table.word(i, 2));
-    residues::add(p, v, values::term_value(p, c, m, point))
+    let term = Term {
+        coefficient: u64::from(table.word(i, 0)),
+        monomial: monomials::packed(table.word(i, 1), table.word(i, 2)),
+    };
+    residues::add(p, v, values::term_value(p, term, point))
 }
 
 // The value at a point of the polynomial with its head in record `head`.

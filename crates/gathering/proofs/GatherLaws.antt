@@ -1,216 +1,227 @@
--- The rows of f from word i on, gathered in the first words of a buffer: what the loop of `gather` plugs its places into.
-use mathlib.Core.Path.{◌≡◌, refl, sym, ◌∙◌, ap, subst}
-use mathlib.Core.List.{List, []}
-use mathlib.Core.Bool.{false}
-use Prim.Native.Nat.{ℕ, ◌+◌, ◌-◌, ◌*◌, ◌/◌, ◌%◌, ◌≤◌, ◌<◌}
-use native.Mathlib.Nat.{mul-le-mul, mul-le-mul_right}
-use native.Mathlib.Omega.{arith}
-use lib.ListN.{length, take, drop, get_or}
-use lib.Seq.{length-take-le, drop-length}
+-- The rows of f from place i on, gathered in the first terms of a buffer: what the loop of `gather` plugs its places into.
+use Rattle.std.specs.Prelude.{◌≡◌, refl, List, [], false, length, take, drop, get_or, Ok, Err}
+use Rattle.std.specs.Prelude.{ℕ, ◌+◌, ◌-◌, ◌*◌, ◌%◌, ◌≤◌, ◌<◌}
+use Rattle.std.proofs.Common.{sym, ◌∙◌, ap, subst, arith, length-take-le}
+use Rattle.std.proofs.lemmas.List.{take_all, get_or-take, take-take}
+use Rattle.std.proofs.Math.Seq.{drop-length}
+use Rattle.std.proofs.Math.Nat.{mul-le-mul, mul-le-mul_right}
 use Rattle.polynomials.specs.Poly.{Poly, add_multiple, product}
 use Rattle.polynomials.specs.Canonical.{Canonical}
 use Rattle.polynomials.specs.Bounds.{standard, at_most, tested, degrees_over}
+use Rattle.polynomials.specs.declared.Term.{Term as Packed}
+use Rattle.polynomials.specs.declared.Passed.TheVariants.{Terms}
 use Rattle.polynomials.specs.Packed.{bytes, terms, AllFit}
-use Rattle.polynomials.specs.Working.{Pairs, Holds, Written, Forms}
-use Rattle.polynomials.specs.declared.Formed.TheVariants.{Words, OverTerms}
-use Rattle.gathering.specs.Gathers.{room_for}
-use Rattle.sums.proofs.MergeLaws.{within_terms_formed, over_terms_refused}
-use Rattle.polynomials.specs.laws.Terms.{terms_drop, words_of_terms}
+use Rattle.polynomials.specs.Working.{Holds, Written, Forms}
+use Rattle.polynomials.specs.laws.Answers.{written_count}
+use Rattle.polynomials.specs.laws.Terms.{length_terms, terms_drop}
 use Rattle.polynomials.specs.laws.Canonical.{canonical_product}
 use Rattle.polynomials.specs.laws.Product.{add_multiple_length, rows_left, row_added, coefficient_below, row_fits}
+use Rattle.gathering.specs.Gathers.{room_for}
+use Rattle.sums.proofs.MergeLaws.{within_terms_formed, over_terms_refused}
 
--- ── the rows from word i on ──
--- What `add_multiple` asks, to add c·m times g to s in r words.
-abbrev pub Adds : (p c m : ℕ) (g s : List ℕ) (r : ℕ) → Type 0
-Adds p c m g s r = ((c < p) × (p < 2147483648)) × ((Pairs g × Canonical p (terms g) × AllFit m g) × ((Pairs s × Canonical p (terms s)) × (length s + length g ≤ r)))
+-- ── the rows from place i on ──
+-- The row of a term, added to s.
+abbrev pub row : (p : ℕ) (t : Packed) (g s : List Packed) → Poly
+row p t g s = add_multiple p t.coefficient (bytes 8 t.monomial) (terms g) (terms s)
 
--- The row of the term at the words i and j of f, added to s.
-abbrev pub row : (p : ℕ) (f g : List ℕ) (i j : ℕ) (s : List ℕ) → Poly
-row p f g i j s = add_multiple p (get_or f i 0) (bytes 8 (get_or f j 0)) (terms g) (terms s)
-
--- Each row done has brought at most g's words.
-pub record RowsFrom (p : ℕ) (f g : List ℕ) (i n : ℕ) (x : List ℕ) : Type 0 where
+-- The product of the terms from place i on stands in the first n terms of x. Each row done has brought at most g's terms.
+pub record RowsFrom (p : ℕ) (f g : List Packed) (i n : ℕ) (x : List Packed) : Type 0 where
   pub written : Written (product p (terms (drop i f)) (terms g)) n x
-  pub done : 2 * n + i * length g ≤ length f * length g
+  pub done : n + i * length g ≤ length f * length g
 
--- A term of f at the words i and j, with k behind it.
-pub record Place (f : List ℕ) (i j k : ℕ) : Type 0 where
-  pub even : i % 2 ≡ 0
-  pub inside : i + 1 < length f
-  pub second : j ≡ i + 1
-  pub next : k ≡ i + 2
+-- What `gather` asks of the factors.
+pub record Factors (p : ℕ) (f g : List Packed) : Type 0 where
+  pub positive : 1 ≤ p
+  pub small : p < 2147483648
+  pub left : Holds p f
+  pub right : Holds p g
+  pub within : degrees_over (at_most 255) (terms f) (terms g) ≡ false
 
-module _ (p : ℕ) (f g : List ℕ) (pg : Pairs g) where
-  none_gathered : (x : List ℕ) → RowsFrom p f g (length f) 0 x
+pub factors : (p : ℕ) (f g : List Packed) → (1 ≤ p) × (p < 2147483648) → Holds p f × (0 < length f) → Holds p g × (degrees_over (at_most 255) (terms f) (terms g) ≡ false) → Factors p f g
+factors p f g a b c = record { positive = a.0; small = a.1; left = b.0; right = c.0; within = c.1 }
+
+module _ {p : ℕ} {f g : List Packed} (F : Factors p f g) where
+  pub rows_none : (x : List Packed) → RowsFrom p f g (length f) 0 x
   unfolding product terms
-  none_gathered x = record {
-    written = subst (λ s. Written (product p (terms s) (terms g)) 0 x) (sym (drop-length f)) record { within = omega arith; pairs = refl; holds = refl };
+  rows_none x = record {
+    written = subst (λ s. Written (product p (terms s) (terms g)) 0 x) (sym (drop-length f)) record { within = omega arith; holds = refl };
     done = omega arith;
   }
 
-  -- The row of that term.
-  module _ (i j k : ℕ) (at : Place f i j k) (n : ℕ) (x : List ℕ) (so_far : RowsFrom p f g k n x) where
-    -- What adding it asks.
-    row_asks : (room : ℕ) → (1 ≤ p) × (p < 2147483648) → Canonical p (terms f) → Canonical p (terms g)
-        → degrees_over (at_most 255) (terms f) (terms g) ≡ false → n + length g ≤ room → Adds p (get_or f i 0) (get_or f j 0) g (take n x) room
-    row_asks room hp cf cg h r = (
-      (coefficient_below f i at.even at.inside p cf, hp.1),
-      (
-        (pg, cg, subst (λ j. AllFit (get_or f j 0) g) (sym at.second) (row_fits f i at.even at.inside g h)),
-        (
-          (omega (arith, taken, so_far.written.pairs), subst (Canonical p) (sym so_far.written.holds) (canonical_product p (terms (drop k f)) (terms g) hp.0)),
-          omega (arith, taken),
-        ),
-      ),
-    )
-      where
-        taken : length (take n x) ≡ n
-        taken = length-take-le n x so_far.written.within
+  -- What is gathered is canonical.
+  pub rows_canonical : {i n : ℕ} {x : List Packed} → RowsFrom p f g i n x → Canonical p (terms (take n x))
+  rows_canonical {i} {n} {x} R = subst (Canonical p) (sym R.written.holds) (canonical_product p (terms (drop i f)) (terms g) F.positive)
 
-    module _ (m : ℕ) (z : List ℕ) (w : Written (row p f g i j (take n x)) m z) where
-      row_words : m ≤ n + length g
-      row_words =
-          let brought = (add_multiple_length p (get_or f i 0) (bytes 8 (get_or f j 0)) (terms g) (terms (take n x))).1 in
-          omega (arith, so_far.written.pairs, w.pairs, words_of_terms g pg, ap length so_far.written.holds, brought)
+  -- The term t of f at place i; d stands for what is read past the end: never here.
+  module _ (i : ℕ) (d t : Packed) (inside : i < length f) (here : t ≡ get_or f i d) where
+    pub row_residue : t.coefficient < p
+    row_residue = subst (λ (u : Packed). u.coefficient < p) (sym here) (coefficient_below f i d inside p F.left.canonical)
 
-      row_gathered : RowsFrom p f g i m z
+    pub row_within : AllFit t.monomial g
+    row_within = subst (λ (u : Packed). AllFit u.monomial g) (sym here) (row_fits f i d inside g F.within)
+
+    -- Its row, added to those behind it.
+    module _ {n m : ℕ} {x z : List Packed} (R : RowsFrom p f g (i + 1) n x) (w : Written (row p t g (take n x)) m z) where
+      pub row_terms : m ≤ n + length g
+      row_terms =
+          omega (
+            arith,
+            written_count (row p t g (take n x)) m z w,
+            (add_multiple_length p t.coefficient (bytes 8 t.monomial) (terms g) (terms (take n x))).1,
+            length_terms g,
+            length_terms (take n x),
+            length-take-le n x R.written.within,
+          )
+
+      pub row_gathered : RowsFrom p f g i m z
       row_gathered = record {
         written = subst (λ s. Written s m z) same w;
-        done = omega (arith, so_far.done, row_words, ap (λ (k : ℕ). k * length g) at.next);
+        done = omega (arith, R.done, row_terms);
       }
         where
-          same : row p f g i j (take n x) ≡ product p (terms (drop i f)) (terms g)
+          same : row p t g (take n x) ≡ product p (terms (drop i f)) (terms g)
           same =
-              ap (λ (j : ℕ). row p f g i j (take n x)) at.second
-              ∙ ap (add_multiple p (get_or f i 0) (bytes 8 (get_or f (i + 1) 0)) (terms g)) (so_far.written.holds ∙ ap (λ (k : ℕ). product p (terms (drop k f)) (terms g)) at.next)
-              ∙ sym (row_added f i at.even at.inside p (terms g))
-
-  -- Where what is gathered can't come back to 256 terms, the product has more.
-  cannot_return : (i n : ℕ) (x : List ℕ) → i % 2 ≡ 0 → RowsFrom p f g i n x → 512 + i / 2 * length g < n → 256 < length (product p (terms f) (terms g))
-  cannot_return i n x even so_far many =
-      let behind = ap (λ s. length (product p s (terms g))) (terms_drop i f even) in
-      let words = words_of_terms g pg in
-      omega (arith, so_far.written.pairs, words, rows_left p (i / 2) (terms f) (terms g), behind, ap (λ (k : ℕ). i / 2 * k) words)
+              ap (add_multiple p t.coefficient (bytes 8 t.monomial) (terms g)) R.written.holds
+              ∙ ap (λ (u : Packed). add_multiple p u.coefficient (bytes 8 u.monomial) (terms g) (product p (terms (drop (i + 1) f)) (terms g))) here
+              ∙ sym (row_added f i d inside p (terms g))
 
 -- ── the loop that gathers ──
-pub record Gathering (p : ℕ) (f g x₀ z₀ x z : List ℕ) (i n : ℕ) : Type 0 where
-  pub four : i % 4 ≡ 0
-  pub inside : i ≤ length f
-  pub rows : RowsFrom p f g i n x
-  pub few : n ≤ 512 + i / 2 * length g
-  pub same_x : length x ≡ length x₀
-  pub same_z : length z ≡ length z₀
+-- At its head: an even number of rows is left, and they can bring what is gathered back to 256 terms.
+pub record Gathering (p : ℕ) (f g rows : List Packed) (n : ℕ) (x : List Packed) : Type 0 where
+  pub factors : Factors p f g
+  pub left : rows ≡ take (length rows) f
+  pub pairs : length rows % 2 ≡ 0
+  pub inside : length rows ≤ length f
+  pub gathered : RowsFrom p f g (length rows) n x
+  pub few : n ≤ 256 + length rows * length g
 
--- What `rows` and `gather` ask of the factors, with D of the buffers.
-abbrev pub Factors : ℕ → List ℕ → List ℕ → Type 0 → Type 0
-Factors p f g D = ((1 ≤ p) × (p < 2147483648)) × ((Holds p f × (0 < length f)) × ((Holds p g × (degrees_over (at_most 255) (terms f) (terms g) ≡ false)) × D))
-
-module _ (p : ℕ) (f g : List ℕ) {D : Type 0} (asked : Factors p f g D) where
-  right_pairs : Pairs g
-  right_pairs = asked.1.1.0.0.pairs
-
-  -- The row of a term, over what is gathered behind it.
-  module _ {i j k : ℕ} (at : Place f i j k) {n : ℕ} {x : List ℕ} (so_far : RowsFrom p f g k n x) where
-    pub asks_row : (r : ℕ) → n + length g ≤ r → Adds p (get_or f i 0) (get_or f j 0) g (take n x) r
-    asks_row r h =
-        row_asks p f g right_pairs i j k at n x so_far r asked.0 asked.1.0.0.canonical asked.1.1.0.0.canonical asked.1.1.0.1 h
-
-    module _ {m : ℕ} {z : List ℕ} (w : Written (row p f g i j (take n x)) m z) where
-      pub few_with : m ≤ n + length g
-      few_with = row_words p f g right_pairs i j k at n x so_far m z w
-
-      pub rows_with : RowsFrom p f g i m z
-      rows_with = row_gathered p f g right_pairs i j k at n x so_far m z w
-
-  pub rows_none : RowsFrom p f g (length f) 0 f
-  rows_none = none_gathered p f g right_pairs f
-
-  last_place : length f % 4 ≡ 2 → Place f (length f - 2) (length f - 2 + 1) (length f)
-  last_place q = record { even = omega arith; inside = omega arith; second = refl; next = omega arith }
-
-  -- Before the loop: the last row where the number of rows is odd, else nothing.
-  pub first_asks : length f % 4 ≡ 2 → (r : ℕ) → length g ≤ r →
-      Adds p (get_or f (length f - 2) 0) (get_or f (length f - 2 + 1) 0) g [] r
-  first_asks q r h = asks_row (last_place q) rows_none r (omega arith)
-
-  pub first_gathering : (x z : List ℕ) (n : ℕ) → length f % 4 ≡ 2 → Written (row p f g (length f - 2) (length f - 2 + 1) []) n x
-      → Gathering p f g x z x z (length f - 2) n
-  first_gathering x z n q w = record {
-    four = omega arith;
+module _ {p : ℕ} {f g : List Packed} (F : Factors p f g) where
+  pub none_gathering : (x : List Packed) → length f % 2 ≡ 0 → Gathering p f g f 0 x
+  none_gathering x e = record {
+    factors = F;
+    left = sym (take_all (length f) f (omega arith));
+    pairs = e;
     inside = omega arith;
-    rows = rows_with (last_place q) rows_none w;
-    few = omega (arith, asked.1.1.0.0.few, few_with (last_place q) rows_none w);
-    same_x = refl;
-    same_z = refl;
+    gathered = rows_none F x;
+    few = omega arith;
   }
 
-  pub none_gathering : (x z : List ℕ) → length f % 4 ≡ 0 → Gathering p f g x z x z (length f) 0
-  none_gathering x z q = record { four = q; inside = omega arith; rows = none_gathered p f g right_pairs x; few = omega arith; same_x = refl; same_z = refl }
+  -- Before the loop: the last row where the number of rows is odd.
+  module _ (rows : List Packed) (d : Packed) (odd : length f % 2 ≡ 1) (is : rows ≡ take (length f - 1) f) where
+    abbrev last : Packed
+    last = get_or f (length f - 1) d
 
-  -- One turn: the rows at the words i - 2 and i - 4.
-  module _ (x₀ z₀ x z : List ℕ) (i n : ℕ) (v : Gathering p f g x₀ z₀ x z i n) (more : 0 < i) where
-    even : i % 2 ≡ 0
-    even = omega (arith, v.four)
+    next : length f - 1 + 1 ≡ length f
+    next = omega arith
 
-    full : 4 ≤ i
-    full = omega (arith, v.four)
+    pub first_gathering : (n : ℕ) (x : List Packed) → Written (row p last g []) n x → Gathering p f g rows n x
+    first_gathering n x w = record {
+      factors = F;
+      left = is ∙ ap (λ (k : ℕ). take k f) (sym count);
+      pairs = omega (arith, count);
+      inside = omega (arith, count);
+      gathered = subst (λ (i : ℕ). RowsFrom p f g i n x) (sym count) (row_gathered F (length f - 1) d last (omega arith) refl none w);
+      few = omega (arith, row_terms F (length f - 1) d last (omega arith) refl none w, F.right.few);
+    }
+      where
+        count : length rows ≡ length f - 1
+        count = ap length is ∙ length-take-le (length f - 1) f (omega arith)
 
-    doubled : 2 * (i / 2 * length g) ≡ i * length g
-    doubled = let halves : 2 * (i / 2) ≡ i = omega (arith, even) in omega (arith, ap (λ (j : ℕ). j * length g) halves)
+        none : RowsFrom p f g (length f - 1 + 1) 0 []
+        none = subst (λ (i : ℕ). RowsFrom p f g i 0 []) (sym next) (rows_none F [])
 
-    -- Where the two do not find room, the words are less than those asked for.
-    pub no_room : (r : ℕ) → r < n + 2 * length g → r < room_for (length f) (length g)
-    no_room r h = omega (arith, v.few, v.rows.done, doubled, mul-le-mul_right (length g) full)
+-- One turn: the rows of the last two terms, the upper one first.
+module _ {p : ℕ} {f g rows : List Packed} {n : ℕ} {x : List Packed} (G : Gathering p f g rows n x) (more : 2 ≤ length rows) (d : Packed) where
+  F : Factors p f g
+  F = G.factors
 
-    upper_place : Place f (i - 4 + 2) (i - 4 + 3) i
-    upper_place = record { even = omega (arith, even, full); inside = omega (arith, full, v.inside); second = omega arith; next = omega (arith, full) }
+  abbrev upper : Packed
+  upper = get_or rows (length rows - 1) d
 
-    lower_place : Place f (i - 4) (i - 4 + 1) (i - 4 + 2)
-    lower_place = record { even = omega (arith, even, full); inside = omega (arith, full, v.inside); second = refl; next = refl }
+  abbrev lower : Packed
+  lower = get_or rows (length rows - 2) d
 
-    -- the row at i - 2, into z
-    pub upper_asks : (r : ℕ) → n + length g ≤ r →
-        Adds p (get_or f (i - 4 + 2) 0) (get_or f (i - 4 + 3) 0) g (take n x) r
-    upper_asks r h = asks_row upper_place v.rows r h
+  -- A term of the rows that are left is the one of f.
+  same_term : (i : ℕ) → i < length rows → get_or rows i d ≡ get_or f i d
+  same_term i h = ap (λ s. get_or s i d) G.left ∙ get_or-take (length rows) f i d h
 
-    module _ (m : ℕ) (z' : List ℕ) (w : Written (row p f g (i - 4 + 2) (i - 4 + 3) (take n x)) m z') where
-      pub upper_words : m ≤ n + length g
-      upper_words = few_with upper_place v.rows w
+  here : upper ≡ get_or f (length rows - 1) d
+  here = same_term (length rows - 1) (omega arith)
 
-      upper_gathered : RowsFrom p f g (i - 4 + 2) m z'
-      upper_gathered = rows_with upper_place v.rows w
+  below : lower ≡ get_or f (length rows - 2) d
+  below = same_term (length rows - 2) (omega arith)
 
-      -- the row at i - 4, into x
-      pub lower_asks : (r : ℕ) → m + length g ≤ r →
-          Adds p (get_or f (i - 4) 0) (get_or f (i - 4 + 1) 0) g (take m z') r
-      lower_asks r h = asks_row lower_place upper_gathered r h
+  -- Where the two do not find room, the terms are less than those asked for.
+  pub no_room : (r : ℕ) → r < n + 2 * length g → r < room_for (length f) (length g)
+  no_room r h = omega (arith, G.few, G.gathered.done, mul-le-mul_right (length g) more)
 
-      module _ (n' : ℕ) (x' : List ℕ) (w' : Written (row p f g (i - 4) (i - 4 + 1) (take m z')) n' x') where
-        lower_gathered : RowsFrom p f g (i - 4) n' x'
-        lower_gathered = rows_with lower_place upper_gathered w'
+  pub terms_small : n + 2 * length g ≤ 66304
+  terms_small = omega (arith, G.few, F.right.few, mul-le-mul {n₁ = length rows} {m₁ = length g} {n₂ = 256} {m₂ = 256} (omega (arith, G.inside, F.left.few)) F.right.few)
 
-        pub again : n' ≤ 512 + (i - 4) / 2 * length g → length x' ≡ length x → length z' ≡ length z → Gathering p f g x₀ z₀ x' z' (i - 4) n'
-        again few lx lz = record {
-          four = omega (arith, v.four, full);
-          inside = omega (arith, v.inside);
-          rows = lower_gathered;
+  behind : RowsFrom p f g (length rows - 1 + 1) n x
+  behind = let next : length rows - 1 + 1 ≡ length rows = omega arith in subst (λ (i : ℕ). RowsFrom p f g i n x) (sym next) G.gathered
+
+  pub upper_residue : upper.coefficient < p
+  upper_residue = row_residue F (length rows - 1) d upper (omega (arith, G.inside)) here
+
+  pub upper_within : AllFit upper.monomial g
+  upper_within = row_within F (length rows - 1) d upper (omega (arith, G.inside)) here
+
+  pub lower_residue : lower.coefficient < p
+  lower_residue = row_residue F (length rows - 2) d lower (omega (arith, G.inside)) below
+
+  pub lower_within : AllFit lower.monomial g
+  lower_within = row_within F (length rows - 2) d lower (omega (arith, G.inside)) below
+
+  module _ {m : ℕ} {z : List Packed} (w : Written (row p upper g (take n x)) m z) where
+    pub upper_terms : m ≤ n + length g
+    upper_terms = row_terms F (length rows - 1) d upper (omega (arith, G.inside)) here behind w
+
+    upper_gathered : RowsFrom p f g (length rows - 1) m z
+    upper_gathered = row_gathered F (length rows - 1) d upper (omega (arith, G.inside)) here behind w
+
+    pub upper_canonical : Canonical p (terms (take m z))
+    upper_canonical = rows_canonical F upper_gathered
+
+    module _ {n' : ℕ} {x' : List Packed} (w' : Written (row p lower g (take m z)) n' x') where
+      lower_gathered : RowsFrom p f g (length rows - 2) n' x'
+      lower_gathered =
+          let next : length rows - 2 + 1 ≡ length rows - 1 = omega arith in
+          row_gathered F (length rows - 2) d lower (omega (arith, G.inside)) below (subst (λ (i : ℕ). RowsFrom p f g i m z) (sym next) upper_gathered) w'
+
+      module _ (left : List Packed) (is : left ≡ take (length rows - 2) rows) where
+        count : length left ≡ length rows - 2
+        count = ap length is ∙ length-take-le (length rows - 2) rows (omega arith)
+
+        pub again : n' ≤ 256 + length left * length g → Gathering p f g left n' x'
+        again few = record {
+          factors = F;
+          left = is ∙ ap (take (length rows - 2)) G.left ∙ take-take (length rows - 2) (length rows) f (omega arith) ∙ ap (λ (k : ℕ). take k f) (sym count);
+          pairs = omega (arith, count, G.pairs);
+          inside = omega (arith, count, G.inside);
+          gathered = subst (λ (i : ℕ). RowsFrom p f g i n' x') (sym count) lower_gathered;
           few = few;
-          same_x = lx ∙ v.same_x;
-          same_z = lz ∙ v.same_z;
         }
 
-        pub stopped : 512 + (i - 4) / 2 * length g < n' → Forms (tested standard (product p (terms f) (terms g))) OverTerms x'
-        stopped many = over_terms_refused (product p (terms f) (terms g)) x' (cannot_return p f g right_pairs (i - 4) n' x' (omega (arith, even, full)) lower_gathered many)
+        -- Where what is gathered can't come back to 256 terms, the product has more.
+        pub stopped : 256 + length left * length g < n' → Forms (tested standard (product p (terms f) (terms g))) (Err Terms) x'
+        stopped many =
+            over_terms_refused (product p (terms f) (terms g)) x'
+            (omega (
+              arith,
+              many,
+              ap (λ (k : ℕ). k * length g) count,
+              written_count (product p (terms (drop (length rows - 2) f)) (terms g)) n' x' lower_gathered.written,
+              ap (λ s. length (product p s (terms g))) (terms_drop (length rows - 2) f),
+              rows_left p (length rows - 2) (terms f) (terms g),
+              ap (λ (k : ℕ). (length rows - 2) * k) (length_terms g),
+            ))
 
-  pub gathered : (x₀ z₀ x z : List ℕ) (i n : ℕ) → Gathering p f g x₀ z₀ x z i n → i ≤ 0 → Forms (tested standard (product p (terms f) (terms g))) (Words n) x
-  gathered x₀ z₀ x z i n v none = within_terms_formed (product p (terms f) (terms g)) n x whole (omega (arith, v.few, ap (λ (i : ℕ). i / 2 * length g) none'))
-    where
-      none' : i ≡ 0
-      none' = omega arith
+pub all_gathered : {p : ℕ} {f g rows : List Packed} {n : ℕ} {x : List Packed} → Gathering p f g rows n x → length rows < 2 → Forms (tested standard (product p (terms f) (terms g))) (Ok n) x
+all_gathered {p} {f} {g} {rows} {n} {x} G end = within_terms_formed (product p (terms f) (terms g)) n x whole (omega (arith, G.few, ap (λ (k : ℕ). k * length g) none))
+  where
+    none : length rows ≡ 0
+    none = omega (arith, G.pairs)
 
-      whole : Written (product p (terms f) (terms g)) n x
-      whole = subst (λ (i : ℕ). Written (product p (terms (drop i f)) (terms g)) n x) none' v.rows.written
-
--- Numbers of words of two factors: their product is small.
-pub product_of_words_small : (a b : ℕ) → a ≤ 512 → b ≤ 512 → a * b ≤ 262144
-product_of_words_small a b h k = mul-le-mul h k
+    whole : Written (product p (terms f) (terms g)) n x
+    whole = subst (λ (i : ℕ). Written (product p (terms (drop i f)) (terms g)) n x) none G.gathered.written

@@ -12,42 +12,50 @@ ghost use Rattle.polynomials.specs.Packed.{terms};
 ghost use Rattle.polynomials.specs.Working.{Holds};
 ghost use Rattle.gathering.specs.Gathers.{Gathers, room_for};
 
-// How a gathering ends: with so many words, with more than 256 terms certain, or where the lent buffers are too short.
-#[derive(Clone, Copy)]
-pub enum Gathered {
-    Words(usize),
+use polynomials::Term;
+
+// Why nothing is gathered: more than 256 terms are certain, or a lent buffer is too short.
+#[derive(Clone, Copy, Debug, PartialEq, Eq)]
+pub enum Ungathered {
     OverTerms,
     Short,
 }
 
-// The rows of f added up, from the last on, in x and z by turns: at the end in x. It ends early where a row finds no room;
+// The rows of f added up, from the last on, in x and z by turns: at the end so many terms in x. It ends early where a row finds no room;
 // x has room for one.
-pub fn gather(p: u64, f: &[u64], g: &[u64], x: &mut [u64], z: &mut [u64]) -> Gathered
+pub fn gather(
+    p: u64,
+    f: &[Term],
+    g: &[Term],
+    x: &mut [Term],
+    z: &mut [Term],
+) -> Result<usize, Ungathered>
     requires le_p { (1 ≤ p) × (p < 2147483648) }
     requires holds { Holds p f.now × (0 < length f.now) }
     requires holds_2 { Holds p g.now × (degrees_over (at_most 255) (terms f.now) (terms g.now) ≡ false) }
     requires g_in_bounds { length g.now ≤ length x.old }
     ensures { Gathers (product p (terms f.now) (terms g.now)) (room_for (length f.now) (length g.now)) result x.new (length x.old) (length z.old) }
 {
-    let mut i = f.len();
+    let mut rows = f;
     let mut n = 0;
-    if i % 4 == 2 {
-        i -= 2;
-        n = sums::add_multiple(p, f[i], f[i + 1], g, &f[..0], x);
+    if f.len() % 2 == 1 {
+        let last = f.len() - 1;
+        n = sums::add_multiple(p, f[last].coefficient, f[last].monomial, g, &[], x);
+        rows = &f[..last];
     }
-    while 0 < i {
-        i -= 4;
+    while let [left @ .., lower, upper] = rows {
         if z.len() < n + g.len() {
-            return Gathered::Short;
+            return Err(Ungathered::Short);
         }
-        let m = sums::add_multiple(p, f[i + 2], f[i + 3], g, &x[..n], z);
+        let m = sums::add_multiple(p, upper.coefficient, upper.monomial, g, &x[..n], z);
         if x.len() < m + g.len() {
-            return Gathered::Short;
+            return Err(Ungathered::Short);
         }
-        n = sums::add_multiple(p, f[i], f[i + 1], g, &z[..m], x);
-        if 512 + i / 2 * g.len() < n {
-            return Gathered::OverTerms;
+        n = sums::add_multiple(p, lower.coefficient, lower.monomial, g, &z[..m], x);
+        if 256 + left.len() * g.len() < n {
+            return Err(Ungathered::OverTerms);
         }
+        rows = left;
     }
-    Gathered::Words(n)
+    Ok(n)
 }

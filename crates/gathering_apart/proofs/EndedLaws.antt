@@ -1,58 +1,59 @@
--- How a gathering ended, and buffers that hold whatever is gathered.
-use mathlib.Core.Path.{◌≡◌, refl, subst}
-use mathlib.Core.Logic.{◌⊎◌, ⊎_elim}
-use mathlib.Core.List.{List}
-use mathlib.Core.Bool.{Bool, true, false}
-use Prim.Native.Nat.{ℕ, ◌-◌, ◌*◌, ◌≤◌, ◌<◌}
-use native.Mathlib.Omega.{arith}
-use lib.Dec.{ltb}
-use lib.ListN.{length, take, drop}
-use lib.Seq.{paste}
-use borrow.Author.Tests.{ltb-false}
+-- How a gathering ended, and what was formed copied to another buffer.
+use Rattle.std.specs.Prelude.{◌≡◌, refl, List, ◌++◌, Bool, true, false, ltb, ℕ, ◌≤◌, ◌<◌, length, take, drop, Result, Ok, Err, MatchResult}
+use Rattle.std.proofs.Common.{sym, ◌∙◌, ap, subst, arith, ltb-false, length-append, length-take-le, ⊎_elim}
+use Rattle.std.proofs.lemmas.List.{take_at}
+use Rattle.std.proofs.Math.Nat.{mul-le-mul}
 use Rattle.polynomials.specs.Poly.{Poly}
-use Rattle.polynomials.specs.Bounds.{within, terms_passed, standard, at_most, over, tested}
+use Rattle.polynomials.specs.Bounds.{standard, at_most, over, within, terms_passed, tested}
+use Rattle.polynomials.specs.declared.Term.{Term as Packed}
+use Rattle.polynomials.specs.declared.Passed.{Passed}
+use Rattle.polynomials.specs.declared.Passed.TheVariants.{Terms}
+use Rattle.polynomials.specs.Packed.{terms}
 use Rattle.polynomials.specs.Working.{Written, Forms}
-use Rattle.polynomials.specs.declared.Formed.TheVariants.{Words, OverTerms}
-use Rattle.gathering.specs.Gathers.{room_for, Gathers}
-use Rattle.gathering.specs.declared.Gathered.{Gathered}
-use Rattle.gathering.specs.declared.Gathered.TheVariants as ended
-use Rattle.polynomials.proofs.CopyLaws.{copied}
+use Rattle.gathering.specs.Gathers.{Gathers, room_for}
+use Rattle.gathering.specs.declared.Ungathered.{Ungathered}
+use Rattle.gathering.specs.declared.Ungathered.TheVariants.{OverTerms, Short}
 use Rattle.sums.proofs.MergeLaws.{within_terms_formed}
-use Rattle.gathering.proofs.GatherLaws.{product_of_words_small}
 
--- ── how a gathering ended ──
-module _ (f : Poly) (need : ℕ) (r : Gathered) (x : List ℕ) (m n : ℕ) (w : Gathers f need r x m n) where
-  pub words_ended : (k : ℕ) → r ≡ ended.Words k → Forms (tested standard f) (Words k) x
-  words_ended k e = subst (λ r. Gathers f need r x m n) e w
+-- After a refusal the terms are left free.
+pub refused_anywhere : (f : Poly) (x y : List Packed) → Forms (tested standard f) (Err Terms) x → Forms (tested standard f) (Err Terms) y
+unfolding tested
+refused_anywhere f x y = go (over (at_most 256) (length f))
+  where
+    go : (b : Bool) → Forms (elim b [ true ↦ terms_passed | false ↦ within f ]) (Err Terms) x → Forms (elim b [ true ↦ terms_passed | false ↦ within f ]) (Err Terms) y
+    go true w = refl
+    go false w = absurd (let e : Result.Err Terms ≡ Ok (length f) = w.0 in cc)
 
-  -- After a refusal the words are left free.
-  pub over_terms_ended : (y : List ℕ) → r ≡ ended.OverTerms → Forms (tested standard f) OverTerms y
-  unfolding tested
-  over_terms_ended y e = go (over (at_most 256) (length f)) (subst (λ r. Gathers f need r x m n) e w)
-    where
-      go : (b : Bool) → Forms (elim b [ true ↦ terms_passed | false ↦ within f ]) OverTerms x → Forms (elim b [ true ↦ terms_passed | false ↦ within f ]) OverTerms y
-      go true w = refl
-      go false w = absurd (let z : ◌≡◌ {A = ℕ} 0 1 = cc in omega arith)
+pub formed_few : (f : Poly) (k : ℕ) (x : List Packed) → Forms (tested standard f) (Ok k) x → Written f k x × (k ≤ 256)
+unfolding tested over
+formed_few f k x = go (ltb 256 (length f)) (ltb-false 256 (length f))
+  where
+    go : (b : Bool) → (b ≡ false → length f ≤ 256) → Forms (elim b [ true ↦ terms_passed | false ↦ within f ]) (Ok k) x → Written f k x × (k ≤ 256)
+    go true h w = cc
+    go false h w = let q : length f ≡ k = cc in (subst (λ k. Written f k x) q w.1, omega (arith, h refl))
 
-  module _ (k : ℕ) (e : r ≡ ended.Words k) where
-    pub words_formed : Written f k x × (k ≤ 512)
-    unfolding tested over
-    words_formed = go (ltb 256 (length f)) (ltb-false 256 (length f)) (words_ended k e)
-      where
-        go : (b : Bool) → (b ≡ false → length f ≤ 256) → Forms (elim b [ true ↦ terms_passed | false ↦ within f ]) (Words k) x → Written f k x × (k ≤ 512)
-        go true h w = absurd (let z : ◌≡◌ {A = ℕ} 0 1 = cc in omega arith)
-        go false h w = let q : 2 * length f ≡ k = cc in (subst (λ k. Written f k x) q w.1, omega (arith, h refl))
+-- What was formed, copied in front of y.
+pub formed_copied : (f : Poly) (k : ℕ) (x y part : List Packed) → Forms (tested standard f) (Ok k) x → part ≡ take k x → Forms (tested standard f) (Ok k) (part ++ drop k y)
+formed_copied f k x y part w copy =
+    let formed = formed_few f k x w in
+    let size : length part ≡ k = ap length copy ∙ length-take-le k x formed.0.within in
+    within_terms_formed f k (part ++ drop k y)
+    record {
+      within = omega (arith, size, length-append part (drop k y));
+      holds = ap terms (take_at part (drop k y) k size ∙ copy) ∙ formed.0.holds;
+    } formed.1
 
-    -- Those words copied to y, which is z then.
-    pub words_copied : (y z : List ℕ) → 512 ≤ length y → z ≡ paste y 0 (drop 0 (take k x)) (length (take k x) - 0) → Forms (tested standard f) (Words k) z
-    words_copied y z room is = within_terms_formed f k z (copied f k x y words_formed room z is) words_formed.1
+pub buffers_suffice : (a b : ℕ) → a ≤ 256 → b ≤ 256 → room_for a b ≤ 33408
+buffers_suffice a b h k = omega (arith, mul-le-mul {n₁ = a} {m₁ = b} {n₂ = 256} {m₂ = 256} h k)
 
-  pub short_ended : r ≡ ended.Short → (m < need) ⊎ (n < need)
-  short_ended e = subst (λ r. Gathers f need r x m n) e w
+-- A refusal says the same of another buffer.
+pub ended_early : (f : Poly) (need m n : ℕ) (e : Ungathered) (x y : List Packed) → Gathers f need (Err e) x m n → Gathers f need (Err e) y m n
+ended_early f need m n OverTerms x y w = refused_anywhere f x y w
+ended_early f need m n Short x y w = w
 
-  pub never_short : r ≡ ended.Short → need ≤ m → need ≤ n → ⊥
-  never_short e hm hn = ⊎_elim (λ (h : m < need). omega arith) (λ (h : n < need). omega arith) (short_ended e)
-
--- ── the longest buffers ──
-pub buffers_suffice : (f g : ℕ) → f ≤ 512 → g ≤ 512 → room_for f g ≤ 66816
-buffers_suffice f g h k = omega (arith, product_of_words_small f g h k)
+-- The longest buffers are never too short.
+pub large_ended : (f : Poly) (need : ℕ) (r : Result ℕ Ungathered) (q : Result ℕ Passed) (x : List Packed) → need ≤ 33408 → Gathers f need r x 33408 33408
+    → MatchResult r (λ n. q ≡ Ok n) (λ e. q ≡ Err Terms) → Forms (tested standard f) q x
+large_ended f need (Ok n) q x h w e = subst (λ q. Forms (tested standard f) q x) (sym e) w
+large_ended f need (Err OverTerms) q x h w e = subst (λ q. Forms (tested standard f) q x) (sym e) w
+large_ended f need (Err Short) q x h w e = absurd (⊎_elim (λ (l : 33408 < need). omega arith) (λ (l : 33408 < need). omega arith) w)

@@ -2,7 +2,8 @@
 use Rattle.std.specs.Prelude.{List, ℕ}
 use Rattle.residues.specs.Each.{Each}
 use Rattle.polynomials.specs.Working.{Holds}
+use Rattle.polynomials.specs.declared.Term.{Term as Packed}
 
 -- A stored polynomial is canonical modulo p, with at most 256 terms.
-abbrev pub AllHold : ℕ → List (List ℕ) → Type 0
+abbrev pub AllHold : ℕ → List (List Packed) → Type 0
 AllHold p ss = Each (Holds p) ss

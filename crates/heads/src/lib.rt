@@ -7,23 +7,23 @@ ghost use Rattle.rules.specs.Branch.{is_one, some_one, some_zero, highest_leader
 ghost use Rattle.records.specs.Records.{room, view};
 ghost use Rattle.polynomials.specs.Division.{leader};
 ghost use Rattle.polynomials.specs.Working.{Holds};
-ghost use Rattle.stored.specs.Stored.{size_at, words_at, skip_to, polys_at};
+ghost use Rattle.stored.specs.Stored.{size_at, poly_at, skip_to, polys_at};
 ghost use Rattle.heads.specs.Heads.{AllHold};
+
+use polynomials::Term;
 
 // Whether one of the k polynomials from record `at` on is zero.
 pub fn has_zero(w: &[u32], at: usize, k: usize) -> bool
     requires { skip_to (view w.now) at k ≤ room w.now }
     ensures { result ≡ some_zero (map terms (polys_at (view w.now) at k)) }
 {
-    let mut i = at;
-    let mut left = k;
-    while 0 < left {
-        let n = records::get0(w, i) as usize;
+    let mut next = at;
+    for _i in 0..k {
+        let n = records::get0(w, next) as usize;
         if n == 0 {
             return true;
         }
-        i = i + 1 + n;
-        left -= 1;
+        next += 1 + n;
     }
     false
 }
@@ -31,15 +31,13 @@ pub fn has_zero(w: &[u32], at: usize, k: usize) -> bool
 // Whether the polynomial at record i is 1.
 fn one_at(w: &[u32], i: usize) -> bool
     requires { (i < room w.now) × (i + 1 + size_at (view w.now) i ≤ room w.now) }
-    ensures { result ≡ is_one (terms (words_at (view w.now) i)) }
+    ensures { result ≡ is_one (terms (poly_at (view w.now) i)) }
 {
-    if records::get0(w, i) != 1 {
-        return false;
-    }
-    if records::get0(w, i + 1) != 1 {
-        return false;
-    }
-    stored::monomial(w, i + 1) == 0
+    let one = Term {
+        coefficient: 1,
+        monomial: 0,
+    };
+    records::get0(w, i) == 1 && stored::term(w, i + 1) == one
 }
 
 // Whether one of the k polynomials from record `at` on is 1.
@@ -47,23 +45,21 @@ pub fn has_one(w: &[u32], at: usize, k: usize) -> bool
     requires { skip_to (view w.now) at k ≤ room w.now }
     ensures { result ≡ some_one (map terms (polys_at (view w.now) at k)) }
 {
-    let mut i = at;
-    let mut left = k;
-    while 0 < left {
-        if one_at(w, i) {
+    let mut next = at;
+    for _i in 0..k {
+        if one_at(w, next) {
             return true;
         }
-        let n = records::get0(w, i) as usize;
-        i = i + 1 + n;
-        left -= 1;
+        next += 1 + records::get0(w, next) as usize;
     }
     false
 }
 
 // The leading variable of the polynomial at record i: that of its first term, or 0.
 pub fn leader_at(w: &[u32], i: usize) -> u32
-    requires { (i < room w.now) × (i + 1 + size_at (view w.now) i ≤ room w.now) × ((p : ℕ) × Holds p (words_at (view w.now) i)) }
-    ensures { result ≡ leader (terms (words_at (view w.now) i)) }
+    requires i_bound { (i < room w.now) × (i + 1 + size_at (view w.now) i ≤ room w.now) }
+    requires holds { (p : ℕ) × Holds p (poly_at (view w.now) i) }
+    ensures { result ≡ leader (terms (poly_at (view w.now) i)) }
 {
     if records::get0(w, i) == 0 {
         return 0;
@@ -77,17 +73,11 @@ pub fn highest_leader(w: &[u32], at: usize, k: usize) -> u32
     requires all_hold { (p : ℕ) × AllHold p (polys_at (view w.now) at k) }
     ensures { result ≡ highest_leader (map terms (polys_at (view w.now) at k)) }
 {
-    let mut i = at;
-    let mut left = k;
+    let mut next = at;
     let mut best = 0;
-    while 0 < left {
-        let l = leader_at(w, i);
-        if best < l {
-            best = l;
-        }
-        let n = records::get0(w, i) as usize;
-        i = i + 1 + n;
-        left -= 1;
+    for _i in 0..k {
+        best = leader_at(w, next).max(best);
+        next += 1 + records::get0(w, next) as usize;
     }
     best
 }

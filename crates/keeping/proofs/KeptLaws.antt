@@ -2,7 +2,7 @@
 use mathlib.Core.Path.{◌≡◌, refl, sym, ap, ◌∙◌}
 use mathlib.Core.Bool.{true, false, false≢true}
 use mathlib.Core.List.{List, [], ◌∷◌, ◌++◌, append_assoc}
-use Prim.Native.Nat.{ℕ, suc, ◌+◌, ◌-◌, ◌/◌, ◌≤◌, ◌<◌}
+use Prim.Native.Nat.{ℕ, suc, ◌+◌, ◌-◌, ◌≤◌, ◌<◌}
 use native.Mathlib.Omega.{arith}
 use borrow.Author.Tests.{le-leb, lt-leb}
 use lib.ListN.{length, take, drop, get_or, set, length-append, length-drop, take-append-drop}
@@ -14,7 +14,11 @@ use Rattle.stored.specs.Stored.{poly_records, polys_records, skip_to, Storable}
 use Rattle.stored.specs.laws.Stored.{skip_to_polys_records, polys_records_append, polys_records_snoc, length_poly_records, length_le_polys_records}
 use Rattle.branches.specs.Area.{Stored, Held, Leaves, stack, branch_records, systems_records, with_open, size, kept_open, StorableBranch}
 use Rattle.keeping.proofs.PieceLaws.{Grown, grow_copied, grow_stored, top_left, last_part}
+use Rattle.branches.specs.declared.Open.{Open}
+use Rattle.branches.specs.Open.{open_of}
 use Rattle.branches.proofs.AreaLaws.{at_of, own_of, most_inside}
+use Rattle.branches.proofs.OpenLaws.{p_is, q_is, skip_p}
+use Rattle.polynomials.specs.declared.Term.{Term as Packed}
 
 -- ── the parts of P ──
 abbrev pub front_p : ℕ → Stored → List Rec
@@ -28,13 +32,13 @@ new_p i n c = polys_records (drop (n - i) (drop i c.P))
 
 p_in_parts : (i n : ℕ) (c : Stored) → polys_records c.P ≡ front_p i c ++ (back_p i n c ++ new_p i n c)
 p_in_parts i n c =
-    let rest : List (List ℕ) = drop i c.P in
+    let rest : List (List Packed) = drop i c.P in
     let parted : polys_records rest ≡ back_p i n c ++ new_p i n c =
     ap polys_records (sym (take-append-drop (n - i) rest)) ∙ polys_records_append (take (n - i) rest) (drop (n - i) rest) in
     ap polys_records (sym (take-append-drop i c.P)) ∙ polys_records_append (take i c.P) rest ∙ ap (λ (l : List Rec). front_p i c ++ l) parted
 
 -- The records of the branch that is built.
-kept_records : (i n under : ℕ) (f initial : List ℕ) (c : Stored) (r : Rec)
+kept_records : (i n under : ℕ) (f initial : List Packed) (c : Stored) (r : Rec)
     → r ≡ record_of (length (kept_open i n f initial c).P) (length (kept_open i n f initial c).Q) (length c.T) under
     → (r ∷ []) ++ front_p i c ++ poly_records f ++ back_p i n c ++ polys_records c.Q ++ poly_records initial ++ polys_records c.T
     ≡ branch_records under (kept_open i n f initial c)
@@ -49,9 +53,9 @@ length_seven : (a b c d e f g : List Rec)
     → length (a ++ b ++ c ++ d ++ e ++ f ++ g) ≡ length a + length b + length c + length d + length e + length f + length g
 length_seven a b c d e f g = simp length-append
 
-length_kept : (i n under : ℕ) (f initial : List ℕ) (c : Stored)
+length_kept : (i n under : ℕ) (f initial : List Packed) (c : Stored)
     → length (branch_records under (kept_open i n f initial c))
-    ≡ 1 + length (front_p i c) + (length f / 2 + 1) + length (back_p i n c) + length (polys_records c.Q) + (length initial / 2 + 1)
+    ≡ 1 + length (front_p i c) + (length f + 1) + length (back_p i n c) + length (polys_records c.Q) + (length initial + 1)
     + length (polys_records c.T)
 length_kept i n under f initial c =
     let new : Stored = kept_open i n f initial c in
@@ -87,7 +91,7 @@ pub record Placed (c : Stored) (bs : List Stored) (i n free at end top q t front
 
 -- What the code writes: the new branch's own record behind the open one, then its six pieces one behind the other, each up to a record that the code knows,
 -- and last the control record. The words of each piece are copied from where they lie, or stored.
-pub record Copied (v : List Rec) (n at end top q t front back from_q from_t : ℕ) (f initial : List ℕ) (v₈ : List Rec) : Type 0 where
+pub record Copied (v : List Rec) (n at end top q t front back from_q from_t : ℕ) (f initial : List Packed) (v₈ : List Rec) : Type 0 where
   pub v₁ : List Rec
   pub own_put : v₁ ≡ set v end (record_of (n + 1) (q + 1) t at)
   pub a₁ : ℕ
@@ -95,7 +99,7 @@ pub record Copied (v : List Rec) (n at end top q t front back from_q from_t : �
   pub front_copied : (a₁ ≡ end + 1 + (front - (at + 1))) × (v₂ ≡ moved v₁ (at + 1) (front - (at + 1)) (end + 1))
   pub a₂ : ℕ
   pub v₃ : List Rec
-  pub f_put : (a₂ ≡ a₁ + (length f / 2 + 1)) × (v₃ ≡ paste v₂ a₁ (poly_records f) (length f / 2 + 1))
+  pub f_put : (a₂ ≡ a₁ + (length f + 1)) × (v₃ ≡ paste v₂ a₁ (poly_records f) (length f + 1))
   pub a₃ : ℕ
   pub v₄ : List Rec
   pub back_copied : (a₃ ≡ a₂ + (back - front)) × (v₄ ≡ moved v₃ front (back - front) a₂)
@@ -104,7 +108,7 @@ pub record Copied (v : List Rec) (n at end top q t front back from_q from_t : �
   pub q_copied : (a₄ ≡ a₃ + (from_t - from_q)) × (v₅ ≡ moved v₄ from_q (from_t - from_q) a₃)
   pub a₅ : ℕ
   pub v₆ : List Rec
-  pub initial_put : (a₅ ≡ a₄ + (length initial / 2 + 1)) × (v₆ ≡ paste v₅ a₄ (poly_records initial) (length initial / 2 + 1))
+  pub initial_put : (a₅ ≡ a₄ + (length initial + 1)) × (v₆ ≡ paste v₅ a₄ (poly_records initial) (length initial + 1))
   pub a₆ : ℕ
   pub v₇ : List Rec
   pub t_copied : (a₆ ≡ a₅ + (end - from_t)) × (v₇ ≡ moved v₆ from_t (end - from_t) a₅)
@@ -161,21 +165,21 @@ module _ {v : List Rec} {most : ℕ} {c : Stored} {bs ss : List Stored} (H : Hel
   length_back : length (take (n - i) (drop i c.P)) ≡ n - i
   length_back = length-take-le (n - i) (drop i c.P) (omega (arith, length-drop i c.P))
 
-  skipped : (A post : List Rec) (fs : List (List ℕ)) (x k : ℕ) → used ≡ A ++ (polys_records fs ++ post) → length A ≡ x → length fs ≡ k
+  skipped : (A post : List Rec) (fs : List (List Packed)) (x k : ℕ) → used ≡ A ++ (polys_records fs ++ post) → length A ≡ x → length fs ≡ k
       → skip_to v x k ≡ x + length (polys_records fs)
   skipped A post fs x k e l lk =
       let rest : List Rec = H.free ++ (systems_records ss ++ H.beyond) in
       ap (skip_to v x) (sym lk)
       ∙ skip_to_polys_records v A x fs (post ++ rest) l (whole ∙ ap (λ (u : List Rec). u ++ rest) e ∙ simp append_assoc)
 
-  pub to_back : {x : ℕ} → x ≡ end_front i c bs → skip_to v x (n - i) ≡ end_back i n c bs
+  to_back : {x : ℕ} → x ≡ end_front i c bs → skip_to v x (n - i) ≡ end_back i n c bs
   to_back {x} e =
       skipped (to_p ++ front_p i c) behind_back (take (n - i) (drop i c.P)) x (n - i)
       (in_order ∙ sym (append_assoc to_p (front_p i c) behind_front))
       (omega (arith, length_to_p, length-append to_p (front_p i c))) length_back
       ∙ ap (λ (y : ℕ). y + length (back_p i n c)) e
 
-  pub to_q : {x p : ℕ} → p ≡ length c.P → x ≡ end_back i n c bs → skip_to v x (p - n) ≡ end_p i n c bs
+  to_q : {x p : ℕ} → p ≡ length c.P → x ≡ end_back i n c bs → skip_to v x (p - n) ≡ end_p i n c bs
   to_q {x} {p} ep e =
       skipped (to_p ++ front_p i c ++ back_p i n c) (polys_records c.Q ++ polys_records c.T) (drop (n - i) (drop i c.P)) x (p - n)
       (in_order ∙ sym (append_assoc (to_p ++ front_p i c) (back_p i n c) behind_back ∙ append_assoc to_p (front_p i c) behind_front))
@@ -197,10 +201,26 @@ module _ {v : List Rec} {most : ℕ} {c : Stored} {bs ss : List Stored} (H : Hel
       regroup : (a b d e f : List Rec) → a ++ (b ++ (d ++ (e ++ f))) ≡ a ++ b ++ d ++ e ++ f
       regroup a b d e f = simp append_assoc
 
-  pub to_t : {x q : ℕ} → q ≡ length c.Q → x ≡ end_p i n c bs → skip_to v x q ≡ end_q i n c bs
+  to_t : {x q : ℕ} → q ≡ length c.Q → x ≡ end_p i n c bs → skip_to v x q ≡ end_q i n c bs
   to_t {x} {q} eq e =
       skipped to_new (polys_records c.T) c.Q x q q_in_order (omega (arith, length_to_new)) (sym eq)
       ∙ ap (λ (y : ℕ). y + length (polys_records c.Q)) e
+
+  -- The same, of what the code skips over, from the open branch's first record on.
+  module _ {o : Open} (e : o ≡ open_of c bs) where
+    pub front_ends : {front : ℕ} → front ≡ skip_to v o.first i → front ≡ end_front i c bs
+    front_ends s = s ∙ skip_p H e i (omega arith)
+
+    pub back_ends : {front back : ℕ} → front ≡ skip_to v o.first i → back ≡ skip_to v front (n - i) → back ≡ end_back i n c bs
+    back_ends s₁ s₂ = s₂ ∙ to_back (front_ends s₁)
+
+    pub p_ends : {front back from_q : ℕ} → front ≡ skip_to v o.first i → back ≡ skip_to v front (n - i) → from_q ≡ skip_to v back (o.p - n)
+        → from_q ≡ end_p i n c bs
+    p_ends s₁ s₂ s₃ = s₃ ∙ to_q (p_is H e) (back_ends s₁ s₂)
+
+    pub q_ends : {front back from_q from_t : ℕ} → front ≡ skip_to v o.first i → back ≡ skip_to v front (n - i) → from_q ≡ skip_to v back (o.p - n)
+        → from_t ≡ skip_to v from_q o.q → from_t ≡ end_q i n c bs
+    q_ends s₁ s₂ s₃ s₄ = s₄ ∙ to_t (q_is H e) (p_ends s₁ s₂ s₃)
 
   length_parts : at_of (c ∷ bs) ≡ end_q i n c bs + length (polys_records c.T)
   length_parts =
@@ -216,11 +236,11 @@ module _ {v : List Rec} {most : ℕ} {c : Stored} {bs ss : List Stored} (H : Hel
       let back = length_le_polys_records (take (n - i) (drop i c.P)) in
       (omega (arith, length_front, length_back), length_le_polys_records c.Q)
 
-  members_p : (f : List ℕ) → n + 1 ≡ length (take i c.P ++ (f ∷ take (n - i) (drop i c.P)))
+  members_p : (f : List Packed) → n + 1 ≡ length (take i c.P ++ (f ∷ take (n - i) (drop i c.P)))
   members_p f = omega (arith, length-append (take i c.P) (f ∷ take (n - i) (drop i c.P)), length_front, length_back)
 
   -- ── what is held then ──
-  module _ (f initial : List ℕ) {at end top q t front back from_q from_t : ℕ}
+  module _ (f initial : List Packed) {at end top q t front back from_q from_t : ℕ}
       (G : Placed c bs i n (length H.free) at end top q t front back from_q from_t) where
     pub ordered : (room : ℕ) → length v ≡ room → Ordered n at end top q front back from_q from_t room
     ordered room e =
@@ -238,7 +258,7 @@ module _ {v : List Rec} {most : ℕ} {c : Stored} {bs ss : List Stored} (H : Hel
         }
 
     abbrev needed : ℕ
-    needed = 1 + (back - (at + 1)) + (length f / 2 + 1) + (from_t - from_q) + (length initial / 2 + 1) + (end - from_t)
+    needed = 1 + (back - (at + 1)) + (length f + 1) + (from_t - from_q) + (length initial + 1) + (end - from_t)
 
     length_needed : length (branch_records (at_of bs) (kept_open i n f initial c)) ≡ needed
     length_needed = omega (arith, length_kept i n (at_of bs) f initial c, G, length_parts)
@@ -292,7 +312,7 @@ module _ {v : List Rec} {most : ℕ} {c : Stored} {bs ss : List Stored} (H : Hel
     )
 
     abbrev pieces : ℕ
-    pieces = 1 + (front - (at + 1)) + (length f / 2 + 1) + (back - front) + (from_t - from_q) + (length initial / 2 + 1) + (end - from_t)
+    pieces = 1 + (front - (at + 1)) + (length f + 1) + (back - front) + (from_t - from_q) + (length initial + 1) + (end - from_t)
 
     pieces_needed : pieces ≡ needed
     pieces_needed = let a : (front - (at + 1)) + (back - front) ≡ back - (at + 1) = omega (arith, G.at_is, G.front_is, G.back_is) in omega arith

@@ -6,9 +6,11 @@ ghost use Rattle.records.specs.Records.{view};
 ghost use Rattle.stored.specs.Stored.{Storable};
 ghost use Rattle.branches.specs.Area.{Leaves, Opened, capacity, with_open, kept_open, WhenOpen, outside};
 
-// Builds the branch that stays open on top of the one set aside, from its first n members of P with f put in at place i, its Q with the initial, and its T.
-// Whether there is room.
-pub fn keep_open(w: &mut [u32], i: usize, n: usize, f: &[u64], initial: &[u64]) -> bool
+use polynomials::Term;
+
+// Builds the branch that stays open on top of the one set aside, from its first n members of P with f put in at place
+// i, its Q with the initial, and its T. Whether there is room.
+pub fn keep_open(w: &mut [u32], i: usize, n: usize, f: &[Term], initial: &[Term]) -> bool
     requires opened { Opened w.old }
     requires when_open { WhenOpen w.old (λ c bs ss. (i ≤ n) × (n ≤ length c.P)) }
     requires storable { Storable f.now }
@@ -30,9 +32,9 @@ pub fn keep_open(w: &mut [u32], i: usize, n: usize, f: &[u64], initial: &[u64]) 
     let from_t = stored::skip(w, from_q, q as usize);
     let size = 1
         + (back - (at + 1))
-        + (f.len() / 2 + 1)
+        + (f.len() + 1)
         + (from_t - from_q)
-        + (initial.len() / 2 + 1)
+        + (initial.len() + 1)
         + (end - from_t);
     if top - end < size {
         return false;

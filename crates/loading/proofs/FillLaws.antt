@@ -26,6 +26,7 @@ use Rattle.representation.specs.laws.Lists.{put_p_nonzero}
 use Rattle.loading.specs.declared.Target.{Target}
 use Rattle.loading.specs.declared.Target.TheVariants.{P, Q}
 use Rattle.loading.specs.Started.{Loaded, put_into, put_heads, Alone, Filled}
+use Rattle.polynomials.specs.declared.Term.{Term as Packed}
 
 -- ── putting never makes a branch smaller ──
 size_unless_dropped : (b : Bool) (f : Poly) (fs : List Poly) → polynomials_size fs ≤ polynomials_size (unless_dropped b f fs)
@@ -90,11 +91,11 @@ record Becomes (p most : ℕ) (c d : Branch) (r : Bool) (v : List Rec) : Type 0 
 
 -- ── one polynomial put ──
 -- s, put into whatever branch is open, is put so.
-abbrev pub Puts : List Rec → ℕ → Target → List ℕ → Bool → List Rec → Type 0
+abbrev pub Puts : List Rec → ℕ → Target → List Packed → Bool → List Rec → Type 0
 Puts v most q s r u =
     (b : Stored) (bs ss : List Stored) → Held v most (with_open b bs ss) → Leaves most (with_open b bs ss) (with_open (put_into q s b) bs ss) r u
 
-module _ (p : ℕ) (s : List ℕ) (f : Poly) (sound : Sound p s) (is_monic : Monic (terms s)) (e : terms s ≡ monic p f) where
+module _ (p : ℕ) (s : List Packed) (f : Poly) (sound : Sound p s) (is_monic : Monic (terms s)) (e : terms s ≡ monic p f) where
   put_branch : (q : Target) (b : Stored) → BranchSound p b → branch_of (put_into q s b) ≡ put_heads q p (f ∷ []) (branch_of b)
   unfolding put_all
   put_branch Q b h =
@@ -156,7 +157,7 @@ module _ {w : List ℕ} {p n : ℕ} {q : Target} {most : ℕ} {fs : List Poly} {
       head = chain_next l.chain more
 
       -- Its polynomial is loaded.
-      pub loaded_next : {m : ℕ} {s : List ℕ} → ((f : Poly) → read_head w p n i ≡ good f → Loaded p f m s) → Loaded p (chain_next l.chain more).member m s
+      pub loaded_next : {m : ℕ} {s : List Packed} → ((f : Poly) → read_head w p n i ≡ good f → Loaded p f m s) → Loaded p (chain_next l.chain more).member m s
       loaded_next loaded = loaded (chain_next l.chain more).member (chain_next l.chain more).is_read
 
       -- Those done and the polynomial of record i.
@@ -168,8 +169,8 @@ module _ {w : List ℕ} {p n : ℕ} {q : Target} {most : ℕ} {fs : List Poly} {
       with_head_parts =
           l.parts ∙ ap (λ (gs : List Poly). l.done ++ gs) head.parts ∙ sym (append_assoc l.done (head.member ∷ []) head.behind)
 
-      -- The first m words of s are its monic polynomial, and were put.
-      module _ {m : ℕ} {s : List ℕ} (loaded : (f : Poly) → read_head w p n i ≡ good f → Loaded p f m s) {r : Bool} {u : List Rec} (puts : Puts v most q (take m s) r u) where
+      -- The first m terms of s are its monic polynomial, and were put.
+      module _ {m : ℕ} {s : List Packed} (loaded : (f : Poly) → read_head w p n i ≡ good f → Loaded p f m s) {r : Bool} {u : List Rec} (puts : Puts v most q (take m s) r u) where
         becomes : Becomes p most (put_heads q p l.done c) (put_heads q p with_head c) r u
         unfolding with_head
         becomes =

@@ -15,16 +15,17 @@ use Rattle.representation.specs.Represent.{Sound, BranchSound, branch_of, state_
 use Rattle.representation.specs.Ready.{Ready}
 use Rattle.loading.specs.declared.Target.{Target}
 use Rattle.loading.specs.declared.Target.TheVariants.{P, Q}
+use Rattle.polynomials.specs.declared.Term.{Term as Packed}
 
--- The first m words hold the monic polynomial of f.
-pub record Loaded (p : ℕ) (f : Poly) (m : ℕ) (s : List ℕ) : Type 0 where
+-- The first m terms hold the monic polynomial of f.
+pub record Loaded (p : ℕ) (f : Poly) (m : ℕ) (s : List Packed) : Type 0 where
   pub within : m ≤ length s
   pub sound : Sound p (take m s)
   pub holds : terms (take m s) ≡ monic p f
   pub monic : Monic (terms (take m s))
 
 -- f put into the open branch.
-abbrev pub put_into : Target → List ℕ → Stored → Stored
+abbrev pub put_into : Target → List Packed → Stored → Stored
 put_into P f b = put_into_p f b
 put_into Q f b = put_into_q 0 f b
 

@@ -15,6 +15,7 @@ ghost use Rattle.branches.specs.Area.{Opened, Leaves, capacity, with_open, WhenO
 ghost use Rattle.representation.specs.Ready.{limits_in};
 ghost use Rattle.loading.specs.Started.{Loaded, put_into, Alone, Filled, Started};
 
+use polynomials::Term;
 use words::Table;
 
 // Where a polynomial is put.
@@ -26,7 +27,7 @@ enum Target {
 
 impl Target {
     // Puts f there; whether there is room.
-    fn put(self, work: &mut [u32], f: &[u64]) -> bool
+    fn put(self, work: &mut [u32], f: &[Term]) -> bool
         requires opened { Opened work.old }
         requires storable { Storable f.now }
         ensures when_open { WhenOpen work.old (λ b bs ss.
@@ -40,11 +41,11 @@ impl Target {
     }
 }
 
-// Loads the polynomial with its head in record `head` into the first words of `out`; how many.
-fn load_head(table: Table<'_>, head: usize, out: &mut [u64]) -> usize
+// Loads the polynomial with its head in record `head` into the first terms of `out`; how many.
+fn load_head(table: Table<'_>, head: usize, out: &mut [Term]) -> usize
     requires inside { head < records table.words.now }
     requires is_read { (f : Poly) × (read_head table.words.now table.modulus table.variables head ≡ good f) }
-    requires in_bounds { 512 ≤ length out.old }
+    requires in_bounds { 256 ≤ length out.old }
     ensures { (f : Poly) → read_head table.entry.words.now table.entry.modulus table.entry.variables head ≡ good f
         → Written f result out.new × Holds table.entry.modulus (take result out.new) }
 {
@@ -52,19 +53,21 @@ fn load_head(table: Table<'_>, head: usize, out: &mut [u64]) -> usize
     // The chain is accepted: no index is tested again.
     let mut i = table.word(head, 0) as usize;
     while i != 0 {
-        out[k] = table.word(i, 0) as u64;
-        out[k + 1] = monomials::packed(table.word(i, 1), table.word(i, 2));
-        k += 2;
+        out[k] = Term {
+            coefficient: u64::from(table.word(i, 0)),
+            monomial: monomials::packed(table.word(i, 1), table.word(i, 2)),
+        };
+        k += 1;
         i = table.word(i, 3) as usize;
     }
     k
 }
 
 // Loads that polynomial made monic.
-fn load_monic(table: Table<'_>, head: usize, out: &mut [u64]) -> usize
+fn load_monic(table: Table<'_>, head: usize, out: &mut [Term]) -> usize
     requires inside { head < records table.words.now }
     requires is_read { (f : Poly) × (read_head table.words.now table.modulus table.variables head ≡ good f) }
-    requires in_bounds { 512 ≤ length out.old }
+    requires in_bounds { 256 ≤ length out.old }
     ensures { (f : Poly) → read_head table.entry.words.now table.entry.modulus table.entry.variables head ≡ good f
         → Loaded table.entry.modulus f result out.new }
 {
@@ -74,10 +77,10 @@ fn load_monic(table: Table<'_>, head: usize, out: &mut [u64]) -> usize
 }
 
 // Puts the polynomials from the index `first` on, which the header holds; whether there is room. r is scratch.
-fn put_heads(table: Table<'_>, first: u32, target: Target, work: &mut [u32], r: &mut [u64]) -> bool
+fn put_heads(table: Table<'_>, first: u32, target: Target, work: &mut [u32], r: &mut [Term]) -> bool
     requires are_read { (fs : List Poly) × (read_heads table.words.now table.modulus table.variables (records table.words.now) 0 first ≡ good fs) }
     requires alone { (c : Branch) × Alone table.modulus (capacity work.old) c (view work.old) }
-    requires in_bounds { 512 ≤ length r.old }
+    requires in_bounds { 256 ≤ length r.old }
     ensures filled { (fs : List Poly) (c : Branch)
         → read_heads table.entry.words.now table.entry.modulus table.entry.variables (records table.entry.words.now) 0 first ≡ good fs
         → Alone table.entry.modulus (capacity work.old) c (view work.old)
@@ -98,10 +101,10 @@ fn put_heads(table: Table<'_>, first: u32, target: Target, work: &mut [u32], r: 
 
 // The first branch of an accepted table, whatever the words of the work area were; whether there is room. r is scratch.
 #[tactic(auto, using(words::proofs::Laws::first_record))]
-pub fn start(table: Table<'_>, work: &mut [u32], r: &mut [u64]) -> bool
+pub fn start(table: Table<'_>, work: &mut [u32], r: &mut [Term]) -> bool
     requires header { TableOf table.words.now table }
     requires accepted { (t : Input) × (read_table table.words.now ≡ good t) }
-    requires in_bounds { 512 ≤ length r.old }
+    requires in_bounds { 256 ≤ length r.old }
     ensures started { (t : Input) → read_table table.entry.words.now ≡ good t
         → Started t (start (limits_in (capacity work.old)) t) (capacity work.old) result (view work.new) }
     ensures too_small { capacity work.old < 2 → work.new ≡ work.old }

@@ -1,33 +1,39 @@
--- A polynomial in the first words of a slice, made monic in place.
-use mathlib.Core.Path.{◌≡◌, sym, ap, subst, ◌∙◌}
-use mathlib.Core.List.{List, [], ◌∷◌, ◌++◌}
-use Prim.Native.Nat.{ℕ, zero, suc, ◌%◌, ◌≤◌, ◌<◌}
-use native.Mathlib.Omega.{arith}
-use lib.ListN.{length, get_or, take, drop, length-append}
-use lib.Seq.{length-take-le, take_at, drop_at}
-use Rattle.residues.specs.Prime.{Prime}
+-- A polynomial in the first terms of a slice, made monic in place.
+use Rattle.std.specs.Prelude.{◌≡◌, List, [], ◌∷◌, ◌++◌, ℕ, ◌^◌, ◌≤◌, ◌<◌, length, take, drop}
+use Rattle.std.proofs.Common.{sym, ap, subst, ◌∙◌, arith, length-append, length-take-le, take_at}
+use Rattle.std.proofs.Math.Seq.{drop_at}
+use Rattle.residues.specs.Each.{Each}
 use Rattle.polynomials.specs.Poly.{monic}
 use Rattle.polynomials.specs.Canonical.{Canonical}
 use Rattle.polynomials.specs.Packed.{terms}
 use Rattle.polynomials.specs.Working.{Holds}
 use Rattle.polynomials.specs.laws.Canonical.{canonical_monic}
-use Rattle.representation.specs.Represent.{Sound}
+use Rattle.polynomials.specs.declared.Term.{Term as Packed}
+use Rattle.stored.specs.Stored.{Storable}
+use Rattle.representation.specs.Represent.{TwoWords, Sound}
+use Rattle.representation.specs.Ready.{Modulus}
+use Rattle.representation.specs.laws.Sounds.{sound_storable}
 
-pub small_take : (n : ℕ) (s : List ℕ) (m : ℕ) → 1 ≤ m → ((i : ℕ) → get_or s i 0 < m) → (i : ℕ) → get_or (take n s) i 0 < m
-small_take zero s m l h i = omega arith
-small_take (suc n) [] m l h i = omega arith
-small_take (suc n) (x ∷ s) m l h zero = h 0
-small_take (suc n) (x ∷ s) m l h (suc i) = small_take n s m l (λ j. h (suc j)) i
+-- A residue is a word, and so are a term's two where its monomial is.
+pub two_words : (p : ℕ) → p ≤ 2 ^ 64 → (s : List Packed) → Canonical p (terms s) → Each (λ t. t.monomial < 2 ^ 64) s → Each TwoWords s
+unfolding terms
+two_words p below [] c words = tt
+two_words p below (t ∷ s) c words = ((omega (arith, c.1, below), words.0), two_words p below s c.3 words.1)
 
--- The first n words of r were made monic: m stands in their place.
-pub record Made (p n : ℕ) (r m : List ℕ) : Type 0 where
-  pub prime : Prime p
+-- The first n terms of r were made monic: m stands in their place.
+pub record Made (p n : ℕ) (r m : List Packed) : Type 0 where
+  pub modulus : Modulus p
   pub within : n ≤ length r
   pub holds : Holds p (take n r)
   pub kept : length m ≡ length (take n r)
   pub is : terms m ≡ monic p (terms (take n r))
+  pub words : Each (λ t. t.monomial < 2 ^ 64) m
 
-module _ {p n : ℕ} {r m : List ℕ} (M : Made p n r m) where
+pub made_by : (p n : ℕ) (r m : List Packed) → Modulus p → (n ≤ length r) × Holds p (take n r) → length m ≡ length (take n r)
+    → terms m ≡ monic p (terms (take n r)) → Each (λ t. t.monomial < 2 ^ 64) m → Made p n r m
+made_by p n r m modulus q kept is words = record { modulus = modulus; within = q.0; holds = q.1; kept = kept; is = is; words = words }
+
+module _ {p n : ℕ} {r m : List Packed} (M : Made p n r m) where
   long : length m ≡ n
   long = M.kept ∙ length-take-le n r M.within
 
@@ -46,12 +52,13 @@ module _ {p n : ℕ} {r m : List ℕ} (M : Made p n r m) where
   pub made_monic : terms (take n (m ++ drop n r)) ≡ monic p (terms (take n r))
   made_monic = ap terms made ∙ M.is
 
-  pub made_sound : ((i : ℕ) → get_or (m ++ drop n r) i 0 < 18446744073709551616) → Sound p (take n (m ++ drop n r))
-  made_sound small = record {
-    holds = record {
-      pairs = ap (λ (f : List ℕ). length f % 2) made ∙ ap (λ (i : ℕ). i % 2) M.kept ∙ M.holds.pairs;
-      few = omega (arith, ap length made, M.kept, M.holds.few);
-      canonical = subst (Canonical p) (sym made_monic) (canonical_monic p (terms (take n r)) (omega (arith, M.prime.two≤)));
-    };
-    small = small_take n (m ++ drop n r) 18446744073709551616 (omega arith) small;
-  }
+  pub made_sound : Sound p (take n (m ++ drop n r))
+  made_sound =
+      let below : p < 2147483648 = M.modulus.below in
+      let canonical : Canonical p (terms m) =
+      subst (Canonical p) (sym M.is) (canonical_monic p (terms (take n r)) (omega (arith, M.modulus.prime.two≤))) in
+      let holds : Holds p m = record { few = omega (arith, M.kept, M.holds.few); canonical = canonical } in
+      subst (Sound p) (sym made) record { holds = holds; small = two_words p (omega arith) m canonical M.words }
+
+  pub made_storable : Storable (take n (m ++ drop n r))
+  made_storable = sound_storable p (omega (arith, M.modulus.below)) (take n (m ++ drop n r)) made_sound

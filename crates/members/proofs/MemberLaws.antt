@@ -21,12 +21,13 @@ use Rattle.representation.specs.Represent.{Sound, AllSound, BranchSound, AllList
 use Rattle.representation.specs.laws.Steps.{if_fits, tested_room, within_room_fits, divide_state}
 use Rattle.representation.specs.laws.Replaced.{turned, turned_q, turned_size, with_new_turned}
 use Rattle.members.specs.Members.{HasLeft, HasMembers, next_member, taken_out, put_in, rest_of_step}
+use Rattle.polynomials.specs.declared.Term.{Term as Packed}
 
 module _ (l : Limits) (p k : ℕ) (f : Poly) (b : Stored) (bs ss : List Stored) where
   abbrev pub after : Branch → State
   after B = state l p (map branch_of bs) (reverse (map system_of ss)) B
 
-  abbrev pub replace_in : List (List ℕ) → Branch → Stepped
+  abbrev pub replace_in : List (List Packed) → Branch → Stepped
   replace_in old B = replace l p (map branch_of bs) (reverse (map system_of ss)) k f (map terms old) B
 
   -- The remainder r behind those of the members of Q before the next one.
@@ -47,8 +48,8 @@ module _ (l : Limits) (p k : ℕ) (f : Poly) (b : Stored) (bs ss : List Stored) 
   abbrev goes_on_with : ℕ → Bool → ℕ → ℕ → Stored → Stepped
   goes_on_with most closing place left c = if_fits (leb (size (with_open c bs ss)) most) (rest_of_step l p closing place left k f c bs ss)
 
-  -- The words r are put in the place of the next member.
-  abbrev renewed : Bool → ℕ → ℕ → List ℕ → Stored
+  -- r is put in the place of the next member.
+  abbrev renewed : Bool → ℕ → ℕ → List Packed → Stored
   renewed closing place left r = put_in closing (left - 1) r (taken_out closing place left b)
 
   pub takes : (closing : Bool) (place left : ℕ) → 1 ≤ left → HasLeft closing place left b
@@ -57,11 +58,11 @@ module _ (l : Limits) (p k : ℕ) (f : Poly) (b : Stored) (bs ss : List Stored) 
   takes false place zero h u = absurd (omega arith)
   takes false place (suc n) h u = refl
   takes true place left h u =
-      ap (λ (gs : List (List ℕ)). replace_in gs (with_new b (take (length b.Q - left) b.Q)))
+      ap (λ (gs : List (List Packed)). replace_in gs (with_new b (take (length b.Q - left) b.Q)))
       (drop-cons b.Q (length b.Q - left) [] (omega (arith, u.0, u.1)))
 
   -- Rule 4: the remainder R is put as the words r.
-  puts_p : (place : ℕ) (r : List ℕ) (R : Poly) (most : ℕ) → l.of_room ≡ at_most (most - 1) → 1 ≤ most → AllListed ss → BranchSound p b
+  puts_p : (place : ℕ) (r : List Packed) (R : Poly) (most : ℕ) → l.of_room ≡ at_most (most - 1) → 1 ≤ most → AllListed ss → BranchSound p b
       → Sound p r → terms r ≡ monic p R → onward false place 1 R ≡ goes_on_with most false place 0 (renewed false place 1 r)
   unfolding rest_of_step
   puts_p place r R most bound some h s u e =
@@ -69,15 +70,15 @@ module _ (l : Limits) (p k : ℕ) (f : Poly) (b : Stored) (bs ss : List Stored) 
       ∙ within_room_fits l most bound some (with_open (put_into_p r (without_p place b)) bs ss) h
 
   -- Rule 5: so is each remainder, before the members that are left.
-  module _ (place left : ℕ) (some_left : 1 ≤ left) (there : left ≤ length b.Q) (r : List ℕ) (R : Poly) (u : Sound p r) (e : terms r ≡ monic p R)
+  module _ (place left : ℕ) (some_left : 1 ≤ left) (there : left ≤ length b.Q) (r : List Packed) (R : Poly) (u : Sound p r) (e : terms r ≡ monic p R)
       (s : BranchSound p b) where
     abbrev j : ℕ
     j = length b.Q - left
 
-    abbrev new : List (List ℕ)
+    abbrev new : List (List Packed)
     new = take j b.Q
 
-    abbrev old : List (List ℕ)
+    abbrev old : List (List Packed)
     old = drop (suc j) b.Q
 
     parts : b.Q ≡ new ++ (get_or b.Q j [] ∷ old)
@@ -98,9 +99,9 @@ module _ (l : Limits) (p k : ℕ) (f : Poly) (b : Stored) (bs ss : List Stored) 
         let put = put_q r new in
         let n = length (put ++ old) - (left - 1) in
         let to : length put ≡ n = omega (arith, length-append put old, length_old) in
-        ap (λ (fs : List (List ℕ)). replace_in (drop (length fs - (left - 1)) fs) (with_new b (take (length fs - (left - 1)) fs)))
+        ap (λ (fs : List (List Packed)). replace_in (drop (length fs - (left - 1)) fs) (with_new b (take (length fs - (left - 1)) fs)))
         (turned_q l p b bs ss new (get_or b.Q j []) old parts r)
-        ∙ ap₂ (λ (fs gs : List (List ℕ)). replace_in fs (with_new b gs)) (drop_at put old n to) (take_at put old n to)
+        ∙ ap₂ (λ (fs gs : List (List Packed)). replace_in fs (with_new b gs)) (drop_at put old n to) (take_at put old n to)
         ∙ ap (replace_in old) (with_new_turned l p b bs ss new (get_or b.Q j []) old parts r R u e sound_new)
 
     puts_q : (most : ℕ) → l.of_room ≡ at_most (most - 1) → 1 ≤ most → AllListed ss
@@ -113,7 +114,7 @@ module _ (l : Limits) (p k : ℕ) (f : Poly) (b : Stored) (bs ss : List Stored) 
         ∙ ap (goes_on_with most true place (left - 1)) same
 
   -- A member was divided, its remainder is R, and r is put: the step goes on if there is room.
-  module _ (place left : ℕ) (r : List ℕ) (R : Poly) (u : Sound p r) (e : terms r ≡ monic p R) (s : BranchSound p b) (most : ℕ)
+  module _ (place left : ℕ) (r : List Packed) (R : Poly) (u : Sound p r) (e : terms r ≡ monic p R) (s : BranchSound p b) (most : ℕ)
       (bound : l.of_room ≡ at_most (most - 1)) (some : 1 ≤ most) (h : AllListed ss) (one : 1 ≤ left) where
     abbrev GoesOn : Bool → ℕ → Type 0
     GoesOn closing left =

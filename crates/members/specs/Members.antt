@@ -6,6 +6,7 @@ use Rattle.rules.specs.Room.{Limits}
 use Rattle.rules.specs.Step.{Stepped, next, within_room, after_division, remainder_by, divided, state, replace}
 use Rattle.branches.specs.Area.{Stored, with_open, put_into_p, put_into_q, without_p, without_q}
 use Rattle.representation.specs.Represent.{branch_of, system_of, state_of, chosen, with_new}
+use Rattle.polynomials.specs.declared.Term.{Term as Packed}
 
 -- There is a member to be divided.
 abbrev pub HasLeft : Bool → ℕ → ℕ → Stored → Type 0
@@ -13,7 +14,7 @@ HasLeft false place left b = place < length b.P
 HasLeft true place left b = (1 ≤ left) × (left ≤ length b.Q)
 
 -- The next one, the branch without it, and the branch with f put in its stead, before the `left` that are yet to be divided.
-abbrev pub next_member : Bool → ℕ → ℕ → Stored → List ℕ
+abbrev pub next_member : Bool → ℕ → ℕ → Stored → List Packed
 next_member false place left b = get_or b.P place []
 next_member true place left b = get_or b.Q (length b.Q - left) []
 
@@ -21,7 +22,7 @@ abbrev pub taken_out : Bool → ℕ → ℕ → Stored → Stored
 taken_out false place left b = without_p place b
 taken_out true place left b = without_q (length b.Q - left) b
 
-abbrev pub put_in : Bool → ℕ → List ℕ → Stored → Stored
+abbrev pub put_in : Bool → ℕ → List Packed → Stored → Stored
 put_in false left f b = put_into_p f b
 put_in true left f b = put_into_q left f b
 

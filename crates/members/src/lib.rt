@@ -11,6 +11,8 @@ ghost use Rattle.representation.specs.Represent.{Sound};
 ghost use Rattle.representation.specs.Ready.{Modulus};
 ghost use Rattle.members.specs.Members.{HasLeft, HasBehind, next_member, taken_out, put_in};
 
+use polynomials::Term;
+
 // How many members Q has.
 pub fn count_q(w: &[u32]) -> usize
     requires { Opened w.now }
@@ -20,11 +22,11 @@ pub fn count_q(w: &[u32]) -> usize
     b.q as usize
 }
 
-// Takes the next member to be divided out of the area and loads it into r: the member of P at `place`, or the first of the last `left` of Q. How many words.
-pub fn take(w: &mut [u32], closing: bool, place: usize, left: usize, r: &mut [u64]) -> usize
+// Takes the next member to be divided out of the area and loads it into r: the member of P at `place`, or the first of the last `left` of Q. How many terms.
+pub fn take(w: &mut [u32], closing: bool, place: usize, left: usize, r: &mut [Term]) -> usize
     requires opened { Opened w.old }
     requires when_open { WhenOpen w.old (λ b bs ss. HasLeft closing place left b) }
-    requires in_bounds { 512 ≤ length r.old }
+    requires in_bounds { 256 ≤ length r.old }
     ensures when_open_2 { WhenOpen w.old (λ b bs ss.
         (result ≡ length (next_member closing place left b)) × (take result r.new ≡ next_member closing place left b)
         × Held (view w.new) (capacity w.old) (with_open (taken_out closing place left b) bs ss)) }
@@ -35,15 +37,16 @@ pub fn take(w: &mut [u32], closing: bool, place: usize, left: usize, r: &mut [u6
         let j = count_q(w) - left;
         let n = branches::load_q(w, j, r);
         changes::remove_q(w, j);
-        return n;
+        n
+    } else {
+        let n = branches::load_p(w, place, r);
+        changes::remove_p(w, place);
+        n
     }
-    let n = branches::load_p(w, place, r);
-    changes::remove_p(w, place);
-    n
 }
 
-// Makes the first n words of r monic and puts them into P, or into Q before its last `left` members; whether there is room. The words behind stay.
-pub fn put_back(w: &mut [u32], p: u64, closing: bool, left: usize, r: &mut [u64], n: usize) -> bool
+// Makes the first n terms of r monic and puts them into P, or into Q before its last `left` members; whether there is room. The terms behind stay.
+pub fn put_back(w: &mut [u32], p: u64, closing: bool, left: usize, r: &mut [Term], n: usize) -> bool
     requires opened { Opened w.old × Modulus p }
     requires when_open { WhenOpen w.old (λ b bs ss. HasBehind closing left b) }
     requires n_in_bounds { (n ≤ length r.old) × Holds p (take n r.old) }
@@ -55,7 +58,8 @@ pub fn put_back(w: &mut [u32], p: u64, closing: bool, left: usize, r: &mut [u64]
 {
     scaling::monic(p, &mut r[..n]);
     if closing {
-        return puts::put_q(w, left, &r[..n]);
+        puts::put_q(w, left, &r[..n])
+    } else {
+        puts::put_p(w, &r[..n])
     }
-    puts::put_p(w, &r[..n])
 }

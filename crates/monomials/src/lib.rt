@@ -1,7 +1,7 @@
 // Monomials: eight exponents packed in 64 bits, v1's in the lowest byte.
 #![tactic(auto)]
 
-ghost use Rattle.std.specs.Prelude.{◌≡◌, ◌+◌, ◌*◌, ◌<◌, get_or};
+ghost use Rattle.std.specs.Prelude.{◌≡◌, ◌+◌, ◌*◌, ◌<◌, ltb, get_or};
 ghost use Rattle.std.proofs.Math.Dec.{is_le};
 ghost use Rattle.polynomials.specs.Packed.{bytes, exponents};
 ghost use Rattle.polynomials.specs.Bounds.{at_most, some_over};
@@ -20,7 +20,7 @@ pub fn exponent(m: u64, k: u32) -> u64
 pub fn packed(high: u32, low: u32) -> u64
     ensures { (result ≡ high * 4294967296 + low) × (bytes 8 result ≡ exponents high low) }
 {
-    ((high as u64) << 32) + low as u64
+    (u64::from(high) << 32) + u64::from(low)
 }
 
 // Whether a is not above b: the order of monomials is that of numbers.
@@ -36,23 +36,26 @@ pub fn highest(m: u64) -> u32
 {
     let mut left = m;
     let mut k: u32 = 0;
+    // No range: how many bytes there are is what the loop finds.
     while 0 < left {
-        left = left / 256;
+        left /= 256;
         k += 1;
     }
     k
+}
+
+// Whether the exponents of v(k+1) sum to over 255.
+#[tactic(auto, using(polynomials::specs::laws::Packed::byte_small))]
+fn passes_at(a: u64, b: u64, k: u32) -> bool
+    requires { k < 8 }
+    ensures { result ≡ ltb 255 (get_or (bytes 8 a) k 0 + get_or (bytes 8 b) k 0) }
+{
+    255 < exponent(a, k) + exponent(b, k)
 }
 
 // Whether some exponent of the product of two monomials passes 255.
 pub fn passes(a: u64, b: u64) -> bool
     ensures { result ≡ some_over (at_most 255) (join (bytes 8 a) (bytes 8 b)) }
 {
-    let mut k = 0;
-    while k < 8 {
-        if 255 < exponent(a, k) + exponent(b, k) {
-            return true;
-        }
-        k += 1;
-    }
-    false
+    (0..8).any(|k| passes_at(a, b, k))
 }

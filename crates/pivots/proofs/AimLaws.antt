@@ -9,7 +9,7 @@ use Rattle.rules.specs.Branch.{Found, none, found}
 use Rattle.records.specs.Records.{Rec}
 use Rattle.branches.specs.Area.{Stored, Held, with_open, closed}
 use Rattle.search.specs.Search.{other_place}
-use Rattle.search.specs.declared.Other.TheVariants.{None, At}
+use Rattle.std.proofs.Common.{None, Some}
 use Rattle.pivots.specs.declared.Division.{Division}
 use Rattle.pivots.specs.Aimed.{division_of, aimed}
 
@@ -17,7 +17,7 @@ module _ (k d n m i : ℕ) (b : Stored) (bs ss : List Stored) (v : List Rec) (mo
   abbrev Aims : Division → Found → Type 0
   Aims q o = (q ≡ division_of o k d n m b) × Held v most (with_open (aimed o i b) bs ss)
 
-  pub aims_at : (o : Found) (j e : ℕ) → other_place o ≡ At j → e ≡ d → Held v most (with_open b bs ss)
+  pub aims_at : (o : Found) (j e : ℕ) → other_place o ≡ Some j → e ≡ d → Held v most (with_open b bs ss)
       → Aims (record { k = k; degree = e; pivot = n; initial = m; closing = false; place = j; left = 1 }) o
   aims_at none j e q x h = let z : ◌≡◌ {A = ℕ} 0 1 = cc in absurd (omega arith)
   aims_at (found c) j e q x h =

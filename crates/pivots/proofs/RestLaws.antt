@@ -3,24 +3,25 @@ use mathlib.Core.Path.{◌≡◌, refl, sym, ap, subst, ◌∙◌}
 use mathlib.Core.Logic.{◌≢◌}
 use mathlib.Core.Bool.{Bool, true, false}
 use mathlib.Core.List.{List, [], ◌∷◌}
-use Prim.Native.Nat.{ℕ, ◌+◌, ◌*◌, ◌-◌, ◌/◌, ◌≤◌, ◌<◌}
+use Prim.Native.Nat.{ℕ, ◌+◌, ◌-◌, ◌≤◌, ◌<◌}
 use native.Mathlib.Omega.{arith}
 use lib.Dec.{eqb}
 use borrow.Author.Tests.{eqb-true, eqb-false}
 use lib.ListN.{length, get_or, take, drop, length-drop}
-use lib.Seq.{paste}
-use Rattle.polynomials.proofs.CopyLaws.{copied_length, copied_first, copied_behind}
+use lib.Seq.{take_at, drop_at}
+use Rattle.std.proofs.Common.{◌++◌, length-append}
 use Rattle.polynomials.specs.Poly.{Poly}
 use Rattle.polynomials.specs.Canonical.{Canonical, All}
 use Rattle.polynomials.specs.Division.{degree, leader, initial, rest, coefficient, without}
 use Rattle.polynomials.specs.Packed.{terms}
-use Rattle.polynomials.specs.Working.{Pairs, Holds}
+use Rattle.polynomials.specs.Working.{Holds}
 use Rattle.polynomials.specs.laws.Degree.{all_degree}
 use Rattle.polynomials.specs.laws.Free.{Free}
 use Rattle.polynomials.specs.laws.All.{all_map}
 use Rattle.polynomials.specs.laws.Places.{Places, places_terms}
 use Rattle.polynomials.specs.laws.Parts.{canonical_rest, length_initial, above_leader, falling, coefficient_of, coefficient_none, without_of, without_none}
-use Rattle.polynomials.specs.laws.Terms.{terms_drop, words_of_terms}
+use Rattle.polynomials.specs.laws.Terms.{length_terms, terms_drop}
+use Rattle.polynomials.specs.declared.Term.{Term as Packed}
 
 module _ (p k d : ℕ) where
   abbrev Behind : Poly → Type 0
@@ -48,54 +49,50 @@ behind_initial : (p k : ℕ) (f : Poly) → Canonical p f → Places 8 f → lea
 behind_initial p k f c u led =
     behind p k (degree k f) f c u (λ j l. above_leader f j (omega (arith, led))) (all_degree k (degree k f) f (omega arith))
 
--- The first n words of y are the rest of t, and those behind are still r's.
-pub record RestIn (p k : ℕ) (t r y : List ℕ) (n : ℕ) : Type 0 where
+-- The first n terms of y are the rest of t, and those behind are still r's.
+pub record RestIn (p k : ℕ) (t r y : List Packed) (n : ℕ) : Type 0 where
   pub inside : n ≤ length y
   pub is : terms (take n y) ≡ rest k (terms t)
   pub holds : Holds p (take n y)
   pub behind : drop n y ≡ drop n r
 
 -- t is led by v(k+1), and i is its initial.
-module _ (p k : ℕ) (t i : List ℕ) (c : Canonical p (terms t)) (led : leader (terms t) ≡ k + 1) (u : Pairs t) (v : Pairs i)
-    (e : terms i ≡ initial k (terms t)) where
+module _ (p k : ℕ) (t i : List Packed) (c : Canonical p (terms t)) (led : leader (terms t) ≡ k + 1) (e : terms i ≡ initial k (terms t)) where
   both : Behind p k (degree k (terms t)) (terms t)
   both = behind_initial p k (terms t) c (places_terms t) led
 
-  long : length i ≡ 2 * length (coefficient k (degree k (terms t)) (terms t))
+  long : length i ≡ length (coefficient k (degree k (terms t)) (terms t))
   unfolding initial
-  long = words_of_terms i v ∙ ap (λ (f : Poly). 2 * length f) e
+  long = sym (length_terms i) ∙ ap length e
 
   pub initial_inside : length i ≤ length t
-  initial_inside = omega (arith, words_of_terms i v, ap length e, length_initial k (terms t), words_of_terms t u)
+  initial_inside = omega (arith, length_terms i, ap length e, length_initial k (terms t), length_terms t)
 
   rest_behind : terms (drop (length i) t) ≡ rest k (terms t)
   unfolding rest
-  rest_behind =
-      let h : length i / 2 ≡ length (coefficient k (degree k (terms t)) (terms t)) = omega (arith, long) in
-      terms_drop (length i) t v ∙ ap (λ (n : ℕ). drop n (terms t)) h ∙ both
+  rest_behind = terms_drop (length i) t ∙ ap (λ (n : ℕ). drop n (terms t)) long ∙ both
 
-  -- The words behind the initial's were copied to the first of r, which are y then.
-  module _ (few : length t ≤ 512) (r y : List ℕ) (room : 512 ≤ length r) (copied : y ≡ paste r 0 (drop (length i) t) (length t - length i)) where
-    left : length (drop (length i) t) ≡ length t - length i
-    left = length-drop (length i) t
+  -- The terms behind the initial's, s, were copied to the first of r.
+  module _ (few : length t ≤ 256) (r s : List Packed) (room : 256 ≤ length r) (copied : s ≡ drop (length i) t) where
+    abbrev n : ℕ
+    n = length t - length i
 
-    room_is : length t - length i ≤ length r
-    room_is = omega (arith, few, room)
+    size : length s ≡ n
+    size = ap length copied ∙ length-drop (length i) t
 
-    first : take (length t - length i) y ≡ drop (length i) t
-    first = copied_first (drop (length i) t) r y (length t - length i) left room_is copied
+    first : take n (s ++ drop n r) ≡ drop (length i) t
+    first = take_at s (drop n r) n size ∙ copied
 
-    is_rest : terms (take (length t - length i) y) ≡ rest k (terms t)
+    is_rest : terms (take n (s ++ drop n r)) ≡ rest k (terms t)
     is_rest = ap terms first ∙ rest_behind
 
-    pub rest_in : RestIn p k t r y (length t - length i)
+    pub rest_in : RestIn p k t r (s ++ drop n r) n
     rest_in = record {
-      inside = omega (arith, room_is, copied_length (drop (length i) t) r y (length t - length i) left room_is copied);
+      inside = omega (arith, size, length-append s (drop n r));
       is = is_rest;
       holds = record {
-        pairs = omega (arith, ap length first, left, initial_inside, u, v);
-        few = omega (arith, ap length first, left, few);
+        few = omega (arith, ap length first, length-drop (length i) t, few);
         canonical = subst (Canonical p) (sym is_rest) (canonical_rest p k (terms t) c);
       };
-      behind = copied_behind (drop (length i) t) r y (length t - length i) left room_is copied;
+      behind = drop_at s (drop n r) n size;
     }

@@ -1,15 +1,16 @@
 -- What rules 3 to 5 come to.
 use Rattle.std.specs.Prelude.{true, false, List, ℕ, ◌-◌, length, take, drop}
+use Rattle.polynomials.specs.declared.Term.{Term as Packed}
 use Rattle.rules.specs.Branch.{Found, none, found}
 use Rattle.branches.specs.Area.{Stored, closed}
 use Rattle.pivots.specs.declared.Division.{Division}
 
--- Where rule 3 forms the rest of the pivot t, made monic: the first words of r, as many as t has behind its initial i.
-abbrev pub rest_words : List ℕ → List ℕ → List ℕ → List ℕ
-rest_words t i r = take (length t - length i) r
+-- Where rule 3 forms the rest of the pivot t, made monic: the first terms of r, as many as t has behind its initial i.
+abbrev pub rest_terms : List Packed → List Packed → List Packed → List Packed
+rest_terms t i r = take (length t - length i) r
 
--- The words of r behind it.
-abbrev pub behind_rest : List ℕ → List ℕ → List ℕ → List ℕ
+-- The terms of r behind it.
+abbrev pub behind_rest : List Packed → List Packed → List Packed → List Packed
 behind_rest t i r = drop (length t - length i) r
 
 -- What rule 4 or 5 leaves to be divided, by the other polynomial that the pivot's variable leads; and the branch then.

@@ -13,11 +13,11 @@ ghost use Rattle.rules.specs.Branch.{other};
 ghost use Rattle.heads.specs.Heads.{AllHold};
 ghost use Rattle.representation.specs.Represent.{Sound, branch_of};
 ghost use Rattle.representation.specs.Ready.{Modulus};
-ghost use Rattle.pivots.specs.Aimed.{rest_words, behind_rest, division_of, aimed};
+ghost use Rattle.pivots.specs.Aimed.{rest_terms, behind_rest, division_of, aimed};
 
-use search::Other;
+use polynomials::Term;
 
-// What a rule leaves to be divided by the pivot, whose words and whose initial's are so many: at rule 5 the last `left` members of Q, and at rule 4
+// What a rule leaves to be divided by the pivot, whose terms and whose initial's are so many: at rule 5 the last `left` members of Q, and at rule 4
 // the member of P at `place`, with `left` 1.
 #[derive(Clone, Copy)]
 pub struct Division {
@@ -31,7 +31,7 @@ pub struct Division {
 }
 
 // Rule 4 or 5 for the pivot t, which stands in P at `place`: at rule 5 it goes to T.
-pub fn prepare_division(w: &mut [u32], k: u32, place: usize, t: &[u64], initial: usize) -> Division
+pub fn prepare_division(w: &mut [u32], k: u32, place: usize, t: &[Term], initial: usize) -> Division
     requires opened { Opened w.old × (k < 8) × Storable t.now }
     requires when_open { WhenOpen w.old (λ b bs ss. (p : ℕ) × AllHold p b.P) }
     requires when_open_2 { WhenOpen w.old (λ b bs ss. (place < length b.P) × (get_or b.P place [] ≡ t.now)) }
@@ -43,21 +43,19 @@ pub fn prepare_division(w: &mut [u32], k: u32, place: usize, t: &[u64], initial:
     let degree = degrees::degree(t, k);
     let pivot = t.len();
     match survey::find_other(w, k, place) {
-        Other::At(j) => {
-            return Division {
-                k,
-                degree,
-                pivot,
-                initial,
-                closing: false,
-                place: j,
-                left: 1,
-            };
-        }
-        Other::None => {
+        Some(j) => Division {
+            k,
+            degree,
+            pivot,
+            initial,
+            closing: false,
+            place: j,
+            left: 1,
+        },
+        None => {
             changes::close(w, place, t);
             let q = members::count_q(w);
-            return Division {
+            Division {
                 k,
                 degree,
                 pivot,
@@ -65,52 +63,49 @@ pub fn prepare_division(w: &mut [u32], k: u32, place: usize, t: &[u64], initial:
                 closing: true,
                 place: 0,
                 left: q,
-            };
+            }
         }
     }
 }
 
 // Whether f is 1 or in Q.
-pub fn is_settled(w: &[u32], f: &[u64]) -> bool
+pub fn is_settled(w: &[u32], f: &[Term]) -> bool
     requires opened { Opened w.now }
     requires storable { Storable f.now }
     ensures { WhenOpen w.now (λ b bs ss.
         result ≡ (is_one f.now || member f.now b.Q)) }
 {
-    if branches::is_one(f) {
-        return true;
-    }
-    branches::q_contains(w, f)
+    branches::is_one(f) || branches::q_contains(w, f)
 }
 
-// Rule 3 for the pivot t, which stands in P at `place`, and its initial i. Whether there is room. The rest, made monic, is left in the first words of r;
+// Rule 3 for the pivot t, which stands in P at `place`, and its initial i. Whether there is room. The rest, made monic, is left in the first terms of r;
 // those behind stay.
 pub fn apply_split(
     w: &mut [u32],
     p: u64,
     k: u32,
     place: usize,
-    t: &[u64],
-    i: &[u64],
-    r: &mut [u64],
+    t: &[Term],
+    i: &[Term],
+    r: &mut [Term],
 ) -> bool
-    requires opened { Opened w.old × Modulus p × (512 ≤ length r.old) }
+    requires opened { Opened w.old × Modulus p × (256 ≤ length r.old) }
     requires sound { Sound p t.now × (leader (terms t.now) ≡ k + 1) }
     requires sound_2 { Sound p i.now × (terms i.now ≡ initial k (terms t.now)) }
     requires when_open { WhenOpen w.old (λ b bs ss.
         (place < length b.P) × (get_or b.P place [] ≡ t.now) × (is_one i.now ≡ false) × (member i.now b.Q ≡ false)) }
-    ensures sound_3 { Sound p (rest_words t.now i.now r.new)
-        × (terms (rest_words t.now i.now r.new) ≡ monic p (rest k (terms t.now)))
+    ensures sound_3 { Sound p (rest_terms t.now i.now r.new)
+        × (terms (rest_terms t.now i.now r.new) ≡ monic p (rest k (terms t.now)))
         × (behind_rest t.now i.now r.new ≡ behind_rest t.now i.now r.old) }
     ensures when_open_2 { WhenOpen w.old (λ b bs ss.
         Leaves (capacity w.old)
-        (unfinished_split (capacity w.old) place i.now (rest_words t.now i.now r.new) b bs ss)
-        (split_area place i.now (rest_words t.now i.now r.new) b bs ss) result (view w.new)) }
+        (unfinished_split (capacity w.old) place i.now (rest_terms t.now i.now r.new) b bs ss)
+        (split_area place i.now (rest_terms t.now i.now r.new) b bs ss) result (view w.new)) }
     ensures outside_stays { outside w.new ≡ outside w.old }
 {
     let m = i.len();
     let l = t.len() - m;
-    polynomials::copy(t, m, r, 0);
+    r[..l].copy_from_slice(&t[m..]);
     scaling::monic(p, &mut r[..l]);
     splits::split(w, place, t, i, &r[..l])
 }

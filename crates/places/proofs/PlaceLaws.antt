@@ -2,7 +2,7 @@
 use mathlib.Core.Path.{◌≡◌, refl, sym, ap, ◌∙◌, subst}
 use mathlib.Core.Bool.{Bool, true, false, false≢true}
 use mathlib.Core.List.{List, ◌∷◌, ◌++◌}
-use Prim.Native.Nat.{ℕ, ◌+◌, ◌-◌, ◌/◌, ◌≤◌, ◌<◌}
+use Prim.Native.Nat.{ℕ, ◌+◌, ◌-◌, ◌≤◌, ◌<◌}
 use native.Mathlib.Omega.{arith}
 use borrow.Author.Tests.{le-leb, lt-leb}
 use mir.Syntax.{w32}
@@ -23,6 +23,7 @@ use Rattle.branches.proofs.OpenLaws.{p_is, q_is, t_is}
 use Rattle.branches.proofs.OutsideLaws.{drop_lies}
 use Rattle.branches.proofs.ControlLaws.{Read, ends as control-ends, end_le_top, fits_free, over_free}
 use Rattle.places.specs.Places.{More, Counts, behind, resized}
+use Rattle.polynomials.specs.declared.Term.{Term as Packed}
 
 -- ── both records written anew ──
 -- The words that stay are read before.
@@ -45,11 +46,11 @@ storable_parts b h =
     (p.0, q.0, q.1)
 
 -- ── a polynomial more ──
-module _ {b c : Stored} {xs : List (List ℕ)} {f : List ℕ} {ys : List (List ℕ)} (m : More b c xs f ys) where
-  more_ends : (bs : List Stored) → end_of c bs ≡ end_of b bs + (length f / 2 + 1)
+module _ {b c : Stored} {xs : List (List Packed)} {f : List Packed} {ys : List (List Packed)} (m : More b c xs f ys) where
+  more_ends : (bs : List Stored) → end_of c bs ≡ end_of b bs + (length f + 1)
   more_ends bs = let at : ℕ = at_of bs in omega (arith, ap (place at) m.less, ap (place at) m.more, place_add at xs ys, place_one at xs f ys)
 
-  pub more_size : (bs ss : List Stored) → size (with_open c bs ss) ≡ size (with_open b bs ss) + (length f / 2 + 1)
+  pub more_size : (bs ss : List Stored) → size (with_open c bs ss) ≡ size (with_open b bs ss) + (length f + 1)
   unfolding size
   more_size bs ss = omega (arith, end_is b bs, end_is c bs, more_ends bs)
 
@@ -94,10 +95,10 @@ module _ {v : List Rec} {most : ℕ} {b : Stored} {bs ss : List Stored} (H : Hel
   counts_are e = record { in_p = p_is H e; in_q = q_is H e; in_t = t_is H e }
 
   -- The polynomials are fs by now, and neither record is written anew.
-  abbrev Changed : List Rec → List (List ℕ) → List Rec → Type 0
+  abbrev Changed : List Rec → List (List Packed) → List Rec → Type 0
   Changed v₁ fs free = Lies v₁ (control b bs ss H.free ∷ (stack bs).0) (own_of b bs) fs free (systems_records ss ++ H.beyond) (at_of bs)
 
-  module _ {v₁ : List Rec} {fs : List (List ℕ)} {free : List Rec} (L : Changed v₁ fs free) where
+  module _ {v₁ : List Rec} {fs : List (List Packed)} {free : List Rec} (L : Changed v₁ fs free) where
     start_inside : (get_or v₁ 0 zero_record).w0 < most
     start_inside = omega (arith, ap (λ (r : Rec). r.w0) (first_is L), room_is H)
 
@@ -125,7 +126,7 @@ module _ {v : List Rec} {most : ℕ} {b : Stored} {bs ss : List Stored} (H : Hel
         ∙ (λ k. set (set v₁ (at_of bs) (own_new k)) 0 (new k)) in
         let L₂ = first_set (own_set L (set v₁ (at_of bs) own) own (λ k. set v₁ (at_of bs) own)) v₂ (control b₁ bs ss free) is in
         held_again H v₂ b₁ free
-        (subst (λ (l : List (List ℕ)). Lies v₂ (control b₁ bs ss free ∷ (stack bs).0) own l free fin (at_of bs)) (sym s) L₂) room h
+        (subst (λ (l : List (List Packed)). Lies v₂ (control b₁ bs ss free ∷ (stack bs).0) own l free fin (at_of bs)) (sym s) L₂) room h
 
   module _ {end : ℕ} (e : end ≡ (get_or v 0 zero_record).w1) where
     read : Read v (get_or v 0 zero_record).w0 end
@@ -139,7 +140,7 @@ module _ {v : List Rec} {most : ℕ} {b : Stored} {bs ss : List Stored} (H : Hel
       pub end_inside : end ≤ top
       end_inside = end_le_top H read e'
 
-      pub no_room : {c : Stored} {xs : List (List ℕ)} {f : List ℕ} {ys : List (List ℕ)} → More b c xs f ys → top - end < length f / 2 + 1
+      pub no_room : {c : Stored} {xs : List (List Packed)} {f : List Packed} {ys : List (List Packed)} → More b c xs f ys → top - end < length f + 1
           → Leaves most (with_open b bs ss) (with_open c bs ss) false v
       no_room {c} m h =
           record {
@@ -148,49 +149,49 @@ module _ {v : List Rec} {most : ℕ} {b : Stored} {bs ss : List Stored} (H : Hel
             otherwise = λ e. H;
           }
 
-    module _ {c : Stored} {xs : List (List ℕ)} {f : List ℕ} {ys : List (List ℕ)} (m : More b c xs f ys) {to : ℕ} (there : to ≡ behind bs xs)
-        {top : ℕ} (e' : top ≡ (get_or v 0 zero_record).w2) (room : length f / 2 + 1 ≤ top - end) where
-      fits : length f / 2 + 1 ≤ length H.free
+    module _ {c : Stored} {xs : List (List Packed)} {f : List Packed} {ys : List (List Packed)} (m : More b c xs f ys) {to : ℕ} (there : to ≡ behind bs xs)
+        {top : ℕ} (e' : top ≡ (get_or v 0 zero_record).w2) (room : length f + 1 ≤ top - end) where
+      fits : length f + 1 ≤ length H.free
       fits = fits_free H read e' room
 
-      pub put_inside : (to ≤ end) × (end + (length f / 2 + 1) ≤ most)
+      pub put_inside : (to ≤ end) × (end + (length f + 1) ≤ most)
       put_inside = (omega (arith, ends, there, ap (place (at_of bs)) m.less, place_add (at_of bs) xs ys), omega (arith, ends, room_is H, fits))
 
       module _ {v₁ : List Rec} (put : v₁ ≡ inserted v to (end - to) (poly_records f)) where
-        into : Changed v₁ (xs ++ (f ∷ ys)) (drop (length f / 2 + 1) H.free)
+        into : Changed v₁ (xs ++ (f ∷ ys)) (drop (length f + 1) H.free)
         into = put_in (lies H) xs ys m.less f fits v₁ (put ∙ (λ k. inserted v (there k) (ends k - there k) (poly_records f)))
 
         pub put_start : (get_or v₁ 0 zero_record).w0 < most
         put_start = start_inside into
 
-        pub held_put : Storable f → {p q t : ℕ} → Counts p q t c → {v₂ : List Rec} → v₂ ≡ resized v₁ (end + (length f / 2 + 1)) p q t
+        pub held_put : Storable f → {p q t : ℕ} → Counts p q t c → {v₂ : List Rec} → v₂ ≡ resized v₁ (end + (length f + 1)) p q t
             → Held v₂ most (with_open c bs ss)
         held_put k n e₂ =
-            let grown : end_of c bs ≡ end_of b bs + (length f / 2 + 1) = more_ends m bs in
-            held_resized into m.more (omega (arith, fits, length-drop (length f / 2 + 1) H.free)) (storable_more m k H.storable.0.0) n
+            let grown : end_of c bs ≡ end_of b bs + (length f + 1) = more_ends m bs in
+            held_resized into m.more (omega (arith, fits, length-drop (length f + 1) H.free)) (storable_more m k H.storable.0.0) n
             (omega (arith, ends)) e₂
 
-        pub beyond_put : (p q t : ℕ) → drop most (resized v₁ (end + (length f / 2 + 1)) p q t) ≡ drop most v
+        pub beyond_put : (p q t : ℕ) → drop most (resized v₁ (end + (length f + 1)) p q t) ≡ drop most v
         beyond_put =
             beyond_resized into
             (omega (
               arith,
               fits,
-              length-drop (length f / 2 + 1) H.free,
+              length-drop (length f + 1) H.free,
               place_one (at_of bs) xs f ys,
               place_add (at_of bs) xs ys,
               ap (place (at_of bs)) m.less,
             ))
-            (end + (length f / 2 + 1))
+            (end + (length f + 1))
 
     -- ── f taken out ──
-    module _ {a : Stored} {xs : List (List ℕ)} {f : List ℕ} {ys : List (List ℕ)} (m : More a b xs f ys) {from : ℕ} (there : from ≡ behind bs xs) where
+    module _ {a : Stored} {xs : List (List Packed)} {f : List Packed} {ys : List (List Packed)} (m : More a b xs f ys) {from : ℕ} (there : from ≡ behind bs xs) where
       pub take_first : from < most
       take_first = omega (arith, there, ap (place (at_of bs)) m.more, place_one (at_of bs) xs f ys, room_is H)
 
       -- The first record of f says how many are behind it.
       module _ {n : ℕ} (size : n ≡ size_at v from) where
-        whole : n + 1 ≡ length f / 2 + 1
+        whole : n + 1 ≡ length f + 1
         whole = ap (λ (k : ℕ). k + 1) (size ∙ ap (size_at v) there ∙ size_of (lies H) xs f ys m.more)
 
         pub take_inside : (from + (n + 1) ≤ end) × (end ≤ most)
@@ -208,7 +209,7 @@ module _ {v : List Rec} {most : ℕ} {b : Stored} {bs ss : List Stored} (H : Hel
 
           pub held_take : {p q t : ℕ} → Counts p q t a → {v₂ : List Rec} → v₂ ≡ resized v₁ (end - (n + 1)) p q t → Held v₂ most (with_open a bs ss)
           held_take c e₂ =
-              let shrunk : end_of b bs ≡ end_of a bs + (length f / 2 + 1) = more_ends m bs in
+              let shrunk : end_of b bs ≡ end_of a bs + (length f + 1) = more_ends m bs in
               held_resized out m.less (omega (arith, length_freed (lies H) xs f ys m.more)) (storable_less m H.storable.0.0) c
               (omega (arith, ends, whole)) e₂
 

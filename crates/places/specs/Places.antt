@@ -3,14 +3,15 @@ use Rattle.std.specs.Prelude.{◌≡◌, refl, List, [], ◌∷◌, ◌++◌, �
 use Rattle.records.specs.Records.{Rec, record_of, zero_record}
 use Rattle.stored.specs.Stored.{polys_records}
 use Rattle.branches.specs.Area.{Stored, HeldIn, stack, with_open}
+use Rattle.polynomials.specs.declared.Term.{Term as Packed}
 
 -- The branch c has the polynomial f besides those of b, between xs and ys.
-pub record More (b c : Stored) (xs : List (List ℕ)) (f : List ℕ) (ys : List (List ℕ)) : Type 0 where
+pub record More (b c : Stored) (xs : List (List Packed)) (f : List Packed) (ys : List (List Packed)) : Type 0 where
   pub less : b.P ++ (b.Q ++ b.T) ≡ xs ++ ys
   pub more : c.P ++ (c.Q ++ c.T) ≡ xs ++ (f ∷ ys)
 
 -- The record behind xs, the first polynomials of the open branch: before them are the control record, the waiting branches and the branch's own record.
-abbrev pub behind : List Stored → List (List ℕ) → ℕ
+abbrev pub behind : List Stored → List (List Packed) → ℕ
 behind bs xs = 1 + length (stack bs).0 + 1 + length (polys_records xs)
 
 -- So many members P, Q and T have.
@@ -20,11 +21,11 @@ pub record Counts (p q t : ℕ) (b : Stored) : Type 0 where
   pub in_t : t ≡ length b.T
 
 -- The words hold a branch b that becomes c, with p, q and t members, when f is put in at record `to`.
-pub record PutAt (w : List ℕ) (to : ℕ) (f : List ℕ) (p q t : ℕ) (c : Stored) (bs ss : List Stored) : Type 0 where
+pub record PutAt (w : List ℕ) (to : ℕ) (f : List Packed) (p q t : ℕ) (c : Stored) (bs ss : List Stored) : Type 0 where
   pub b : Stored
   pub held : HeldIn w (with_open b bs ss)
-  pub xs : List (List ℕ)
-  pub ys : List (List ℕ)
+  pub xs : List (List Packed)
+  pub ys : List (List Packed)
   pub adds : More b c xs f ys
   pub there : to ≡ behind bs xs
   pub counts : Counts p q t c
@@ -33,9 +34,9 @@ pub record PutAt (w : List ℕ) (to : ℕ) (f : List ℕ) (p q t : ℕ) (c : Sto
 pub record TakeAt (w : List ℕ) (from : ℕ) (p q t : ℕ) (b : Stored) (bs ss : List Stored) : Type 0 where
   pub c : Stored
   pub held : HeldIn w (with_open c bs ss)
-  pub xs : List (List ℕ)
-  pub f : List ℕ
-  pub ys : List (List ℕ)
+  pub xs : List (List Packed)
+  pub f : List Packed
+  pub ys : List (List Packed)
   pub takes : More b c xs f ys
   pub there : from ≡ behind bs xs
   pub counts : Counts p q t b

@@ -7,8 +7,10 @@ ghost use Rattle.stored.specs.Stored.{Storable};
 ghost use Rattle.branches.specs.Area.{Stored, Held, Leaves, capacity, with_open, outside};
 ghost use Rattle.places.specs.Places.{PutAt, TakeAt, SomeOpen, resized};
 
+use polynomials::Term;
+
 // Puts f in at record `to`, so that P, Q and T have p, q and t members; whether there is room.
-pub fn put_at(w: &mut [u32], to: usize, f: &[u64], p: u32, q: u32, t: u32) -> bool
+pub fn put_at(w: &mut [u32], to: usize, f: &[Term], p: u32, q: u32, t: u32) -> bool
     requires storable { Storable f.now }
     requires some_open { SomeOpen (PutAt w.old to f.now p q t) }
     ensures leaves { (c : Stored) (bs ss : List Stored) (put : PutAt w.old to f.now p q t c bs ss)
@@ -17,7 +19,7 @@ pub fn put_at(w: &mut [u32], to: usize, f: &[u64], p: u32, q: u32, t: u32) -> bo
 {
     let end = records::get1(w, 0) as usize;
     let top = records::get2(w, 0) as usize;
-    let n = f.len() / 2 + 1;
+    let n = f.len() + 1;
     if top - end < n {
         return false;
     }

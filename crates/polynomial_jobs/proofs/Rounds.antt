@@ -1,28 +1,29 @@
--- What the rounds of `remainder` keep: those left, from the words in r, form what all form.
-use Rattle.std.proofs.Common.{◌≡◌, ℕ, suc, ◌+◌, ◌-◌, ◌≤◌, ◌<◌, List, length, take, refl, sym, ◌∙◌, ap, subst, arith}
+-- What the rounds of `remainder` keep: those left, from the terms in r, form what all form.
+use Rattle.std.proofs.Common.{◌≡◌, ℕ, suc, ◌+◌, ◌-◌, ◌≤◌, ◌<◌, List, length, take, refl, sym, ◌∙◌, ap, subst, arith, length-take-le, Result, Ok, Err}
 use Rattle.polynomials.specs.Packed.{terms}
 use Rattle.polynomials.specs.Poly.{Poly}
-use Rattle.polynomials.specs.Bounds.{standard, Bounded, within, degree_passed, terms_passed, and_then, bounded_round, bounded_remainder}
+use Rattle.polynomials.specs.Bounds.{standard, Bounded, within, and_then, bounded_round, bounded_remainder}
 use Rattle.polynomials.specs.Division.{degree, leader}
 use Rattle.polynomials.specs.Working.{Holds, Written, Forms}
-use Rattle.polynomials.specs.declared.Formed.TheVariants.{Words, OverDegree, OverTerms}
+use Rattle.polynomials.specs.declared.Term.{Term as Packed}
+use Rattle.polynomials.specs.declared.Passed.{Passed}
+use Rattle.polynomials.specs.laws.Terms.{length_terms}
 use Rattle.polynomials.specs.laws.Parts.{leader_places}
 use Rattle.polynomials.specs.laws.Places.{places_terms}
-use Rattle.polynomials.specs.laws.Answers.{Answered, formed_degree, formed_terms, round_answered}
-use Rattle.division.proofs.RoundLaws.{first_written}
+use Rattle.polynomials.specs.laws.Answers.{Answered, then_passed, round_answered}
 use Rattle.division.proofs.RemainderLaws.{remainder_done, remainder_left, remainder_next}
 
-pub leader_below : (t : List ℕ) (k : ℕ) → leader (terms t) ≡ k + 1 → k < 8
+pub leader_below : (t : List Packed) (k : ℕ) → leader (terms t) ≡ k + 1 → k < 8
 leader_below t k h = omega (arith, leader_places 8 (terms t) (places_terms t), h)
 
--- The first n words of r hold a polynomial, and what at most 256 − rounds rounds make of it is the remainder.
-pub record AtRound (p k d : ℕ) (t r₀ : List ℕ) (m : ℕ) (r : List ℕ) (n rounds : ℕ) : Type 0 where
+-- The first n terms of r hold a polynomial, and what at most 256 − rounds rounds make of it is the remainder.
+pub record AtRound (p k d : ℕ) (t r₀ : List Packed) (m : ℕ) (r : List Packed) (n rounds : ℕ) : Type 0 where
   pub inside : n ≤ length r
   pub holds : Holds p (take n r)
   pub few : rounds ≤ 256
   pub forms : bounded_remainder standard p k d (terms t) (256 - rounds) (terms (take n r)) ≡ bounded_remainder standard p k d (terms t) 256 (terms (take m r₀))
 
-module _ {p k d : ℕ} {t r₀ : List ℕ} {m : ℕ} {r : List ℕ} {n rounds : ℕ} (A : AtRound p k d t r₀ m r n rounds) where
+module _ {p k d : ℕ} {t r₀ : List Packed} {m : ℕ} {r : List Packed} {n rounds : ℕ} (A : AtRound p k d t r₀ m r n rounds) where
   abbrev R : Poly
   R = terms (take n r)
 
@@ -39,10 +40,10 @@ module _ {p k d : ℕ} {t r₀ : List ℕ} {m : ℕ} {r : List ℕ} {n rounds : 
       sym A.forms ∙ ap (λ (i : ℕ). bounded_remainder standard p k d (terms t) i R) one ∙ remainder_next standard p k d (terms t) R (256 - (rounds + 1)) h
 
   -- The next round forms a polynomial, or passes a bound.
-  pub formed_next : 1 ≤ p → rounds < 256 → d ≤ degree k R → (m₁ : ℕ) (r₁ : List ℕ) → Forms (bounded_round standard p k d (terms t) R) (Words m₁) r₁
+  pub formed_next : 1 ≤ p → rounds < 256 → d ≤ degree k R → (m₁ : ℕ) (q : Result ℕ Passed) (r₁ : List Packed) → q ≡ Ok m₁ → Forms (bounded_round standard p k d (terms t) R) q r₁
       → AtRound p k d t r₀ m r₁ m₁ (rounds + 1)
-  formed_next o l h m₁ r₁ G =
-      let F : Answered p (bounded_round standard p k d (terms t) R) m₁ r₁ = round_answered p o m₁ (Words m₁) r₁ refl k d (terms t) R G in
+  formed_next o l h m₁ q r₁ e G =
+      let F : Answered p (bounded_round standard p k d (terms t) R) m₁ r₁ = round_answered p o m₁ q r₁ e k d (terms t) R G in
       record {
         inside = F.inside;
         holds = F.holds;
@@ -50,25 +51,20 @@ module _ {p k d : ℕ} {t r₀ : List ℕ} {m : ℕ} {r : List ℕ} {n rounds : 
         forms = sym (by_round l h ∙ ap (λ (B : Bounded). and_then B behind) F.is);
       }
 
-  passed_next : rounds < 256 → d ≤ degree k R → (B : Bounded) → and_then B behind ≡ B → bounded_round standard p k d (terms t) R ≡ B → whole ≡ B
-  passed_next l h B e q = by_round l h ∙ ap (λ (B : Bounded). and_then B behind) q ∙ e
-
-  pub over_degree : rounds < 256 → d ≤ degree k R → (s : List ℕ) → Forms (bounded_round standard p k d (terms t) R) OverDegree s → Forms whole OverDegree s
-  over_degree l h s F = subst (λ (B : Bounded). Forms B OverDegree s) (sym (passed_next l h degree_passed refl (formed_degree _ OverDegree s refl F))) refl
-
-  pub over_terms : rounds < 256 → d ≤ degree k R → (s : List ℕ) → Forms (bounded_round standard p k d (terms t) R) OverTerms s → Forms whole OverTerms s
-  over_terms l h s F = subst (λ (B : Bounded). Forms B OverTerms s) (sym (passed_next l h terms_passed refl (formed_terms _ OverTerms s refl F))) refl
+  pub passed_next : rounds < 256 → d ≤ degree k R → (b : Passed) (q : Result ℕ Passed) (s : List Packed) → q ≡ Err b → Forms (bounded_round standard p k d (terms t) R) q s → Forms whole (Err b) s
+  passed_next l h b q s e F =
+      subst (λ (B : Bounded). Forms B (Err b) s) (sym (by_round l h)) (then_passed (bounded_round standard p k d (terms t) R) behind s b q s e F)
 
   -- No round follows: R is the remainder.
-  stands : whole ≡ within R → Forms whole (Words n) r
+  stands : whole ≡ within R → Forms whole (Ok n) r
   stands e =
-      let W = (first_written p n r A.inside A.holds).0 in
-      subst (λ (B : Bounded). Forms B (Words n) r) (sym e) (ap Words W.pairs, subst (λ (n : ℕ). Written R n r) W.pairs W)
+      let count : n ≡ length R = sym (length_terms (take n r) ∙ length-take-le n r A.inside) in
+      subst (λ (B : Bounded). Forms B (Ok n) r) (sym e) (ap Ok count, subst (λ (k : ℕ). Written R k r) count (record { within = A.inside; holds = refl }))
 
-  pub done : degree k R < d → Forms whole (Words n) r
+  pub done : degree k R < d → Forms whole (Ok n) r
   done h = stands (sym A.forms ∙ remainder_done standard p k d (terms t) R (256 - rounds) h)
 
-  pub used : 256 ≤ rounds → Forms whole (Words n) r
+  pub used : 256 ≤ rounds → Forms whole (Ok n) r
   used h =
       let none : 256 - rounds ≡ 0 = omega (arith, h) in
       stands (sym A.forms ∙ ap (λ (i : ℕ). bounded_remainder standard p k d (terms t) i R) none ∙ remainder_left standard p k d (terms t) R)

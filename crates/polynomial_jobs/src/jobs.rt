@@ -9,14 +9,15 @@ ghost use Rattle.polynomials.specs.Working.{Holds, Forms, is_held};
 ghost use Rattle.polynomial_jobs.specs.Operands.{Canonical-prop};
 
 use crate::generator::Generator;
+use crate::operands::ZERO;
 use crate::print;
 use crate::print::Polynomial;
-use polynomials::Formed;
+use polynomials::{Passed, Term};
 use std::io;
 use std::io::Write;
 
 // All jobs on f and g modulo p, if p is a prime and they hold polynomials.
-pub fn run(out: &mut impl Write, p: u32, f: &[u64], g: &[u64]) -> io::Result<()> {
+pub fn run(out: &mut impl Write, p: u32, f: &[Term], g: &[Term]) -> io::Result<()> {
     writeln!(out, "p {p}")?;
     match Operands::new(p, f, g) {
         Some(operands) => operands.all(out),
@@ -28,8 +29,8 @@ pub fn run(out: &mut impl Write, p: u32, f: &[u64], g: &[u64]) -> io::Result<()>
 #[derive(Clone, Copy)]
 struct Operands<'a> {
     p: u64,
-    f: &'a [u64],
-    g: &'a [u64],
+    f: &'a [Term],
+    g: &'a [Term],
     ghost prime: { Prime p } by { Prim.hlevel props },
     ghost small: { p < 2147483648 },
     ghost f_holds: { Holds p f.now } by { Prim.hlevel (props, Canonical-prop) },
@@ -37,7 +38,7 @@ struct Operands<'a> {
 }
 
 impl<'a> Operands<'a> {
-    fn new(p: u32, f: &'a [u64], g: &'a [u64]) -> Option<Self>
+    fn new(p: u32, f: &'a [Term], g: &'a [Term]) -> Option<Self>
         ensures tested { is_some result ≡ (is_modulus p && (is_held p f.now && is_held p g.now)) }
         ensures same { IfSome result (λ o. (o.p ≡ p) × (o.f.now ≡ f.now) × (o.g.now ≡ g.now)) }
     {
@@ -73,22 +74,22 @@ impl<'a> Operands<'a> {
     }
 
     fn product(self, out: &mut impl Write) -> io::Result<()> {
-        let mut x = [0u64; 1024];
-        let mut z = [0u64; 1024];
+        let mut x = [ZERO; 512];
+        let mut z = [ZERO; 512];
         let answer = products::product(self.p, self.f, self.g, &mut x, &mut z);
         print::formed(out, "product", answer, &x)
     }
 
     fn difference(self, out: &mut impl Write) -> io::Result<()> {
-        let mut x = [0u64; 1024];
+        let mut x = [ZERO; 512];
         let answer = sums::difference(self.p, self.f, self.g, &mut x);
         print::formed(out, "difference", answer, &x)
     }
 
     // f made monic, and whether it was.
     fn monic(self, out: &mut impl Write) -> io::Result<()> {
-        let mut words = [0u64; 512];
-        let x = &mut words[..self.f.len()];
+        let mut terms = [ZERO; 256];
+        let x = &mut terms[..self.f.len()];
         x.copy_from_slice(self.f);
         scaling::monic(self.p, x);
         writeln!(out, "monic {}", Polynomial(x))?;
@@ -102,7 +103,7 @@ impl<'a> Operands<'a> {
         if lead == 0 {
             return Ok(());
         }
-        let mut x = [0u64; 512];
+        let mut x = [ZERO; 256];
         let n = terms::initial(self.f, lead - 1, &mut x);
         writeln!(out, "initial {}", Polynomial(&x[..n]))?;
         writeln!(out, "rest {}", Polynomial(terms::rest(self.f, lead - 1)))
@@ -114,9 +115,9 @@ impl<'a> Operands<'a> {
         if lead == 0 {
             return writeln!(out, "no divisor");
         }
-        let mut i = [0u64; 512];
+        let mut i = [ZERO; 256];
         let m = terms::initial(self.g, lead - 1, &mut i);
-        let mut r = [0u64; 1024];
+        let mut r = [ZERO; 512];
         let n = self.f.len();
         r[..n].copy_from_slice(self.f);
         let answer = remainder(self.p, lead - 1, &i[..m], self.g, &mut r, n);
@@ -126,46 +127,57 @@ impl<'a> Operands<'a> {
     // The values of f at the origin and at a random point.
     fn values(self, out: &mut impl Write) -> io::Result<()> {
         let origin = [0u32; 8];
-        let x = Generator::new(1 + (self.f.len() / 2) as u64).point(self.p);
+        let x = Generator::new(1 + self.f.len() as u64).point(self.p);
         writeln!(out, "value {}", values::value(self.p, self.f, &origin))?;
         writeln!(out, "value {}", values::value(self.p, self.f, &x))
     }
 }
 
-// Rounds on the first m words of r, until the degree is below that of t: each lowers it, so that there are at most 255.
-fn remainder(p: u64, k: u32, i: &[u64], t: &[u64], r: &mut [u64], m: usize) -> Formed
+// Rounds on the first m terms of r, until the degree is below that of t: each lowers it, so that there are at most 255.
+fn remainder(
+    p: u64,
+    k: u32,
+    i: &[Term],
+    t: &[Term],
+    r: &mut [Term],
+    m: usize,
+) -> Result<usize, Passed>
     requires le_p { (1 ≤ p) × (p < 2147483648) }
     requires holds { Holds p t.now × (leader (terms t.now) ≡ k + 1) }
     requires holds_2 { Holds p i.now × (terms i.now ≡ initial k (terms t.now)) }
-    requires m_in_bounds { (m ≤ length r.old) × (1024 ≤ length r.old) × Holds p (take m r.old) }
+    requires m_in_bounds { (m ≤ length r.old) × (512 ≤ length r.old) × Holds p (take m r.old) }
     ensures { Forms (bounded_remainder standard p k (degree k (terms t.now)) (terms t.now) 256 (terms (take m r.old))) result r.new }
 {
     let d = degrees::degree(t, k);
     let mut n = m;
     for _round in 0..256u32 {
         if degrees::degree(&r[..n], k) < d {
-            return Formed::Words(n);
+            return Ok(n);
         }
-        match round(p, k, d, i, t, r, n) {
-            Formed::Words(left) => n = left,
-            Formed::OverDegree => return Formed::OverDegree,
-            Formed::OverTerms => return Formed::OverTerms,
-        }
+        n = round(p, k, d, i, t, r, n)?;
     }
-    Formed::Words(n)
+    Ok(n)
 }
 
-// One round on the first n words of r, with buffers of its own.
-fn round(p: u64, k: u32, d: u64, i: &[u64], t: &[u64], r: &mut [u64], n: usize) -> Formed
+// One round on the first n terms of r, with buffers of its own.
+fn round(
+    p: u64,
+    k: u32,
+    d: u64,
+    i: &[Term],
+    t: &[Term],
+    r: &mut [Term],
+    n: usize,
+) -> Result<usize, Passed>
     requires le_p { (1 ≤ p) × (p < 2147483648) × (k < 8) × (1 ≤ d) }
     requires holds { Holds p t.now × (degree k (terms t.now) ≡ d) }
     requires holds_2 { Holds p i.now × (terms i.now ≡ coefficient k d (terms t.now)) }
-    requires n_in_bounds { (n ≤ length r.old) × (1024 ≤ length r.old) × Holds p (take n r.old) × (d ≤ degree k (terms (take n r.old))) }
+    requires n_in_bounds { (n ≤ length r.old) × (512 ≤ length r.old) × Holds p (take n r.old) × (d ≤ degree k (terms (take n r.old))) }
     ensures { Forms (bounded_round standard p k d (terms t.now) (terms (take n r.old))) result r.new }
 {
-    let mut x = [0u64; 1024];
-    let mut y = [0u64; 1024];
-    let mut z = [0u64; 1024];
+    let mut x = [ZERO; 512];
+    let mut y = [ZERO; 512];
+    let mut z = [ZERO; 512];
     let e = degrees::degree(&r[..n], k);
     division::round(p, k, d, e, i, t, r, n, &mut x, &mut y, &mut z)
 }

@@ -10,7 +10,8 @@ mod print;
 ghost use Rattle.std.specs.Prelude.{◌≤◌};
 
 use generator::Generator;
-use operands::{Digits, Progression, Shape};
+use operands::{Digits, Progression, Shape, ZERO};
+use polynomials::Term;
 use std::io;
 use std::io::{BufWriter, Write};
 
@@ -28,8 +29,15 @@ fn main(rt: HostRuntime) -> io::Result<()> {
     writer.flush()
 }
 
-// A modulus and the words of two polynomials.
-type Job = (u32, &'static [u64], &'static [u64]);
+// A modulus and the terms of two polynomials.
+type Job = (u32, &'static [Term], &'static [Term]);
+
+// Terms, each as its coefficient and its monomial.
+macro_rules! polynomial {
+    ($($coefficient:literal : $monomial:literal),*) => {
+        &[$(Term { coefficient: $coefficient, monomial: $monomial }),*]
+    };
+}
 
 fn run_all(out: &mut impl Write, jobs: &[Job]) -> io::Result<()> {
     for (p, f, g) in jobs {
@@ -38,54 +46,58 @@ fn run_all(out: &mut impl Write, jobs: &[Job]) -> io::Result<()> {
     Ok(())
 }
 
-// Numbers that are no prime, and words that hold no polynomial: each is skipped.
+// Numbers that are no prime, and terms that are no polynomial: each is skipped.
 fn no_polynomials(out: &mut impl Write) -> io::Result<()> {
     let jobs: [Job; 7] = [
-        (9, &[1, 1], &[1, 0]),
-        (1, &[1, 1], &[1, 0]),
+        (9, polynomial![1: 1], polynomial![1: 0]),
+        (1, polynomial![1: 1], polynomial![1: 0]),
         // A coefficient that is 0, and one that is not below the modulus.
-        (7, &[0, 1], &[1, 0]),
-        (7, &[1, 1], &[7, 0]),
-        // A monomial twice, monomials that rise, and half a term.
-        (7, &[1, 1, 2, 1], &[1, 0]),
-        (7, &[1, 0], &[1, 0, 2, 1]),
-        (7, &[1, 1, 1], &[1, 0]),
+        (7, polynomial![0: 1], polynomial![1: 0]),
+        (7, polynomial![1: 1], polynomial![7: 0]),
+        // A monomial twice, monomials that rise, and a monomial twice in the other.
+        (7, polynomial![1: 1, 2: 1], polynomial![1: 0]),
+        (7, polynomial![1: 0], polynomial![1: 0, 2: 1]),
+        (7, polynomial![1: 0], polynomial![1: 0, 1: 0]),
     ];
     run_all(out, &jobs)
 }
 
 // 257 terms are skipped too.
 fn too_many_terms(out: &mut impl Write) -> io::Result<()> {
-    let mut words = [0u64; 1024];
+    let mut terms = [ZERO; 512];
     let all = Progression {
         top: 256,
         gap: 1,
         digits: Digits { base: 256 },
         odd_coefficient: 1,
     };
-    jobs::run(out, 7, all.terms(&mut words), &[1, 0])
+    jobs::run(out, 7, all.terms(&mut terms), polynomial![1: 0])
 }
 
 fn of_the_document(out: &mut impl Write) -> io::Result<()> {
     let jobs: [Job; 6] = [
         // v1^2 + v1 + 5 by v1^2 + 6.
-        (7, &[1, 2, 1, 1, 5, 0], &[1, 2, 6, 0]),
+        (7, polynomial![1: 2, 1: 1, 5: 0], polynomial![1: 2, 6: 0]),
         // v1 v2 + 6 by its initial.
-        (7, &[1, 257, 6, 0], &[1, 1]),
+        (7, polynomial![1: 257, 6: 0], polynomial![1: 1]),
         // v1^200 v2 + 1 by v1^55 v2 + 1 and by v1^56 v2 + 1.
-        (7, &[1, 456, 1, 0], &[1, 311, 1, 0]),
-        (7, &[1, 456, 1, 0], &[1, 312, 1, 0]),
+        (7, polynomial![1: 456, 1: 0], polynomial![1: 311, 1: 0]),
+        (7, polynomial![1: 456, 1: 0], polynomial![1: 312, 1: 0]),
         // v1^2 + v1 + 1 by v1, modulo 2.
-        (2, &[1, 2, 1, 1, 1, 0], &[1, 1]),
+        (2, polynomial![1: 2, 1: 1, 1: 0], polynomial![1: 1]),
         // The degrees of v1^200 + 1 and v1^55 + v1^8 + 1 sum to 255, though their or-ed monomials pass it.
-        (7, &[1, 200, 1, 0], &[1, 55, 1, 8, 1, 0]),
+        (7, polynomial![1: 200, 1: 0], polynomial![1: 55, 1: 8, 1: 0]),
     ];
     run_all(out, &jobs)
 }
 
 // 3 and v1, 0 and v1, 0 and 0.
 fn with_zero(out: &mut impl Write) -> io::Result<()> {
-    let jobs: [Job; 3] = [(7, &[3, 0], &[1, 1]), (7, &[], &[1, 1]), (7, &[], &[])];
+    let jobs: [Job; 3] = [
+        (7, polynomial![3: 0], polynomial![1: 1]),
+        (7, polynomial![], polynomial![1: 1]),
+        (7, polynomial![], polynomial![]),
+    ];
     run_all(out, &jobs)
 }
 
@@ -152,8 +164,8 @@ fn cubes(out: &mut impl Write, p: u32, digits: Digits) -> io::Result<()>
 }
 
 fn regular(out: &mut impl Write, p: u32, a: Progression, b: Progression) -> io::Result<()> {
-    let mut f = [0u64; 1024];
-    let mut g = [0u64; 1024];
+    let mut f = [ZERO; 512];
+    let mut g = [ZERO; 512];
     jobs::run(out, p, a.terms(&mut f), b.terms(&mut g))
 }
 
@@ -168,8 +180,8 @@ fn random(out: &mut impl Write, count: u64) -> io::Result<()> {
 fn random_pair(out: &mut impl Write, generator: &mut Generator) -> io::Result<()> {
     let p = generator.prime();
     let shape = Shape::draw(generator);
-    let mut f = [0u64; 1024];
-    let mut g = [0u64; 1024];
+    let mut f = [ZERO; 512];
+    let mut g = [ZERO; 512];
     let f = shape.terms(generator, u64::from(p), &mut f);
     let g = shape.terms(generator, u64::from(p), &mut g);
     jobs::run(out, p, f, g)

@@ -5,6 +5,12 @@
 ghost use Rattle.std.specs.Prelude.{◌≤◌, length};
 
 use crate::generator::Generator;
+use polynomials::Term;
+
+pub const ZERO: Term = Term {
+    coefficient: 0,
+    monomial: 0,
+};
 
 // The digits of numbers in a base.
 #[derive(Clone, Copy)]
@@ -66,23 +72,25 @@ pub struct Progression {
 }
 
 impl Progression {
-    // Up to 512 of these terms, into the first words of `out`: those words.
-    pub fn terms(self, out: &mut [u64]) -> &[u64]
-        requires { 1024 ≤ length out.old }
-        ensures { length result.now ≤ 1024 }
+    // Up to 512 of these terms, into the first ones of `out`: those.
+    pub fn terms(self, out: &mut [Term]) -> &[Term]
+        requires { 512 ≤ length out.old }
+        ensures { length result.now ≤ 512 }
     {
         let count = (self.top / self.gap).min(511) as usize + 1;
         let mut j = self.top;
-        for term in out[..2 * count].chunks_exact_mut(2) {
-            term[0] = if self.digits.is_odd(j) {
-                self.odd_coefficient
-            } else {
-                1
+        for term in out[..count].iter_mut() {
+            *term = Term {
+                coefficient: if self.digits.is_odd(j) {
+                    self.odd_coefficient
+                } else {
+                    1
+                },
+                monomial: self.digits.monomial(j, 1),
             };
-            term[1] = self.digits.monomial(j, 1);
             j = j.saturating_sub(self.gap);
         }
-        &out[..2 * count]
+        &out[..count]
     }
 }
 
@@ -116,19 +124,21 @@ impl Shape {
         }
     }
 
-    // A random number of terms with random gaps between their monomials, into the first words of `out`: those words.
-    pub fn terms<'a>(self, generator: &mut Generator, p: u64, out: &'a mut [u64]) -> &'a [u64]
+    // A random number of terms with random gaps between their monomials, into the first ones of `out`: those.
+    pub fn terms<'a>(self, generator: &mut Generator, p: u64, out: &'a mut [Term]) -> &'a [Term]
         requires le_p { 2 ≤ p }
-        requires in_bounds { 512 ≤ length out.old }
-        ensures { length result.now ≤ 512 }
+        requires in_bounds { 256 ≤ length out.old }
+        ensures { length result.now ≤ 256 }
     {
         let count = 1 + generator.draw_below_one([3, 8, 40, 256]);
         let mut j = generator.draw(self.places);
         let mut n = 0;
         for left in (1..=count).rev() {
-            out[n] = 1 + generator.draw(p - 1);
-            out[n + 1] = self.digits.monomial(j, self.scale);
-            n += 2;
+            out[n] = Term {
+                coefficient: 1 + generator.draw(p - 1),
+                monomial: self.digits.monomial(j, self.scale),
+            };
+            n += 1;
             let gap = 1 + generator.draw(1 + 2 * j / left);
             if j < gap {
                 break;

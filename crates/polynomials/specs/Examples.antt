@@ -37,6 +37,7 @@ use Rattle.polynomials.specs.Bounds.{
   bounded_remainder,
 }
 use Rattle.polynomials.specs.Packed.{bytes, exponents, terms}
+use Rattle.polynomials.specs.declared.Term.{Term as Packed}
 use Rattle.polynomials.specs.Working.{falls, is_canonical, is_held}
 
 -- c·v1^a·v2^b
@@ -152,23 +153,23 @@ words_of_v1_v2 : exponents 0 257 ≡ (t 1 1 1).exps
 unfolding exponents bytes
 words_of_v1_v2 = refl
 
-h_as_pairs_of_words : terms (1 ∷ 257 ∷ 6 ∷ 0 ∷ []) ≡ h
-unfolding terms bytes
-h_as_pairs_of_words = refl
+-- Packed terms.
+abbrev packed : ℕ → ℕ → Packed
+packed c m = record { coefficient = c; monomial = m }
 
--- g in pairs of words, modulo 7 and modulo 5; v1 + v1^2; a coefficient without its monomial.
-g_is_held : is_held 7 (1 ∷ 2 ∷ 1 ∷ 1 ∷ 5 ∷ 0 ∷ []) ≡ true
+h_as_packed_terms : terms (packed 1 257 ∷ packed 6 0 ∷ []) ≡ h
+unfolding terms bytes
+h_as_packed_terms = refl
+
+-- g modulo 7 and modulo 5; v1 + v1^2.
+g_is_held : is_held 7 (packed 1 2 ∷ packed 1 1 ∷ packed 5 0 ∷ []) ≡ true
 unfolding is_held is_canonical falls terms bytes order
 g_is_held = refl
 
-five_is_no_residue_modulo_5 : is_held 5 (1 ∷ 2 ∷ 1 ∷ 1 ∷ 5 ∷ 0 ∷ []) ≡ false
+five_is_no_residue_modulo_5 : is_held 5 (packed 1 2 ∷ packed 1 1 ∷ packed 5 0 ∷ []) ≡ false
 unfolding is_held is_canonical falls terms bytes order
 five_is_no_residue_modulo_5 = refl
 
-rising_terms_are_not_held : is_held 7 (1 ∷ 1 ∷ 1 ∷ 2 ∷ []) ≡ false
+rising_terms_are_not_held : is_held 7 (packed 1 1 ∷ packed 1 2 ∷ []) ≡ false
 unfolding is_held is_canonical falls terms bytes order
 rising_terms_are_not_held = refl
-
-half_a_pair_is_not_held : is_held 7 (1 ∷ []) ≡ false
-unfolding is_held is_canonical falls terms bytes order
-half_a_pair_is_not_held = refl

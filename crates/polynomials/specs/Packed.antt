@@ -1,6 +1,7 @@
 -- Exponents packed as bytes: eight in a 64-bit monomial, v1's lowest; and in a table's two words, four in each.
-use Rattle.std.specs.Prelude.{List, [], ◌∷◌, ◌++◌, ℕ, zero, suc, ◌+◌, ◌*◌, ◌/◌, ◌%◌, ◌<◌}
+use Rattle.std.specs.Prelude.{List, [], ◌∷◌, ◌++◌, map, ℕ, zero, suc, ◌+◌, ◌*◌, ◌/◌, ◌%◌, ◌<◌}
 use Rattle.polynomials.specs.Poly.{Exponents, Term, Poly}
+use Rattle.polynomials.specs.declared.Term.{Term as Packed}
 
 -- The n lowest bytes of a number, the lowest first.
 unfoldable pub bytes : ℕ → ℕ → Exponents
@@ -21,17 +22,14 @@ abbrev pub Fits : ℕ → ℕ → ℕ → Type 0
 Fits zero w v = Unit {0}
 Fits (suc n) w v = (w % 256 + v % 256 < 256) × Fits n (w / 256) (v / 256)
 
--- A working polynomial is pairs of 64-bit words: a term's coefficient, then its monomial.
-abbrev pub term : ℕ → ℕ → Term
-term c m = record { coef = c; exps = bytes 8 m }
+-- A working polynomial is a list of packed terms.
+abbrev pub term : Packed → Term
+term t = record { coef = t.coefficient; exps = bytes 8 t.monomial }
 
-unfoldable pub terms : List ℕ → Poly
-terms [] = []
-terms (c ∷ []) = []
-terms (c ∷ (m ∷ s)) = term c m ∷ terms s
+unfoldable pub terms : List Packed → Poly
+terms s = map term s
 
--- No exponent of m times a term of the pairs passes 255.
-abbrev pub AllFit : ℕ → List ℕ → Type 0
+-- No exponent of m times a term passes 255.
+abbrev pub AllFit : ℕ → List Packed → Type 0
 AllFit m [] = Unit {0}
-AllFit m (c ∷ []) = Unit {0}
-AllFit m (c ∷ (e ∷ s)) = Fits 8 m e × AllFit m s
+AllFit m (t ∷ s) = Fits 8 m t.monomial × AllFit m s

@@ -1,22 +1,18 @@
--- Working polynomials: pairs of 64-bit words in a lent slice, a term's coefficient and then its monomial. What contracts say of such a slice.
-use Rattle.std.specs.Prelude.{◌≡◌, List, [], ◌∷◌, Bool, true, false, ◌&&◌, ℕ, ◌*◌, ◌%◌, ◌≤◌, eqb, leb, ltb, length, take, drop, get_or}
+-- Working polynomials: packed terms in a lent slice. What contracts say of such a slice.
+use Rattle.std.specs.Prelude.{◌≡◌, List, [], ◌∷◌, Bool, true, false, ◌&&◌, ℕ, ◌≤◌, leb, ltb, length, take, drop, get_or, Result, Ok, Err}
 use Prim.Native.Nat.{Ordering}
 use Rattle.polynomials.specs.Poly.{Exponents, Poly, order}
 use Rattle.polynomials.specs.Canonical.{Canonical, All}
 use Rattle.polynomials.specs.Division.{degree, initial, rest}
 use Rattle.polynomials.specs.Packed.{terms}
 use Rattle.polynomials.specs.Bounds.{Bounded, within, degree_passed, terms_passed}
-use Rattle.polynomials.specs.declared.Formed.{Formed}
-use Rattle.polynomials.specs.declared.Formed.TheVariants.{Words, OverDegree, OverTerms}
+use Rattle.polynomials.specs.declared.Term.{Term as Packed}
+use Rattle.polynomials.specs.declared.Passed.{Passed}
+use Rattle.polynomials.specs.declared.Passed.TheVariants.{Degree, Terms}
 
--- The words are pairs.
-abbrev pub Pairs : List ℕ → Type 0
-Pairs s = length s % 2 ≡ 0
-
--- The words hold a canonical polynomial of at most 256 terms.
-pub record Holds (p : ℕ) (s : List ℕ) : Type 0 where
-  pub pairs : Pairs s
-  pub few : length s ≤ 512
+-- A canonical polynomial of at most 256 terms.
+pub record Holds (p : ℕ) (s : List Packed) : Type 0 where
+  pub few : length s ≤ 256
   pub canonical : Canonical p (terms s)
 
 -- Whether the first term of f, where there is one, is below the monomial e.
@@ -29,25 +25,24 @@ unfoldable pub is_canonical : ℕ → Poly → Bool
 is_canonical p [] = true
 is_canonical p (t ∷ f) = leb 1 t.coef && (ltb t.coef p && (falls t.exps f && is_canonical p f))
 
--- Whether the words hold such a polynomial, as a test: true exactly where `Holds` (`laws.Held`).
-unfoldable pub is_held : ℕ → List ℕ → Bool
-is_held p s = eqb (length s % 2) 0 && (leb (length s) 512 && is_canonical p (terms s))
+-- Whether the terms are such a polynomial, as a test: true exactly where `Holds` (`laws.Held`).
+unfoldable pub is_held : ℕ → List Packed → Bool
+is_held p s = leb (length s) 256 && is_canonical p (terms s)
 
--- The first n words hold f. What stands behind them is left free.
-pub record Written (f : Poly) (n : ℕ) (s : List ℕ) : Type 0 where
+-- The first n terms are f. What stands behind them is left free.
+pub record Written (f : Poly) (n : ℕ) (s : List Packed) : Type 0 where
   pub within : n ≤ length s
-  pub pairs : n ≡ 2 * length f
   pub holds : terms (take n s) ≡ f
 
--- The first n words are the terms of the highest power of v(k+1), and the others have lower powers.
-pub record Split (k : ℕ) (s : List ℕ) (n : ℕ) : Type 0 where
-  pub pairs : n ≡ 2 * length (initial k (terms s))
+-- The first n terms are those of the highest power of v(k+1), and the others have lower powers.
+pub record Split (k : ℕ) (s : List Packed) (n : ℕ) : Type 0 where
+  pub count : n ≡ length (initial k (terms s))
   pub within : n ≤ length s
   pub front : All (λ e. get_or e k 0 ≡ degree k (terms s)) (terms (take n s))
   pub behind : terms (drop n s) ≡ rest k (terms s)
 
--- What a call answers, and what then stands in the words. After a refusal they are left free.
-abbrev pub Forms : Bounded → Formed → List ℕ → Type 0
-Forms (within f) r s = (r ≡ Words (2 * length f)) × Written f (2 * length f) s
-Forms degree_passed r s = r ≡ OverDegree
-Forms terms_passed r s = r ≡ OverTerms
+-- What a call answers, and what then stands in the slice. After a refusal it is left free.
+abbrev pub Forms : Bounded → Result ℕ Passed → List Packed → Type 0
+Forms (within f) r s = (r ≡ Ok (length f)) × Written f (length f) s
+Forms degree_passed r s = r ≡ Err Degree
+Forms terms_passed r s = r ≡ Err Terms

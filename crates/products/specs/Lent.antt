@@ -1,6 +1,6 @@
 -- How long the buffers must be that are lent for a product.
-use Rattle.std.specs.Prelude.{ℕ, ◌*◌, ◌/◌, min}
+use Rattle.std.specs.Prelude.{ℕ, ◌*◌, min}
 
--- For factors of a and b words: so many that all their term products fit, or 1,024. With 1,024 the product can still be copied here from longer buffers.
+-- For factors of a and b terms: so many that all their term products fit, or 512. With 512 the product can still be copied here from longer buffers.
 abbrev pub lent_for_product : ℕ → ℕ → ℕ
-lent_for_product a b = min 1024 (a * b / 2)
+lent_for_product a b = min 512 (a * b)

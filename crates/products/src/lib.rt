@@ -8,34 +8,36 @@ ghost use Rattle.polynomials.specs.Packed.{terms};
 ghost use Rattle.polynomials.specs.Working.{Holds, Forms};
 ghost use Rattle.products.specs.Lent.{lent_for_product};
 
-use gathering::Gathered;
-use polynomials::Formed;
+use gathering::Ungathered;
+use polynomials::{Passed, Term};
 
-// f times g, in the first words of x; z is lent besides. Stack: none to speak of where x and z hold what is gathered, as they do wherever
-// all term products fit; else 128 KiB, and 1.0 MiB where 8,192 words don't hold it either.
-pub fn product(p: u64, f: &[u64], g: &[u64], x: &mut [u64], z: &mut [u64]) -> Formed
+// f times g, in the first terms of x; z is lent besides. Stack: none to speak of where x and z hold what is gathered, as they do wherever
+// all term products fit; else 128 KiB, and 1.0 MiB where 4,096 terms don't hold it either.
+pub fn product(
+    p: u64,
+    f: &[Term],
+    g: &[Term],
+    x: &mut [Term],
+    z: &mut [Term],
+) -> Result<usize, Passed>
     requires le_p { (1 ≤ p) × (p < 2147483648) }
     requires holds { Holds p f.now }
     requires holds_2 { Holds p g.now }
     requires g_in_bounds { (lent_for_product (length f.now) (length g.now) ≤ length x.old) × (lent_for_product (length f.now) (length g.now) ≤ length z.old) }
     ensures { Forms (bounded_product standard p (terms f.now) (terms g.now)) result x.new }
 {
-    if f.len() == 0 {
-        return Formed::Words(0);
-    }
-    if g.len() == 0 {
-        return Formed::Words(0);
+    if f.is_empty() || g.is_empty() {
+        return Ok(0);
     }
     if degrees::degrees_over(f, g) {
-        return Formed::OverDegree;
+        return Err(Passed::Degree);
     }
     rows(p, f, g, x, z)
 }
 
 // The product by the rows of the shorter factor, where no degree passes 255. Since it calls itself, LLVM inlines no large frame here:
 // each call would pay for it. So it calls both gatherings apart; one called by the other would be inlined there.
-#[tactic(auto, using(crate::proofs::ProductLaws::single_row))]
-fn rows(p: u64, f: &[u64], g: &[u64], x: &mut [u64], z: &mut [u64]) -> Formed
+fn rows(p: u64, f: &[Term], g: &[Term], x: &mut [Term], z: &mut [Term]) -> Result<usize, Passed>
     requires le_p { (1 ≤ p) × (p < 2147483648) }
     requires holds { Holds p f.now × (0 < length f.now) }
     requires holds_2 { Holds p g.now × (degrees_over (at_most 255) (terms f.now) (terms g.now) ≡ false) }
@@ -46,20 +48,16 @@ fn rows(p: u64, f: &[u64], g: &[u64], x: &mut [u64], z: &mut [u64]) -> Formed
     if g.len() < f.len() {
         return rows(p, g, f, x, z);
     }
-    if f.len() == 2 {
-        return Formed::Words(sums::add_multiple(p, f[0], f[1], g, &f[..0], x));
+    if let [t] = f {
+        return Ok(sums::add_multiple(p, t.coefficient, t.monomial, g, &[], x));
     }
-    let ended = gathering::gather(p, f, g, x, z);
-    match ended {
-        Gathered::Words(n) => Formed::Words(n),
-        Gathered::OverTerms => Formed::OverTerms,
-        Gathered::Short => {
-            let again = gathering_apart::gather_apart(p, f, g, x);
-            match again {
-                Gathered::Words(n) => Formed::Words(n),
-                Gathered::OverTerms => Formed::OverTerms,
-                Gathered::Short => gathering_apart::gather_large(p, f, g, x),
-            }
-        }
+    match gathering::gather(p, f, g, x, z) {
+        Ok(n) => Ok(n),
+        Err(Ungathered::OverTerms) => Err(Passed::Terms),
+        Err(Ungathered::Short) => match gathering_apart::gather_apart::<4096>(p, f, g, x) {
+            Ok(n) => Ok(n),
+            Err(Ungathered::OverTerms) => Err(Passed::Terms),
+            Err(Ungathered::Short) => gathering_apart::gather_large(p, f, g, x),
+        },
     }
 }

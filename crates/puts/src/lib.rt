@@ -6,15 +6,18 @@ ghost use Rattle.records.specs.Records.{view};
 ghost use Rattle.stored.specs.Stored.{Storable};
 ghost use Rattle.branches.specs.Area.{Leaves, Opened, capacity, with_open, put_into_p, put_into_q, WhenOpen, outside};
 
+use polynomials::Term;
+
 // Puts f into P; whether there is room.
-pub fn put_p(w: &mut [u32], f: &[u64]) -> bool
+pub fn put_p(w: &mut [u32], f: &[Term]) -> bool
     requires opened { Opened w.old }
     requires storable { Storable f.now }
     ensures when_open { WhenOpen w.old (λ b bs ss.
         Leaves (capacity w.old) (with_open b bs ss) (with_open (put_into_p f.now b) bs ss) result (view w.new)) }
     ensures outside_stays { outside w.new ≡ outside w.old }
 {
-    if f.len() == 0 {
+    let zero = f.is_empty();
+    if zero {
         return true;
     }
     let b = branches::open_branch(w);
@@ -26,7 +29,7 @@ pub fn put_p(w: &mut [u32], f: &[u64]) -> bool
 }
 
 // Puts f into Q, before its last `left` members; whether there is room.
-pub fn put_q(w: &mut [u32], left: usize, f: &[u64]) -> bool
+pub fn put_q(w: &mut [u32], left: usize, f: &[Term]) -> bool
     requires opened { Opened w.old }
     requires when_open { WhenOpen w.old (λ b bs ss. left ≤ length b.Q) }
     requires storable { Storable f.now }

@@ -1,6 +1,6 @@
--- The state of the rules that the work area holds: each list of pairs of words is the polynomial of its terms, and the systems stand in the
+-- The state of the rules that the work area holds: each list of packed terms is the polynomial of these terms, and the systems stand in the
 -- order in which they were listed.
-use Rattle.std.specs.Prelude.{◌≡◌, List, [], ◌∷◌, map, reverse, ℕ, ◌<◌, get_or}
+use Rattle.std.specs.Prelude.{◌≡◌, List, [], ◌∷◌, map, reverse, ℕ, ◌^◌, ◌<◌, get_or}
 use Rattle.residues.specs.Each.{Each}
 use Rattle.polynomials.specs.Poly.{Poly}
 use Rattle.polynomials.specs.Packed.{terms}
@@ -9,6 +9,7 @@ use Rattle.tables.specs.Read.{System}
 use Rattle.rules.specs.Branch.{Branch, Chosen}
 use Rattle.rules.specs.Room.{State}
 use Rattle.branches.specs.Area.{Stored, Area}
+use Rattle.polynomials.specs.declared.Term.{Term as Packed}
 
 abbrev pub branch_of : Stored → Branch
 branch_of b = record { P = map terms b.P; Q = map terms b.Q; T = map terms b.T }
@@ -26,15 +27,19 @@ abbrev pub chosen : Stored → ℕ → Chosen
 chosen b i = record { place = i; poly = terms (get_or b.P i []) }
 
 -- In rule 5, "the new Q is built by putting them": the branch with the new members only.
-abbrev pub with_new : Stored → List (List ℕ) → Branch
+abbrev pub with_new : Stored → List (List Packed) → Branch
 with_new b new = record { P = map terms b.P; Q = map terms new; T = map terms b.T }
 
--- A stored polynomial: canonical modulo p, at most 256 terms, words of 64 bits.
-pub record Sound (p : ℕ) (s : List ℕ) : Type 0 where
-  pub holds : Holds p s
-  pub small : (i : ℕ) → get_or s i 0 < 18446744073709551616
+-- Coefficient and monomial are words of 64 bits.
+abbrev pub TwoWords : Packed → Type 0
+TwoWords t = (t.coefficient < 2 ^ 64) × (t.monomial < 2 ^ 64)
 
-abbrev pub AllSound : ℕ → List (List ℕ) → Type 0
+-- A stored polynomial: canonical modulo p, at most 256 terms, each of two words.
+pub record Sound (p : ℕ) (s : List Packed) : Type 0 where
+  pub holds : Holds p s
+  pub small : Each TwoWords s
+
+abbrev pub AllSound : ℕ → List (List Packed) → Type 0
 AllSound p fs = Each (Sound p) fs
 
 -- The first coefficient is 1, if there is one.
@@ -42,7 +47,7 @@ abbrev pub Monic : Poly → Type 0
 Monic [] = Unit {0}
 Monic (t ∷ f) = t.coef ≡ 1
 
-abbrev pub AllMonic : List (List ℕ) → Type 0
+abbrev pub AllMonic : List (List Packed) → Type 0
 AllMonic fs = Each (λ f. Monic (terms f)) fs
 
 pub record BranchSound (p : ℕ) (b : Stored) : Type 0 where

@@ -8,17 +8,22 @@ ghost use Rattle.polynomials.specs.Packed.{terms};
 ghost use Rattle.polynomials.specs.Working.{Holds, Forms};
 ghost use Rattle.division.specs.Lent.{lent_for_round};
 
-use polynomials::Formed;
+use polynomials::{Passed, Term};
 
-// Whether buffers of so many words suit a round with R of n words, an initial of c and a pivot of m.
-pub fn round_fits(n: usize, c: usize, m: usize, words: usize) -> bool
-    requires { (n ≤ 512) × (c ≤ 512) × (m ≤ 512) }
-    ensures { result ≡ leb (lent_for_round n c m) words }
+const ZERO: Term = Term {
+    coefficient: 0,
+    monomial: 0,
+};
+
+// Whether buffers with room for so many terms suit a round with R of n terms, an initial of c and a pivot of m.
+pub fn round_fits(n: usize, c: usize, m: usize, room: usize) -> bool
+    requires { (n ≤ 256) × (c ≤ 256) × (m ≤ 256) }
+    ensures { result ≡ leb (lent_for_round n c m) room }
 {
-    if 1024 <= words {
+    if 512 <= room {
         return true;
     }
-    n * (c + m) / 2 <= words
+    n * (c + m) <= room
 }
 
 // `division::round` in buffers of its own, for one that doesn't fit those at hand (`round_fits`): r need only hold the result. Stack: 32 KiB, cleared at
@@ -28,31 +33,28 @@ fn round_apart(
     k: u32,
     d: u64,
     e: u64,
-    i: &[u64],
-    t: &[u64],
-    r: &mut [u64],
+    i: &[Term],
+    t: &[Term],
+    r: &mut [Term],
     n: usize,
-) -> Formed
-    requires le_p { (1 ≤ p) × (p < 2147483648) × (k < 8) × (1 ≤ d) × (d ≤ e) }
-    requires holds { Holds p t.now × (degree k (terms t.now) ≡ d) }
-    requires holds_2 { Holds p i.now × (terms i.now ≡ coefficient k d (terms t.now)) }
-    requires n_in_bounds { (n ≤ length r.old) × Holds p (take n r.old) × (degree k (terms (take n r.old)) ≡ e) }
-    requires in_bounds { 512 ≤ length r.old }
+) -> Result<usize, Passed>
+    requires modulus { (1 ≤ p) × (p < 2147483648) }
+    requires degrees { (k < 8) × (1 ≤ d) × (d ≤ e) }
+    requires pivot { Holds p t.now × (degree k (terms t.now) ≡ d) }
+    requires initial { Holds p i.now × (terms i.now ≡ coefficient k d (terms t.now)) }
+    requires n_within { n ≤ length r.old }
+    requires dividend { Holds p (take n r.old) × (degree k (terms (take n r.old)) ≡ e) }
+    requires r_room { 256 ≤ length r.old }
     ensures { Forms (bounded_round standard p k d (terms t.now) (terms (take n r.old))) result r.new }
 {
-    let mut a = [0u64; 1024];
-    let mut x = [0u64; 1024];
-    let mut y = [0u64; 1024];
-    let mut z = [0u64; 1024];
-    polynomials::copy(&r[..n], 0, &mut a, 0);
-    match division::round(p, k, d, e, i, t, &mut a, n, &mut x, &mut y, &mut z) {
-        Formed::Words(m) => {
-            polynomials::copy(&a[..m], 0, r, 0);
-            Formed::Words(m)
-        }
-        Formed::OverDegree => Formed::OverDegree,
-        Formed::OverTerms => Formed::OverTerms,
-    }
+    let mut a = [ZERO; 512];
+    let mut x = [ZERO; 512];
+    let mut y = [ZERO; 512];
+    let mut z = [ZERO; 512];
+    a[..n].copy_from_slice(&r[..n]);
+    let m = division::round(p, k, d, e, i, t, &mut a, n, &mut x, &mut y, &mut z)?;
+    r[..m].copy_from_slice(&a[..m]);
+    Ok(m)
 }
 
 // `division::round` in the lent buffers if it fits them, and else in buffers of its own; r need only hold the result.
@@ -61,19 +63,22 @@ pub fn round_anywhere(
     k: u32,
     d: u64,
     e: u64,
-    i: &[u64],
-    t: &[u64],
-    r: &mut [u64],
+    i: &[Term],
+    t: &[Term],
+    r: &mut [Term],
     n: usize,
-    x: &mut [u64],
-    y: &mut [u64],
-    z: &mut [u64],
-) -> Formed
-    requires le_p { (1 ≤ p) × (p < 2147483648) × (k < 8) × (1 ≤ d) × (d ≤ e) }
-    requires holds { Holds p t.now × (degree k (terms t.now) ≡ d) }
-    requires holds_2 { Holds p i.now × (terms i.now ≡ coefficient k d (terms t.now)) }
-    requires n_in_bounds { (n ≤ length r.old) × Holds p (take n r.old) × (degree k (terms (take n r.old)) ≡ e) }
-    requires in_bounds { (512 ≤ length r.old) × (length x.old ≤ length r.old) × (length x.old ≤ length y.old) × (length x.old ≤ length z.old) }
+    x: &mut [Term],
+    y: &mut [Term],
+    z: &mut [Term],
+) -> Result<usize, Passed>
+    requires modulus { (1 ≤ p) × (p < 2147483648) }
+    requires degrees { (k < 8) × (1 ≤ d) × (d ≤ e) }
+    requires pivot { Holds p t.now × (degree k (terms t.now) ≡ d) }
+    requires initial { Holds p i.now × (terms i.now ≡ coefficient k d (terms t.now)) }
+    requires n_within { n ≤ length r.old }
+    requires dividend { Holds p (take n r.old) × (degree k (terms (take n r.old)) ≡ e) }
+    requires r_room { 256 ≤ length r.old }
+    requires x_shortest { (length x.old ≤ length r.old) × (length x.old ≤ length y.old) × (length x.old ≤ length z.old) }
     ensures { Forms (bounded_round standard p k d (terms t.now) (terms (take n r.old))) result r.new }
 {
     if round_fits(n, i.len(), t.len(), x.len()) {

@@ -25,6 +25,7 @@ use Rattle.representation.specs.Represent.{branch_of, system_of, state_of}
 use Rattle.representation.specs.Ready.{Ready, limits_in}
 use Rattle.members.specs.Members.{HasMembers, rest_of_step}
 use Rattle.steps.specs.Pending.{Pivoted}
+use Rattle.polynomials.specs.declared.Term.{Term as Packed}
 
 -- The run from a state, and what is left of a step from a branch, in a work area with so many records.
 abbrev pub run_in : ℕ → ℕ → ℕ → ℕ → Area → Ended
@@ -56,7 +57,7 @@ pub record AtMembers (p k : ℕ) (f : Poly) (closing : Bool) (place left₀ : �
       × (rest_in (capacity w₀) p closing place left k f b bs ss ≡ rest_in (capacity w₀) p closing place left₀ k f b₀ bs ss)
 
 -- What the rounds left form is what all form. The first n words of r are divided.
-pub record AtDivision (p k d : ℕ) (f : Poly) (r₀ : List ℕ) (n₀ : ℕ) (r : List ℕ) (n : ℕ) : Type 0 where
+pub record AtDivision (p k d : ℕ) (f : Poly) (r₀ : List Packed) (n₀ : ℕ) (r : List Packed) (n : ℕ) : Type 0 where
   pub same : length r ≡ length r₀
   pub inside : n ≤ length r
   pub holds : Holds p (take n r)
@@ -69,7 +70,7 @@ pub record AtDivision (p k d : ℕ) (f : Poly) (r₀ : List ℕ) (n₀ : ℕ) (r
 pub run_begins : (p limit from : ℕ) (w : List ℕ) → from ≤ limit → ((a : Area) × HeldIn w a × Ready p a) → AtRun p limit from w w from
 run_begins p limit from w l h = record { same = refl; within = l; some = h; all = λ a H R. (a, H, R, refl) }
 
-pub division_begins : (p k d : ℕ) (f : Poly) (r : List ℕ) (n : ℕ) → n ≤ length r → Holds p (take n r) → AtDivision p k d f r n r n
+pub division_begins : (p k d : ℕ) (f : Poly) (r : List Packed) (n : ℕ) → n ≤ length r → Holds p (take n r) → AtDivision p k d f r n r n
 division_begins p k d f r n l h = record { same = refl; inside = l; holds = h; rounds = λ s q. (s, q, refl) }
 
 -- ── the run ──
@@ -92,8 +93,8 @@ module _ (l : Limits) (p n : ℕ) where
 
 -- ── a round ──
 -- The pivot is in t, and its initial in i; the round leaves r₁.
-module _ {p k d : ℕ} {t i : List ℕ} (prime : Prime p) (P : Pivoted p k d t i) {r₀ : List ℕ} {n₀ : ℕ} {r : List ℕ} {n : ℕ}
-    (D : AtDivision p k d (terms t) r₀ n₀ r n) (more : d ≤ degree k (terms (take n r))) {r₁ : List ℕ} {m : ℕ}
+module _ {p k d : ℕ} {t i : List Packed} (prime : Prime p) (P : Pivoted p k d t i) {r₀ : List Packed} {n₀ : ℕ} {r : List Packed} {n : ℕ}
+    (D : AtDivision p k d (terms t) r₀ n₀ r n) (more : d ≤ degree k (terms (take n r))) {r₁ : List Packed} {m : ℕ}
     (A : Answered p (bounded_round standard p k d (terms t) (terms (take n r))) m r₁) where
   pub round_less : degree k (terms (take m r₁)) < degree k (terms (take n r))
   round_less =
@@ -114,7 +115,7 @@ module _ {p k d : ℕ} {t i : List ℕ} (prime : Prime p) (P : Pivoted p k d t i
   }
 
 -- ── where the division ends ──
-module _ {p k d : ℕ} {t i : List ℕ} (P : Pivoted p k d t i) {r₀ : List ℕ} {n₀ : ℕ} {r : List ℕ} {n : ℕ}
+module _ {p k d : ℕ} {t i : List Packed} (P : Pivoted p k d t i) {r₀ : List Packed} {n₀ : ℕ} {r : List Packed} {n : ℕ}
     (D : AtDivision p k d (terms t) r₀ n₀ r n) (most : ℕ) where
   -- The remainder is what the rounds left form.
   remainder_left : (s : ℕ) × (degree k (terms (take n r)) < s)

@@ -34,16 +34,17 @@ use Rattle.members.proofs.TakeLaws.{Took}
 use Rattle.members.proofs.MemberLaws.{takes, onward, step_put}
 use Rattle.branches.proofs.Unique.{of_every}
 use Rattle.run.proofs.Invariants.{rest_in, AtMembers}
+use Rattle.polynomials.specs.declared.Term.{Term as Packed}
 
 -- ── what stays true of the branch ──
-long_before : (r : List ℕ) (left : ℕ) (fs : List (List ℕ)) → left ≤ length fs → left ≤ length (put_q_before left r fs)
+long_before : (r : List Packed) (left : ℕ) (fs : List (List Packed)) → left ≤ length fs → left ≤ length (put_q_before left r fs)
 unfolding put_q_before
 long_before r left fs q =
     let k = length fs - left in
     omega (arith, q, length-append (put_q r (take k fs)) (drop k fs), length-drop k fs)
 
 module _ (p place left : ℕ) (b : Stored) (bs ss : List Stored) where
-  ready_put : (closing : Bool) → Ready p (with_open b bs ss) → (r : List ℕ) → Sound p r → Monic (terms r)
+  ready_put : (closing : Bool) → Ready p (with_open b bs ss) → (r : List Packed) → Sound p r → Monic (terms r)
       → Ready p (with_open (put_in closing (left - 1) r (taken_out closing place left b)) bs ss)
   ready_put false R r s m =
       let S = put_into_p_sound p (without_p place b) (without_p_sound p b R.sound.branches.0 place) r s in
@@ -72,7 +73,7 @@ module _ (p place left : ℕ) (b : Stored) (bs ss : List Stored) where
     has_behind false h = tt
     has_behind true h = omega (arith, some, h, length_remove (length b.Q - left) b.Q (omega (arith, some, h)))
 
-    has_put : (closing : Bool) (r : List ℕ) → HasMembers closing place left b
+    has_put : (closing : Bool) (r : List Packed) → HasMembers closing place left b
         → HasMembers closing place (left - 1) (put_in closing (left - 1) r (taken_out closing place left b))
     has_put false r h = (omega (arith, h.0), λ q. absurd (omega (arith, q, h.0)))
     has_put true r h = long_before r (left - 1) (remove (length b.Q - left) b.Q) (has_behind true h)
@@ -89,7 +90,7 @@ members_begin p k f closing place left w b bs ss H R M = record { same = refl; s
 
 -- ── a member taken out ──
 -- The first n words of r are the next member, and it is out of the area.
-pub record AtMember (p k : ℕ) (f : Poly) (closing : Bool) (place left₀ : ℕ) (w₀ w : List ℕ) (left n : ℕ) (r : List ℕ) : Type 0 where
+pub record AtMember (p k : ℕ) (f : Poly) (closing : Bool) (place left₀ : ℕ) (w₀ w : List ℕ) (left n : ℕ) (r : List Packed) : Type 0 where
   pub same : length w ≡ length w₀
   pub one : 1 ≤ left
   pub some :
@@ -102,7 +103,7 @@ pub record AtMember (p k : ℕ) (f : Poly) (closing : Bool) (place left₀ : ℕ
       × (rest_in (capacity w₀) p closing place left k f b bs ss ≡ rest_in (capacity w₀) p closing place left₀ k f b₀ bs ss)
 
 -- The words s were made monic, as the words u, and put into the area w. Whether they fitted is q, and v is the area then.
-pub record PutBack (p : ℕ) (closing : Bool) (left : ℕ) (s u w : List ℕ) (q : Bool) (v : List ℕ) : Type 0 where
+pub record PutBack (p : ℕ) (closing : Bool) (left : ℕ) (s u : List Packed) (w : List ℕ) (q : Bool) (v : List ℕ) : Type 0 where
   pub same : length v ≡ length w
   pub sound : Sound p u
   pub monic_of : terms u ≡ monic p (terms s)
@@ -136,7 +137,7 @@ module _ {p k : ℕ} {f : Poly} {closing : Bool} {place left₀ : ℕ} {w₀ w :
         of_left false {b} {c} {bs} {ss} {cs} {us} H K h = of_every (λ P Q. place < length P) K h b bs ss H
         of_left true {b} {c} {bs} {ss} {cs} {us} H K h = of_every (λ P Q. (1 ≤ left) × (left ≤ length Q)) K h b bs ss H
 
-    pub member_taken : 1 ≤ left → (v : List ℕ) (n : ℕ) (r : List ℕ) → length v ≡ length w
+    pub member_taken : 1 ≤ left → (v : List ℕ) (n : ℕ) (r : List Packed) → length v ≡ length w
         → ((b : Stored) (bs ss : List Stored) → HeldIn w (with_open b bs ss) → Took closing place left b bs ss n r (view v) (capacity w))
         → AtMember p k f closing place left₀ w₀ v left n r
     member_taken one v n r e took = record {
@@ -153,7 +154,7 @@ module _ {p k : ℕ} {f : Poly} {closing : Bool} {place left₀ : ℕ} {w₀ w :
             (took b bs ss (subst (λ (m : ℕ). Held (view w) m (with_open b bs ss)) (sym cap) H))
 
   -- ── its remainder put ──
-  module _ {n : ℕ} {r : List ℕ} (A : AtMember p k f closing place left₀ w₀ w left n r) where
+  module _ {n : ℕ} {r : List Packed} (A : AtMember p k f closing place left₀ w₀ w left n r) where
     pub member_inside : n ≤ length r
     member_inside = let s = A.some.3 in omega (arith, s.0, ap length s.1, length-take n r)
 
@@ -191,7 +192,7 @@ module _ {p k : ℕ} {f : Poly} {closing : Bool} {place left₀ : ℕ} {w₀ w :
         let s = A.all b₀ bs ss H R M in
         let l = limits_in (capacity w₀) in
         let on = onward l p k f s.0 bs ss closing place left in
-        let met = ap (λ (g : List ℕ). remainder_by l p k f (terms g)) (sym s.1.1) ∙ e in
+        let met = ap (λ (g : List Packed). remainder_by l p k f (terms g)) (sym s.1.1) ∙ e in
         sym s.4 ∙ takes l p k f s.0 bs ss closing place left A.one (has_left p place left s.0 bs ss A.one closing s.3)
         ∙ ap (λ (B : Bounded). after_division B on) met ∙ stop on
 
@@ -202,7 +203,7 @@ module _ {p k : ℕ} {f : Poly} {closing : Bool} {place left₀ : ℕ} {w₀ w :
     member_terms = member_stops Terms terms_passed (λ k. refl)
 
     -- The remainder is in the words s, and it was put back.
-    module _ (prime : Prime p) {s u : List ℕ} (holds : Holds p s) (e : remainder ≡ within (terms s)) {v : List ℕ} {q : Bool}
+    module _ (prime : Prime p) {s u : List Packed} (holds : Holds p s) (e : remainder ≡ within (terms s)) {v : List ℕ} {q : Bool}
         (B : PutBack p closing (left - 1) s u w q v) where
       -- b is the branch where the member was taken.
       module _ (b : Stored) (bs ss : List Stored) (T : Took closing place left b bs ss n r (view w) (capacity w₀)) (R : Ready p (with_open b bs ss))
@@ -227,7 +228,7 @@ module _ {p k : ℕ} {f : Poly} {closing : Bool} {place left₀ : ℕ} {w₀ w :
         goes_on =
             let l = limits_in (capacity w₀) in
             step_put l p k f b bs ss place left u (terms s) B.sound B.monic_of R.sound.branches.0 (capacity w₀) refl
-            (omega (arith, T.2.fits)) R.listed A.one closing M (ap (λ (g : List ℕ). remainder_by l p k f (terms g)) (sym T.1) ∙ e)
+            (omega (arith, T.2.fits)) R.listed A.one closing M (ap (λ (g : List Packed). remainder_by l p k f (terms g)) (sym T.1) ∙ e)
             ∙ ap (λ (o : Bool). if_fits o (rest_of_step l p closing place (left - 1) k f after bs ss)) (sym was_put.answer)
 
         goes_as : (o : Bool) → q ≡ o
@@ -288,8 +289,8 @@ module _ (l : Limits) (p k : ℕ) (f : Poly) (place : ℕ) (b : Stored) (bs ss :
       let bs' = map branch_of bs in
       let ss' = reverse (map system_of ss) in
       let none = ap (λ (m : ℕ). drop m b.Q) (sub-zero (length b.Q)) ∙ drop-length b.Q in
-      ap (λ (fs : List (List ℕ)). replace l p bs' ss' k f (map terms fs) (with_new b (take n b.Q))) none
-      ∙ ap (λ (fs : List (List ℕ)). next (state l p bs' ss' (with_new b fs))) (take_all n b.Q (omega arith))
+      ap (λ (fs : List (List Packed)). replace l p bs' ss' k f (map terms fs) (with_new b (take n b.Q))) none
+      ∙ ap (λ (fs : List (List Packed)). next (state l p bs' ss' (with_new b fs))) (take_all n b.Q (omega arith))
 
   pub members_end : (closing : Bool) (left : ℕ) → left ≡ 0 → rest_of_step l p closing place left k f b bs ss ≡ next (state_of (with_open b bs ss))
   members_end closing left e = ap (λ (n : ℕ). rest_of_step l p closing place n k f b bs ss) e ∙ no_members closing

@@ -29,6 +29,7 @@ use Rattle.run.specs.declared.Stretch.{Stretch}
 use Rattle.run.specs.Stretch.{Ran, Stretches}
 use Rattle.run.proofs.Invariants.{run_in, AtRun, AtMembers, run_ends, run_used, run_steps}
 use Rattle.run.proofs.MembersLaws.{ComesTo, members_begin, members_end}
+use Rattle.polynomials.specs.declared.Term.{Term as Packed}
 
 -- The step of the open branch b in a work area with so many records.
 abbrev pub step_in : ℕ → ℕ → Stored → List Stored → List Stored → Stepped
@@ -51,22 +52,19 @@ SomeOpen p w = (b : Stored) × (bs : List Stored) × (ss : List Stored) × HeldI
 
 -- ── what was prepared ──
 -- The answer q to the step from whatever state w held. t and i have the pivot and its initial, and v is the area then.
-pub record Preparation (p : ℕ) (w : List ℕ) (q : Prepared) (t i v : List ℕ) : Type 0 where
+pub record Preparation (p : ℕ) (w : List ℕ) (q : Prepared) (t i : List Packed) (v : List ℕ) : Type 0 where
   pub same : length v ≡ length w
   pub answers :
       (b : Stored) (bs ss : List Stored) → HeldIn w (with_open b bs ss) → Ready p (with_open b bs ss)
       → Prepares (limits_in (capacity w)) p (step_in (capacity w) p b bs ss) q t i (view v) (capacity w) bs ss
 
 -- The pivot of the division d is in t, and its initial in i.
-pub record PivotIn (p : ℕ) (d : Division) (t i : List ℕ) : Type 0 where
+pub record PivotIn (p : ℕ) (d : Division) (t i : List Packed) : Type 0 where
   pub pivot_inside : d.pivot ≤ length t
   pub initial_inside : d.initial ≤ length i
   pub pivoted : Pivoted p d.k d.degree (take d.pivot t) (take d.initial i)
 
-module _ {p : ℕ} {w t i v : List ℕ} where
-  pub prepared_as : {q : Prepared} → Preparation p w q t i v → (a : Prepared) → q ≡ a → Preparation p w a t i v
-  prepared_as P a e = subst (λ (q : Prepared). Preparation p w q t i v) e P
-
+module _ {p : ℕ} {w : List ℕ} {t i : List Packed} {v : List ℕ} where
   pub prepared_done : Preparation p w Done t i v → GoesTo (capacity w) p w v
   prepared_done P = P.answers
 
@@ -152,9 +150,6 @@ ended n o = record { steps = n; ending = Final o }
 
 abbrev pub paused : ℕ → Stretch
 paused n = record { steps = n; ending = Paused }
-
-pub final_not_paused : {A : Type 0} {o : Outcome} → Final o ≡ Paused → A
-final_not_paused e = absurd (let z : ◌≡◌ {A = ℕ} 0 1 = cc in omega arith)
 
 -- q is the stretch of the run from every state that w held, `from` steps being done; v is the area then.
 abbrev pub Answers : ℕ → ℕ → ℕ → List ℕ → Stretch → List ℕ → Type 0

@@ -10,7 +10,7 @@ ghost use Rattle.representation.specs.Ready.{Ready, Modulus, limits_in};
 ghost use Rattle.run.specs.Stretch.{Stretches};
 ghost use Rattle.run.specs.declared.Ending.TheVariants.{Paused};
 
-use polynomials::Formed;
+use polynomials::{Passed, Term};
 use steps::Prepared;
 use tables::Reason;
 
@@ -43,7 +43,7 @@ pub struct Stretch {
 }
 
 // Runs the steps from the state in the work area on, `from` being done and at most `limit` allowed. The other slices are scratch: for the pivot and
-// its initial, for the member divided (512 words at least), and three for products. Long scratch, 512 words for each of the first two and 1,024 for
+// its initial, for the member divided (256 terms at least), and three for products. Long scratch, 256 terms for each of the first two and 512 for
 // each of the others, suits every step. In shorter scratch the run pauses before a step whose pivot does not fit, and after a step in which a round
 // did not.
 pub fn run(
@@ -51,19 +51,19 @@ pub fn run(
     p: u64,
     limit: u32,
     from: u32,
-    t: &mut [u64],
-    i: &mut [u64],
-    r: &mut [u64],
-    x: &mut [u64],
-    y: &mut [u64],
-    z: &mut [u64],
+    t: &mut [Term],
+    i: &mut [Term],
+    r: &mut [Term],
+    x: &mut [Term],
+    y: &mut [Term],
+    z: &mut [Term],
 ) -> Stretch
     requires modulus { Modulus p × (from ≤ limit) × ((a : Area) × HeldIn w.old a × Ready p a) }
-    requires t_in_bounds { (length t.old ≤ length i.old) × (512 ≤ length r.old)
+    requires t_in_bounds { (length t.old ≤ length i.old) × (256 ≤ length r.old)
         × (length x.old ≤ length r.old) × (length x.old ≤ length y.old) × (length x.old ≤ length z.old) }
     ensures stretches { (a : Area) → HeldIn w.old a → Ready p a
         → Stretches (run (limits_in (capacity w.old)) p (limit - from) from (state_of a)) p limit result (view w.new) (capacity w.old) }
-    ensures when_paused { result.ending ≡ Paused → (length t.old < 512) ⊎ (length x.old < 1024) }
+    ensures when_paused { result.ending ≡ Paused → (length t.old < 256) ⊎ (length x.old < 512) }
     ensures outside_stays { outside w.new ≡ outside w.old }
 {
     let mut steps: u32 = from;
@@ -118,13 +118,13 @@ pub fn run(
                             y,
                             z,
                         ) {
-                            Formed::Words(m) => {
+                            Ok(m) => {
                                 n = m;
                             }
-                            Formed::OverDegree => {
+                            Err(Passed::Degree) => {
                                 break 'run Ending::Final(Outcome::Refused(Reason::Degree, 0));
                             }
-                            Formed::OverTerms => {
+                            Err(Passed::Terms) => {
                                 break 'run Ending::Final(Outcome::Refused(Reason::Terms, 0));
                             }
                         }

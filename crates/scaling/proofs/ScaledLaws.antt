@@ -1,75 +1,75 @@
--- The coefficients of the words scaled one after the other, and the monic polynomial so made.
-use mathlib.Core.Path.{◌≡◌, refl, sym, ◌∙◌, ap, ap₂, subst}
-use mathlib.Core.Logic.{◌≢◌}
-use mathlib.Core.List.{List, [], ◌∷◌, ◌++◌, append-nil}
-use Prim.Native.Nat.{ℕ, ◌+◌, ◌*◌, ◌%◌, ◌≤◌, ◌<◌}
-use native.Mathlib.Omega.{arith}
-use lib.ListN.{length, take, drop, get_or, set, length-set, drop_of_length-le}
-use lib.Seq.{take_all, drop-set-lt, get_or-set_other, set-get_or}
+-- Each coefficient times c, term by term; and the monic polynomial so made.
+use Rattle.std.specs.Prelude.{◌≡◌, refl, List, [], ◌∷◌, ◌++◌, map, ℕ, ◌+◌, ◌-◌, ◌*◌, ◌%◌, ◌^◌, ◌≤◌, ◌<◌, length, take, drop, get_or, Some, None, slice_get}
+use Rattle.std.proofs.Common.{sym, ◌∙◌, ap, ap₂, subst, arith, append-nil, add-one}
+use Rattle.std.proofs.Math.Seq.{take-suc}
+use Rattle.residues.specs.Each.{Each}
+use Rattle.residues.specs.laws.Each.{each_append}
+use Rattle.std.proofs.lemmas.List.{take_all, drop_all, length-map, length-take-le, get_or-append_right, get_or-drop}
 use Rattle.residues.specs.Prime.{Prime}
 use Rattle.residues.specs.Residue.{inverse}
 use Rattle.polynomials.specs.Poly.{monic}
 use Rattle.polynomials.specs.Canonical.{Canonical}
 use Rattle.polynomials.specs.Packed.{term, terms}
-use Rattle.polynomials.specs.Working.{Pairs}
+use Rattle.polynomials.specs.declared.Term.{Term as Packed}
 use Rattle.polynomials.specs.laws.Merge.{scaled, monic_scaled}
-use Rattle.polynomials.specs.laws.Terms.{terms_at, terms_push_before}
 
--- At the loop's head: the coefficients of the first i words are times c.
-pub record Scaled (p c : ℕ) (f₀ f : List ℕ) (i : ℕ) : Type 0 where
-  pub even : i % 2 ≡ 0
-  pub same_length : length f ≡ length f₀
-  pub within : i ≤ length f
-  pub canonical : Canonical p (terms (drop i f))
-  pub same : terms (take i f) ++ scaled p c (terms (drop i f)) ≡ scaled p c (terms f₀)
+abbrev pub scale : ℕ → ℕ → Packed → Packed
+scale p c t = record { coefficient = c * t.coefficient % p; monomial = t.monomial }
 
-pub scaled_none : (p c : ℕ) (f : List ℕ) → Canonical p (terms f) → Scaled p c f f 0
-unfolding terms
-scaled_none p c f n = record { even = refl; same_length = refl; within = omega arith; canonical = n; same = refl }
+terms_scaled : (p c : ℕ) (s : List Packed) → terms (map (scale p c) s) ≡ scaled p c (terms s)
+unfolding terms scaled
+terms_scaled p c [] = refl
+terms_scaled p c (t ∷ s) = ap (λ s. term (scale p c t) ∷ s) (terms_scaled p c s)
 
-module _ {p c : ℕ} {f₀ f : List ℕ} {i : ℕ} (S : Scaled p c f₀ f i) (pairs_f : Pairs f₀) where
-  module _ (in_f : i < length f) where
-    pair : i + 1 < length f
-    pair = omega (arith, S.even, S.same_length)
+-- ── a loop that scales each term ──
+module _ (p c : ℕ) (f₀ f : List Packed) (i : ℕ) (so_far : f ≡ map (scale p c) (take i f₀) ++ drop i f₀) where
+  -- A term is not yet scaled where the loop meets it.
+  pub next_unscaled : (t : Packed) → i < length f₀ → get_or f i t ≡ get_or f₀ i t
+  next_unscaled t inside =
+      let front : length (map (scale p c) (take i f₀)) ≡ i = length-map (take i f₀) (scale p c) ∙ length-take-le i f₀ (omega arith) in
+      let here : i + (i - i) ≡ i = omega arith in
+      ap (λ s. get_or s i t) so_far ∙ get_or-append_right (map (scale p c) (take i f₀)) (drop i f₀) i i t front (omega arith) ∙ get_or-drop i f₀ (i - i) t
+      ∙ ap (λ k. get_or f₀ k t) here
 
-    pub scaled_next : Canonical p (term (get_or f i 0) (get_or f (i + 1) 0) ∷ terms (drop (i + 2) f))
-    scaled_next = subst (Canonical p) (terms_at f i pair) S.canonical
+  pub all_scaled : length f₀ ≤ i → terms f ≡ scaled p c (terms f₀)
+  all_scaled end =
+      ap terms (so_far ∙ ap₂ (λ a b. map (scale p c) a ++ b) (take_all i f₀ end) (drop_all i f₀ end) ∙ append-nil (map (scale p c) f₀)) ∙ terms_scaled p c f₀
 
-    pub scaled_turn : Scaled p c f₀ (set f i (c * get_or f i 0 % p)) (i + 2)
-    unfolding scaled
-    scaled_turn = record {
-      even = omega (arith, S.even);
-      same_length = length-set f i x ∙ S.same_length;
-      within = simp length-set (omega (arith, pair));
-      canonical = subst (λ s. Canonical p (terms s)) (sym behind) scaled_next.3;
-      same = ap₂ (λ a b. terms a ++ scaled p c (terms b)) (ap (take (i + 2)) (sym kept)) behind
-          ∙ terms_push_before f i x (get_or f (i + 1) 0) (scaled p c (terms (drop i f))) (scaled p c (terms (drop (i + 2) f))) S.even pair (ap (scaled p c) (terms_at f i pair)) ∙ S.same;
-    }
-      where
-        x : ℕ
-        x = c * get_or f i 0 % p
+-- ── monomials ──
+abbrev pub InWord : Packed → Type 0
+InWord t = t.monomial < 2 ^ 64
 
-        other : i + 1 ≢ i
-        other e = omega arith
+pub none_in_words : (f : List Packed) → slice_get f 0 ≡ None → Each InWord f
+none_in_words [] h = tt
+none_in_words (t ∷ f) h = cc
 
-        behind : drop (i + 2) (set f i (c * get_or f i 0 % p)) ≡ drop (i + 2) f
-        behind = drop-set-lt (i + 2) f i (c * get_or f i 0 % p) (omega arith)
+pub more_in_words : (f : List Packed) (i : ℕ) (t : Packed) → i < length f → (get_or f i t).monomial < 2 ^ 64 → Each InWord (take i f) → Each InWord (take (i + 1) f)
+more_in_words f i t inside h u = subst (Each InWord) (sym (rw add-one (take-suc f i t inside))) ((each_append InWord (take i f) (get_or f i t ∷ [])).1 (u, (h, tt)))
 
-        kept : set (set f i (c * get_or f i 0 % p)) (i + 1) (get_or f (i + 1) 0) ≡ set f i (c * get_or f i 0 % p)
-        kept = ap (set (set f i (c * get_or f i 0 % p)) (i + 1)) (sym (get_or-set_other f i (i + 1) (c * get_or f i 0 % p) 0 other)) ∙ set-get_or (set f i (c * get_or f i 0 % p)) (i + 1) 0
+scaled_in_words : (p c : ℕ) (f : List Packed) → Each InWord f → Each InWord (map (scale p c) f)
+scaled_in_words p c [] u = tt
+scaled_in_words p c (t ∷ f) u = (u.0, scaled_in_words p c f u.1)
 
-  pub scaled_all : length f ≤ i → terms f ≡ scaled p c (terms f₀)
-  unfolding terms scaled
-  scaled_all end =
-      sym (append-nil (terms f)) ∙ ap₂ (λ a b. terms a ++ scaled p c (terms b)) (sym (take_all i f end)) (sym (drop_of_length-le f end)) ∙ S.same
+pub all_in_words : (p c : ℕ) (f₀ f : List Packed) (i : ℕ) → f ≡ map (scale p c) (take i f₀) ++ drop i f₀ → length f₀ ≤ i → Each InWord (take i f₀) → Each InWord f
+all_in_words p c f₀ f i so_far end u =
+    let all : f ≡ map (scale p c) (take i f₀) = so_far ∙ ap (λ s. map (scale p c) (take i f₀) ++ s) (drop_all i f₀ end) ∙ append-nil (map (scale p c) (take i f₀)) in
+    subst (Each InWord) (sym all) (scaled_in_words p c (take i f₀) u)
 
-pub monic_none : (p : ℕ) (f : List ℕ) → length f ≡ 0 → terms f ≡ monic p (terms f)
+-- ── the first term ──
+pub monic_none : (p : ℕ) (f : List Packed) → slice_get f 0 ≡ None → terms f ≡ monic p (terms f)
 unfolding terms monic
 monic_none p [] h = refl
-monic_none p (c ∷ s) h = absurd (omega arith)
+monic_none p (t ∷ f) h = cc
 
-pub monic_of : (p : ℕ) (f : List ℕ) → Prime p → Canonical p (terms f) → 1 < length f → monic p (terms f) ≡ scaled p (inverse p (get_or f 0 0)) (terms f)
+-- It is a residue other than 0, and the polynomial is scaled by its inverse.
+pub record Leads (p : ℕ) (f : List Packed) (t : Packed) : Type 0 where
+  pub nonzero : 1 ≤ t.coefficient
+  pub residue : t.coefficient < p
+  pub scales : scaled p (inverse p t.coefficient) (terms f) ≡ monic p (terms f)
+
+pub leads : (p : ℕ) (f : List Packed) (t : Packed) → Prime p → Canonical p (terms f) → slice_get f 0 ≡ Some t → Leads p f t
 unfolding terms
-monic_of p [] P n h = absurd (omega arith)
-monic_of p (c ∷ []) P n h = absurd (omega arith)
-monic_of p (c ∷ (m ∷ s)) P n h = monic_scaled p (term c m) (terms s) P n
+leads p [] t P n h = cc
+leads p (u ∷ f) t P n h =
+    let same : u ≡ t = cc in
+    subst (Leads p (u ∷ f)) same record { nonzero = n.0; residue = n.1; scales = sym (monic_scaled p (term u) (terms f) P n) }

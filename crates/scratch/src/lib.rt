@@ -9,21 +9,27 @@ ghost use Rattle.representation.specs.Represent.{state_of};
 ghost use Rattle.representation.specs.Ready.{Ready, Modulus, limits_in};
 ghost use Rattle.run.specs.Stretch.{Ran};
 
+use polynomials::Term;
 use run::{Answer, Ending, Outcome};
 use tables::Reason;
 
+const ZERO: Term = Term {
+    coefficient: 0,
+    monomial: 0,
+};
+
 // Runs in short scratch, and goes on in long scratch where the run pauses: a small job need not clear what only a large one uses.
-pub fn run_short(work: &mut [u32], p: u64, limit: u32, divided: &mut [u64]) -> Answer
-    requires { Modulus p × ((a : Area) × HeldIn work.old a × Ready p a) × (512 ≤ length divided.old) }
+pub fn run_short(work: &mut [u32], p: u64, limit: u32, divided: &mut [Term]) -> Answer
+    requires { Modulus p × ((a : Area) × HeldIn work.old a × Ready p a) × (256 ≤ length divided.old) }
     ensures ran { (a : Area) → HeldIn work.old a → Ready p a
         → Ran (run (limits_in (capacity work.old)) p limit 0 (state_of a)) p result.steps result.outcome (view work.new) (capacity work.old) }
     ensures outside_stays { outside work.new ≡ outside work.old }
 {
-    let mut pivot = [0u64; 32];
-    let mut initial = [0u64; 32];
-    let mut x = [0u64; 64];
-    let mut y = [0u64; 64];
-    let mut z = [0u64; 64];
+    let mut pivot = [ZERO; 16];
+    let mut initial = [ZERO; 16];
+    let mut x = [ZERO; 32];
+    let mut y = [ZERO; 32];
+    let mut z = [ZERO; 32];
     let first = run::run(
         work,
         p,
@@ -51,12 +57,12 @@ pub fn run_long(work: &mut [u32], p: u64, limit: u32, from: u32) -> Answer
         → Ran (run (limits_in (capacity work.old)) p (limit - from) from (state_of a)) p result.steps result.outcome (view work.new) (capacity work.old) }
     ensures outside_stays { outside work.new ≡ outside work.old }
 {
-    let mut pivot = [0u64; 512];
-    let mut initial = [0u64; 512];
-    let mut divided = [0u64; 1024];
-    let mut x = [0u64; 1024];
-    let mut y = [0u64; 1024];
-    let mut z = [0u64; 1024];
+    let mut pivot = [ZERO; 256];
+    let mut initial = [ZERO; 256];
+    let mut divided = [ZERO; 512];
+    let mut x = [ZERO; 512];
+    let mut y = [ZERO; 512];
+    let mut z = [ZERO; 512];
     let last = run::run(
         work,
         p,

@@ -7,55 +7,54 @@ use Prim.Native.Nat.{ℕ, zero, suc, ◌+◌, ◌<◌}
 use native.Mathlib.Omega.{arith}
 use borrow.Author.Tests.{eq-eqb, ne_eqb}
 use lib.Dec.{eqb}
+use Rattle.std.proofs.Common.{Option, None, Some}
 use Rattle.polynomials.specs.Poly.{Poly}
 use Rattle.polynomials.specs.Division.{leader}
 use Rattle.rules.specs.Branch.{led_by, Found, none, found, behind, earliest, other}
-use Rattle.search.specs.declared.Other.{Other}
-use Rattle.search.specs.declared.Other.TheVariants.{None, At}
 use Rattle.search.specs.Search.{other_place}
 
 -- What is found among those from place j on.
-abbrev from : ℕ → Found → Other
+abbrev from : ℕ → Found → Option ℕ
 from j none = None
-from j (found c) = At (j + c.place)
+from j (found c) = Some (j + c.place)
 
 from_behind : (j : ℕ) (o : Found) → from (j + 1) o ≡ from j (behind o)
 from_behind j none = refl
-from_behind j (found c) = ap At {x = j + 1 + c.place} {y = j + suc c.place} (omega arith)
+from_behind j (found c) = ap Some {x = j + 1 + c.place} {y = j + suc c.place} (omega arith)
 
 from_zero : (o : Found) → from 0 o ≡ other_place o
 from_zero none = refl
-from_zero (found c) = ap At {x = 0 + c.place} {y = c.place} (omega arith)
+from_zero (found c) = ap Some {x = 0 + c.place} {y = c.place} (omega arith)
 
 module _ (k place : ℕ) where
   -- The earliest that v(k+1) leads among fs, from place j on, other than the one at `place`.
-  unfoldable pub scan : ℕ → List Poly → Other
+  unfoldable pub scan : ℕ → List Poly → Option ℕ
   scan j [] = None
-  scan j (f ∷ fs) = elim (eqb j place) [ true ↦ scan (j + 1) fs | false ↦ elim (led_by (suc k) f) [ true ↦ At j | false ↦ scan (j + 1) fs ] ]
+  scan j (f ∷ fs) = elim (eqb j place) [ true ↦ scan (j + 1) fs | false ↦ elim (led_by (suc k) f) [ true ↦ Some j | false ↦ scan (j + 1) fs ] ]
 
   pub scan_pivot : (j : ℕ) (f : Poly) (fs : List Poly) → j ≡ place → scan j (f ∷ fs) ≡ scan (j + 1) fs
   unfolding scan
   scan_pivot j f fs e =
-      ap (λ (b : Bool). elim b as (λ b. Other) [ true ↦ scan (j + 1) fs | false ↦ elim (led_by (suc k) f) [ true ↦ At j | false ↦ scan (j + 1) fs ] ]) (eq-eqb j place e)
+      ap (λ (b : Bool). elim b as (λ b. Option ℕ) [ true ↦ scan (j + 1) fs | false ↦ elim (led_by (suc k) f) [ true ↦ Some j | false ↦ scan (j + 1) fs ] ]) (eq-eqb j place e)
 
-  scan_else : (j : ℕ) (f : Poly) (fs : List Poly) → j ≢ place → scan j (f ∷ fs) ≡ (elim (led_by (suc k) f) as (λ b. Other) [ true ↦ At j | false ↦ scan (j + 1) fs ])
+  scan_else : (j : ℕ) (f : Poly) (fs : List Poly) → j ≢ place → scan j (f ∷ fs) ≡ (elim (led_by (suc k) f) as (λ b. Option ℕ) [ true ↦ Some j | false ↦ scan (j + 1) fs ])
   unfolding scan
   scan_else j f fs n =
-      ap (λ (b : Bool). elim b as (λ b. Other) [ true ↦ scan (j + 1) fs | false ↦ elim (led_by (suc k) f) [ true ↦ At j | false ↦ scan (j + 1) fs ] ]) (ne_eqb j place n)
+      ap (λ (b : Bool). elim b as (λ b. Option ℕ) [ true ↦ scan (j + 1) fs | false ↦ elim (led_by (suc k) f) [ true ↦ Some j | false ↦ scan (j + 1) fs ] ]) (ne_eqb j place n)
 
-  pub scan_led : (j : ℕ) (f : Poly) (fs : List Poly) → j ≢ place → leader f ≡ suc k → scan j (f ∷ fs) ≡ At j
+  pub scan_led : (j : ℕ) (f : Poly) (fs : List Poly) → j ≢ place → leader f ≡ suc k → scan j (f ∷ fs) ≡ Some j
   unfolding led_by
-  scan_led j f fs n e = scan_else j f fs n ∙ ap (λ (b : Bool). elim b as (λ b. Other) [ true ↦ At j | false ↦ scan (j + 1) fs ]) (eq-eqb (leader f) (suc k) e)
+  scan_led j f fs n e = scan_else j f fs n ∙ ap (λ (b : Bool). elim b as (λ b. Option ℕ) [ true ↦ Some j | false ↦ scan (j + 1) fs ]) (eq-eqb (leader f) (suc k) e)
 
   pub scan_unled : (j : ℕ) (f : Poly) (fs : List Poly) → j ≢ place → leader f ≢ suc k → scan j (f ∷ fs) ≡ scan (j + 1) fs
   unfolding led_by
-  scan_unled j f fs n e = scan_else j f fs n ∙ ap (λ (b : Bool). elim b as (λ b. Other) [ true ↦ At j | false ↦ scan (j + 1) fs ]) (ne_eqb (leader f) (suc k) e)
+  scan_unled j f fs n e = scan_else j f fs n ∙ ap (λ (b : Bool). elim b as (λ b. Option ℕ) [ true ↦ Some j | false ↦ scan (j + 1) fs ]) (ne_eqb (leader f) (suc k) e)
 
   -- One that v(k+1) leads, or what is found behind it.
   first_or_behind : (j : ℕ) (f : Poly) (fs : List Poly) (o : Found) → scan (j + 1) fs ≡ from (j + 1) o → (b : Bool) →
-      (elim b as (λ b. Other) [ true ↦ At j | false ↦ scan (j + 1) fs ])
+      (elim b as (λ b. Option ℕ) [ true ↦ Some j | false ↦ scan (j + 1) fs ])
       ≡ from j (elim b as (λ b. Found) [ true ↦ found (record { place = 0; poly = f }) | false ↦ behind o ])
-  first_or_behind j f fs o h true = ap At {x = j} {y = j + 0} (omega arith)
+  first_or_behind j f fs o h true = ap Some {x = j} {y = j + 0} (omega arith)
   first_or_behind j f fs o h false = h ∙ from_behind j o
 
   scan_earliest : (fs : List Poly) (j : ℕ) → place < j → scan j fs ≡ from j (earliest k fs)

@@ -1,6 +1,6 @@
 -- The pivot by a pass from the left over the ranks: the best so far gives way only to one of lower rank.
 use mathlib.Core.Path.{◌≡◌, refl, sym, ap, ap₂, ◌∙◌}
-use mathlib.Core.Logic.{◌≢◌, ◌⊎◌, inl, inr}
+use mathlib.Core.Logic.{◌≢◌}
 use mathlib.Core.Bool.{Bool, true, false, not, ◌&&◌, ◌||◌}
 use mathlib.Core.List.{List, [], ◌∷◌, map}
 use Prim.Native.Nat.{ℕ, suc, ◌+◌, ◌*◌, ◌≤◌, ◌<◌}
@@ -22,6 +22,7 @@ use Rattle.rules.specs.Branch.{led_by, Chosen, better, prefer, pivot}
 use Rattle.search.specs.Rank.{rank}
 use Rattle.heads.specs.Heads.{AllHold}
 use Rattle.search.specs.Search.{pivot_place}
+use Rattle.polynomials.specs.declared.Term.{Term as Packed}
 
 -- ── ranks ──
 -- Bounds under which the rank orders degrees, and then terms.
@@ -97,12 +98,16 @@ module _ (k : ℕ) where
 
   -- A turn: the one at place j, of rank r, takes the place of the best so far where its rank is lower.
   pub passed_turn : (place least j : ℕ) (f : Poly) (fs : List Poly) (r place₁ least₁ : ℕ) → r ≡ rank k f
-      → ((r < least) × (place₁ ≡ j) × (least₁ ≡ r)) ⊎ ((least ≤ r) × (place₁ ≡ place) × (least₁ ≡ least))
-      → passed place least j (f ∷ fs) ≡ passed place₁ least₁ (j + 1) fs
-  passed_turn place least j f fs r place₁ least₁ e (inl w) =
-      passed_lower place least j f fs (omega (arith, w.0)) ∙ sym (λ t. passed (w.1 t) ((w.2 ∙ e) t) (j + 1) fs)
-  passed_turn place least j f fs r place₁ least₁ e (inr w) =
-      passed_by place least j f fs (omega (arith, w.0)) ∙ sym (λ t. passed (w.1 t) (w.2 t) (j + 1) fs)
+      → (r < least → place₁ ≡ j) → (r < least → least₁ ≡ r) → (least ≤ r → place₁ ≡ place) → (least ≤ r → least₁ ≡ least)
+      → passed place₁ least₁ (j + 1) fs ≡ passed place least j (f ∷ fs)
+  passed_turn place least j f fs r place₁ least₁ e to new kept old = go (dec_lt r least)
+    where
+      go : Dec (r < least) → passed place₁ least₁ (j + 1) fs ≡ passed place least j (f ∷ fs)
+      go (yes h) = (λ t. passed (to h t) ((new h ∙ e) t) (j + 1) fs) ∙ sym (passed_lower place least j f fs (omega (arith, h)))
+      go (no h) =
+          let h' : ¬ (r < least) = h in
+          let up : least ≤ r = omega arith in
+          (λ t. passed (kept up t) (old up t) (j + 1) fs) ∙ sym (passed_by place least j f fs (omega arith))
 
   -- What the pass finds: the pivot of those to come where its rank is lower, and the best so far otherwise.
   abbrev Finds : ℕ → ℕ → ℕ → List Poly → Chosen → Type 0
@@ -182,15 +187,14 @@ module _ (k : ℕ) where
           (passed_finds f fs u 0 131072 0).1 l ∙ sym (unled_first f fs u l)
 
   -- ── stored polynomials ──
-  small_exponents : (s : List ℕ) → All (λ e. get_or e k 0 ≤ 255) (terms s)
+  small_exponents : (s : List Packed) → All (λ e. get_or e k 0 ≤ 255) (terms s)
   unfolding terms
   small_exponents [] = tt
-  small_exponents (c ∷ []) = tt
-  small_exponents (c ∷ (m ∷ s)) = (omega (arith, byte_small 8 m k), small_exponents s)
+  small_exponents (t ∷ s) = (omega (arith, byte_small 8 t.monomial k), small_exponents s)
 
-  holds_bounded : (p : ℕ) (s : List ℕ) → Holds p s → Bounded k (terms s)
+  holds_bounded : (p : ℕ) (s : List Packed) → Holds p s → Bounded k (terms s)
   holds_bounded p s h = (omega (arith, degree_at_most k 255 (terms s) (small_exponents s)), omega (arith, length_terms s, h.few))
 
-  pub all_hold_bounded : (p : ℕ) (ss : List (List ℕ)) → AllHold p ss → Each (Bounded k) (map terms ss)
+  pub all_hold_bounded : (p : ℕ) (ss : List (List Packed)) → AllHold p ss → Each (Bounded k) (map terms ss)
   all_hold_bounded p [] h = tt
   all_hold_bounded p (s ∷ ss) h = (holds_bounded p s h.0, all_hold_bounded p ss h.1)

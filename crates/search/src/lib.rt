@@ -6,29 +6,22 @@ ghost use Rattle.polynomials.specs.Packed.{terms};
 ghost use Rattle.rules.specs.Branch.{other};
 ghost use Rattle.records.specs.Records.{room, view};
 ghost use Rattle.polynomials.specs.Working.{Holds};
-ghost use Rattle.stored.specs.Stored.{size_at, words_at, skip_to, polys_at};
+ghost use Rattle.stored.specs.Stored.{size_at, poly_at, skip_to, polys_at};
 ghost use Rattle.search.specs.Rank.{rank};
 ghost use Rattle.heads.specs.Heads.{AllHold};
 ghost use Rattle.search.specs.Search.{other_place, pivot_place};
 
-// The place in P of the other polynomial of rule 4.
-#[derive(Clone, Copy)]
-pub enum Other {
-    None,
-    At(usize),
-}
-
 // The rank of the polynomial at record i as a pivot in the variable at position v.
 fn rank_at(w: &[u32], i: usize, v: u32) -> u64
     requires i_bound { (i < room w.now) × (i + 1 + size_at (view w.now) i ≤ room w.now) × (v < 8) }
-    requires holds { (p : ℕ) × Holds p (words_at (view w.now) i) }
-    ensures { result ≡ rank v (terms (words_at (view w.now) i)) }
+    requires holds { (p : ℕ) × Holds p (poly_at (view w.now) i) }
+    ensures { result ≡ rank v (terms (poly_at (view w.now) i)) }
 {
     if heads::leader_at(w, i) != v + 1 {
         return 131072; // above every rank
     }
     let degree = monomials::exponent(stored::monomial(w, i + 1), v);
-    512 * degree + records::get0(w, i) as u64
+    512 * degree + u64::from(records::get0(w, i))
 }
 
 // The place of the pivot in the variable at position v among the k polynomials from record `at` on.
@@ -37,38 +30,32 @@ pub fn pivot_place(w: &[u32], at: usize, k: usize, v: u32) -> usize
     requires all_hold { (p : ℕ) × AllHold p (polys_at (view w.now) at k) }
     ensures { result ≡ pivot_place v (map terms (polys_at (view w.now) at k)) }
 {
-    let mut i = at;
-    let mut j = 0;
+    let mut next = at;
     let mut place = 0;
     let mut least = 131072;
-    while j < k {
-        let r = rank_at(w, i, v);
+    for j in 0..k {
+        let r = rank_at(w, next, v);
         if r < least {
             place = j;
             least = r;
         }
-        let n = records::get0(w, i) as usize;
-        i = i + 1 + n;
-        j += 1;
+        next += 1 + records::get0(w, next) as usize;
     }
     place
 }
 
 // The place of the earliest polynomial led by the variable at position v other than the one at `place`, among the k from record `at` on.
-pub fn other_from(w: &[u32], at: usize, k: usize, v: u32, place: usize) -> Other
+pub fn other_from(w: &[u32], at: usize, k: usize, v: u32, place: usize) -> Option<usize>
     requires k_bound { (skip_to (view w.now) at k ≤ room w.now) × (v < 8) }
     requires all_hold { (p : ℕ) × AllHold p (polys_at (view w.now) at k) }
     ensures { result ≡ other_place (other v place (map terms (polys_at (view w.now) at k))) }
 {
-    let mut i = at;
-    let mut j = 0;
-    while j < k {
-        if j != place && heads::leader_at(w, i) == v + 1 {
-            return Other::At(j);
+    let mut next = at;
+    for j in 0..k {
+        if j != place && heads::leader_at(w, next) == v + 1 {
+            return Some(j);
         }
-        let n = records::get0(w, i) as usize;
-        i = i + 1 + n;
-        j += 1;
+        next += 1 + records::get0(w, next) as usize;
     }
-    Other::None
+    None
 }

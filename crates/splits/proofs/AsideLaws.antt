@@ -1,5 +1,5 @@
--- A split: the branch that stays open is what the definition says; where a state on the way finds no room the end has none; and the state in which
--- the split stops then.
+-- A split: the branch that stays open is what the definition says; where a state on the way finds no room the end has none; the state in which
+-- the split stops then; and what the words hold after each call.
 use mathlib.Core.Path.{◌≡◌, refl, sym, ap, subst, ◌∙◌}
 use mathlib.Core.Bool.{Bool, true, false, ◌||◌, false≢true}
 use mathlib.Core.List.{List, [], ◌∷◌, ◌++◌, append_assoc, append-nil}
@@ -8,22 +8,24 @@ use native.Mathlib.Omega.{arith}
 use borrow.Author.Tests.{leb-true, leb-false, le-leb, lt-leb}
 use lib.ListN.{length, take, drop, get_or, length-append, length-drop}
 use lib.Seq.{take_at, drop_at, length-take-le, split_at}
-use Rattle.records.specs.Records.{Rec}
+use Rattle.records.specs.Records.{Rec, view}
 use Rattle.stored.specs.Stored.{polys_records, member}
 use Rattle.stored.specs.laws.Stored.{polys_records_append}
 use Rattle.branches.specs.Words.{put_p, remove, unless, is_zero, is_one}
 use Rattle.branches.specs.laws.Words.{put_q_before_none}
-use Rattle.branches.specs.Area.{Stored, Area, Leaves, stack, branch_records, with_open, size}
+use Rattle.branches.specs.Area.{Stored, Area, Leaves, stack, branch_records, with_open, size, capacity, HeldIn, WhenOpen, OpenBecomes}
 use Rattle.branches.specs.Area.{kept_open, aside, put_into_p, put_into_q, without_p, split_area, fitting, unfinished_split}
 use Rattle.branches.specs.laws.Words.{remove_in_parts, length_remove}
+use Rattle.branches.proofs.LengthLaws.{held_by, left_by}
 use Rattle.puts.proofs.PutLaws.{put_q_new}
+use Rattle.polynomials.specs.declared.Term.{Term as Packed}
 
 -- ── lists of polynomials ──
 -- A put only adds behind.
-added_p : List ℕ → List (List ℕ) → List (List ℕ)
+added_p : List Packed → List (List Packed) → List (List Packed)
 added_p f fs = unless (is_zero f || member f fs) f []
 
-put_p_adds : (f : List ℕ) (fs : List (List ℕ)) → put_p f fs ≡ fs ++ added_p f fs
+put_p_adds : (f : List Packed) (fs : List (List Packed)) → put_p f fs ≡ fs ++ added_p f fs
 unfolding put_p added_p
 put_p_adds f fs = go (is_zero f || member f fs)
   where
@@ -31,11 +33,11 @@ put_p_adds f fs = go (is_zero f || member f fs)
     go true = sym (append-nil fs)
     go false = refl
 
-restored : (fs more : List (List ℕ)) (i n : ℕ) (f : List ℕ) → i < length fs → n + 1 ≡ length fs → get_or fs i [] ≡ f
+restored : (fs more : List (List Packed)) (i n : ℕ) (f : List Packed) → i < length fs → n + 1 ≡ length fs → get_or fs i [] ≡ f
     → take i (remove i fs ++ more) ++ (f ∷ take (n - i) (drop i (remove i fs ++ more))) ≡ fs
 restored fs more i n f h l g =
     let e : remove i fs ++ more ≡ take i fs ++ (drop (suc i) fs ++ more) =
-    ap (λ (x : List (List ℕ)). x ++ more) (remove_in_parts i fs) ∙ append_assoc (take i fs) (drop (suc i) fs) more in
+    ap (λ (x : List (List Packed)). x ++ more) (remove_in_parts i fs) ∙ append_assoc (take i fs) (drop (suc i) fs) more in
     let li : length (take i fs) ≡ i = length-take-le i fs (omega arith) in
     let front : take i (remove i fs ++ more) ≡ take i fs = ap (take i) e ∙ take_at (take i fs) (drop (suc i) fs ++ more) i li in
     let back : take (n - i) (drop i (remove i fs ++ more)) ≡ drop (suc i) fs =
@@ -44,30 +46,30 @@ restored fs more i n f h l g =
     (λ t. front t ++ (sym g t ∷ back t)) ∙ sym (split_at fs i [] h)
 
 -- P of the branch set aside begins with P without the pivot.
-aside_p : (i : ℕ) (initial rest : List ℕ) (b : Stored) → List (List ℕ)
+aside_p : (i : ℕ) (initial rest : List Packed) (b : Stored) → List (List Packed)
 aside_p i initial rest b = added_p initial (remove i b.P) ++ added_p rest (put_p initial (remove i b.P))
 
-aside_p_is : (i : ℕ) (initial rest : List ℕ) (b : Stored) → (aside i initial rest b).P ≡ remove i b.P ++ aside_p i initial rest b
+aside_p_is : (i : ℕ) (initial rest : List Packed) (b : Stored) → (aside i initial rest b).P ≡ remove i b.P ++ aside_p i initial rest b
 unfolding aside_p
 aside_p_is i initial rest b =
     let first = put_p initial (remove i b.P) in
-    put_p_adds rest first ∙ ap (λ (l : List (List ℕ)). l ++ added_p rest first) (put_p_adds initial (remove i b.P))
+    put_p_adds rest first ∙ ap (λ (l : List (List Packed)). l ++ added_p rest first) (put_p_adds initial (remove i b.P))
     ∙ append_assoc (remove i b.P) (added_p initial (remove i b.P)) (added_p rest first)
 
-pub length_aside : (i : ℕ) (initial rest : List ℕ) (b : Stored) → i < length b.P → length b.P ≤ length (aside i initial rest b).P + 1
+pub length_aside : (i : ℕ) (initial rest : List Packed) (b : Stored) → i < length b.P → length b.P ≤ length (aside i initial rest b).P + 1
 length_aside i initial rest b h =
     omega (arith, ap length (aside_p_is i initial rest b), length-append (remove i b.P) (aside_p i initial rest b), length_remove i b.P h)
 
-pub kept_aside : (i n : ℕ) (f initial rest : List ℕ) (b : Stored) → i < length b.P → n + 1 ≡ length b.P → get_or b.P i [] ≡ f → is_one initial ≡ false
+pub kept_aside : (i n : ℕ) (f initial rest : List Packed) (b : Stored) → i < length b.P → n + 1 ≡ length b.P → get_or b.P i [] ≡ f → is_one initial ≡ false
     → member initial b.Q ≡ false → kept_open i n f initial (aside i initial rest b) ≡ put_into_q 0 initial b
 kept_aside i n f initial rest b h l g one there =
     let in_p : take i (aside i initial rest b).P ++ (f ∷ take (n - i) (drop i (aside i initial rest b).P)) ≡ b.P =
-    ap (λ (x : List (List ℕ)). take i x ++ (f ∷ take (n - i) (drop i x))) (aside_p_is i initial rest b)
+    ap (λ (x : List (List Packed)). take i x ++ (f ∷ take (n - i) (drop i x))) (aside_p_is i initial rest b)
     ∙ restored b.P (aside_p i initial rest b) i n f h l g in
     λ t. record { P = in_p t; Q = sym (put_q_before_none initial b.Q ∙ put_q_new initial b.Q one there) t; T = b.T }
 
 -- ── sizes ──
-length_put : (f : List ℕ) (b : Stored) (under : ℕ) → length (branch_records under b) ≤ length (branch_records under (put_into_p f b))
+length_put : (f : List Packed) (b : Stored) (under : ℕ) → length (branch_records under b) ≤ length (branch_records under (put_into_p f b))
 length_put f b under =
     let rest : List Rec = polys_records b.Q ++ polys_records b.T in
     let more : List Rec = polys_records (added_p f b.P) in
@@ -77,7 +79,7 @@ length_put f b under =
     let new_length = length-append (polys_records (put_p f b.P)) rest in
     omega (arith, ap length new, length-append (polys_records b.P) more)
 
-size_put : (f : List ℕ) (b : Stored) (bs ss : List Stored) → size (with_open b bs ss) ≤ size (with_open (put_into_p f b) bs ss)
+size_put : (f : List Packed) (b : Stored) (bs ss : List Stored) → size (with_open b bs ss) ≤ size (with_open (put_into_p f b) bs ss)
 unfolding size
 size_put f b bs ss =
     let old_length = length-append (stack bs).0 (branch_records (stack bs).1 b) in
@@ -107,7 +109,7 @@ fitting_over : (most : ℕ) (a₀ a : Area) → most < size a → fitting most a
 fitting_over most a₀ a h = ap (λ (t : Bool). elim t as (λ t. Area) [ true ↦ a | false ↦ a₀ ]) (lt-leb (size a) most h)
 
 -- ── where a split stops ──
-module _ (most i : ℕ) (initial rest : List ℕ) (b : Stored) (bs ss : List Stored) where
+module _ (most i : ℕ) (initial rest : List Packed) (b : Stored) (bs ss : List Stored) where
   -- The pivot is out of P; the initial is put in; the rest is put in too.
   abbrev pivot_out : Area
   pivot_out = with_open (without_p i b) bs ss
@@ -148,3 +150,39 @@ module _ (most i : ℕ) (initial rest : List ℕ) (b : Stored) (bs ss : List Sto
 
   pub stops_aside : {r : Bool} {v : List Rec} → Leaves most initial_in rest_in r v → r ≡ true → rest_in ≡ unfinished
   stops_aside L e = sym (fitting_fits most initial_fitting rest_in (fits_if_true L e))
+
+-- ── what the words hold after each call ──
+-- The pivot is taken out of the words w, which become w₁.
+pub record Taken (w : List ℕ) (i : ℕ) (w₁ : List ℕ) : Type 0 where
+  pub same : length w₁ ≡ length w
+  pub out : OpenBecomes (without_p i) w w₁
+
+-- f is put into P of the words w, with the answer r; they become w₁.
+pub record Put (w : List ℕ) (f : List Packed) (r : Bool) (w₁ : List ℕ) : Type 0 where
+  pub same : length w₁ ≡ length w
+  pub put : WhenOpen w (λ b bs ss. Leaves (capacity w) (with_open b bs ss) (with_open (put_into_p f b) bs ss) r (view w₁))
+
+module _ {w w₁ : List ℕ} {i : ℕ} (out : Taken w i w₁) {b : Stored} {bs ss : List Stored} (H : HeldIn w (with_open b bs ss)) where
+  pub removed : HeldIn w₁ (with_open (without_p i b) bs ss)
+  removed = held_by _ _ w w₁ (sym out.same) (out.out b bs ss H)
+
+  module _ {initial : List Packed} {r : Bool} {w₂ : List ℕ} (first : Put w₁ initial r w₂) where
+    same_initial : length w₂ ≡ length w
+    same_initial = first.same ∙ out.same
+
+    pub initial_leaves : Leaves (capacity w) (with_open (without_p i b) bs ss) (with_open (put_into_p initial (without_p i b)) bs ss) r (view w₂)
+    initial_leaves = left_by _ _ w₁ w out.same refl refl (first.put _ bs ss removed)
+
+    module _ (e : r ≡ true) where
+      pub initial_put : HeldIn w₂ (with_open (put_into_p initial (without_p i b)) bs ss)
+      initial_put = held_by _ _ w w₂ (sym same_initial) (initial_leaves.held e)
+
+      module _ {rest : List Packed} {r₁ : Bool} {w₃ : List ℕ} (second : Put w₂ rest r₁ w₃) where
+        pub same_rest : length w₃ ≡ length w
+        same_rest = second.same ∙ same_initial
+
+        pub rest_leaves : Leaves (capacity w) (with_open (put_into_p initial (without_p i b)) bs ss) (with_open (aside i initial rest b) bs ss) r₁ (view w₃)
+        rest_leaves = left_by _ _ w₂ w same_initial refl refl (second.put _ bs ss initial_put)
+
+        pub rest_put : r₁ ≡ true → HeldIn w₃ (with_open (aside i initial rest b) bs ss)
+        rest_put e₁ = held_by _ _ w w₃ (sym same_rest) (rest_leaves.held e₁)

@@ -7,9 +7,12 @@ ghost use Rattle.stored.specs.Stored.{member, Storable};
 ghost use Rattle.branches.specs.Words.{is_one};
 ghost use Rattle.branches.specs.Area.{Leaves, Opened, capacity, split_area, unfinished_split, WhenOpen, outside};
 
-// The initial goes into Q, and a branch is set aside with P without its member at place i, which is f, then the initial, then the rest; with Q as it
-// was; with T. Whether there is room. The open branch is made the one set aside, and the other is built on top of it; without room it stops on the way (`unfinished_split`).
-pub fn split(w: &mut [u32], i: usize, f: &[u64], initial: &[u64], rest: &[u64]) -> bool
+use polynomials::Term;
+
+// The initial goes into Q, and a branch is set aside: with P without its member at place i, which is f, then the
+// initial, then the rest; with Q as it was; with T. Whether there is room. The open branch is made the one set aside,
+// and the other is built on top of it; without room it stops on the way (`unfinished_split`).
+pub fn split(w: &mut [u32], i: usize, f: &[Term], initial: &[Term], rest: &[Term]) -> bool
     requires opened { Opened w.old }
     requires when_open { WhenOpen w.old (λ b bs ss.
         (i < length b.P) × (get_or b.P i [] ≡ f.now) × (is_one initial.now ≡ false) × (member initial.now b.Q ≡ false)) }

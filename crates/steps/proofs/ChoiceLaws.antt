@@ -30,6 +30,7 @@ use Rattle.representation.specs.Represent.{Sound, AllSound, branch_of, system_of
 use Rattle.representation.specs.laws.Steps.{chosen_at}
 use Rattle.representation.specs.Ready.{Ready}
 use Rattle.steps.specs.Pending.{Leads}
+use Rattle.polynomials.specs.declared.Term.{Term as Packed}
 
 -- A monic polynomial without a leading variable is 1.
 constant_is_one : (p n : ℕ) (f : Poly) → Canonical p f → Places n f → Monic f → f ≢ [] → leader f ≡ 0 → is_one f ≡ true
@@ -37,24 +38,23 @@ constant_is_one p n [] c u m z h = absurd (z refl)
 constant_is_one p n (t ∷ f) c u m z h = sym (true_of (is_one (t ∷ f)) (rising.constant_is_one p n (t ∷ f) c u m h))
 
 -- ── the highest leading variable ──
-words_none : (p : ℕ) (f : List ℕ) → Sound p f → terms f ≡ [] → f ≡ []
+terms_none : (f : List Packed) → terms f ≡ [] → f ≡ []
 unfolding terms
-words_none p [] s e = refl
-words_none p (x ∷ []) s e = absurd (omega (arith, s.holds.pairs))
-words_none p (x ∷ (y ∷ f)) s e = let z : ◌≡◌ {A = ℕ} 0 1 = cc in absurd (omega arith)
+terms_none [] e = refl
+terms_none (t ∷ f) e = cc
 
-some_leader : (p : ℕ) (f : List ℕ) (fs : List (List ℕ)) → Sound p f → Monic (terms f) → f ≢ [] → some_one (map terms (f ∷ fs)) ≡ false → 1 ≤ highest_leader (map terms (f ∷ fs))
+some_leader : (p : ℕ) (f : List Packed) (fs : List (List Packed)) → Sound p f → Monic (terms f) → f ≢ [] → some_one (map terms (f ∷ fs)) ≡ false → 1 ≤ highest_leader (map terms (f ∷ fs))
 unfolding highest_leader some_one
 some_leader p f fs s m z e = go (leader (terms f)) refl
   where
     go : (n : ℕ) → leader (terms f) ≡ n → 1 ≤ max (leader (terms f)) (highest_leader (map terms fs))
     go zero q =
-        let o = constant_is_one p 8 (terms f) s.holds.canonical (places_terms f) m (λ y. z (words_none p f s y)) q in
+        let o = constant_is_one p 8 (terms f) s.holds.canonical (places_terms f) m (λ y. z (terms_none f y)) q in
         let c : true ≡ false = ap (λ b. b || some_one (map terms fs)) (sym o) ∙ e in
         let y : ◌≡◌ {A = ℕ} 0 1 = cc in absurd (omega arith)
     go (suc n) q = omega arith
 
-pub at_inside : (i : ℕ) (f : Poly) (fs : List (List ℕ)) → At i f (map terms fs) → i < length fs
+pub at_inside : (i : ℕ) (f : Poly) (fs : List (List Packed)) → At i f (map terms fs) → i < length fs
 at_inside i f [] a = absurd a
 at_inside zero f (g ∷ fs) a = omega arith
 at_inside (suc i) f (g ∷ fs) a = omega (arith, at_inside i f fs a)
@@ -93,7 +93,7 @@ module _ (p k i : ℕ) where
   abbrev ChosenPivot : Stored → Type 0
   ChosenPivot b = (rule_of (branch_of b) ≡ rule_with k (chosen b i) (branch_of b)) × Leads k i b
 
-  pub chosen_pivot : (P Q T : List (List ℕ)) → AllSound p P → AllMonic P → Each (λ f. f ≢ []) P
+  pub chosen_pivot : (P Q T : List (List Packed)) → AllSound p P → AllMonic P → Each (λ f. f ≢ []) P
       → choice (branch_of (record { P = P; Q = Q; T = T })) ≡ Pivot k i → ChosenPivot (record { P = P; Q = Q; T = T })
   unfolding choice rule_of
   chosen_pivot [] Q T s m z e = no (go (some_one [] || some_zero (map terms Q)) e)
@@ -156,6 +156,6 @@ module _ (l : Limits) (p : ℕ) (b : Stored) (bs ss : List Stored) where
       listed = (e, R.listed);
     }
 
-pub map_none : (P : List (List ℕ)) → map terms P ≡ [] → P ≡ []
+pub map_none : (P : List (List Packed)) → map terms P ≡ [] → P ≡ []
 map_none [] e = refl
 map_none (f ∷ fs) e = no cc

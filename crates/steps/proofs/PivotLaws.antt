@@ -3,16 +3,18 @@ use mathlib.Core.Path.{◌≡◌, refl, sym, ap, ap₂, subst, ◌∙◌}
 use mathlib.Core.Logic.{◌≢◌}
 use mathlib.Core.Bool.{Bool, true, false, ◌||◌}
 use mathlib.Core.List.{List, [], map, reverse}
-use Prim.Native.Nat.{ℕ, ◌+◌, ◌-◌, ◌≤◌, ◌<◌}
+use Prim.Native.Nat.{ℕ, ◌+◌, ◌-◌, ◌^◌, ◌≤◌, ◌<◌}
 use native.Mathlib.Omega.{arith}
 use lib.ListN.{length, get_or, take, drop}
 use lib.Seq.{length-take-le}
 use Rattle.branches.specs.laws.Words.{each_remove}
+use Rattle.residues.specs.Each.{Each}
+use Rattle.residues.specs.laws.Each.{each_map}
 use Rattle.polynomials.specs.Poly.{Poly}
 use Rattle.polynomials.specs.Division.{leader, initial, degree}
 use Rattle.polynomials.specs.Packed.{terms}
 use Rattle.polynomials.specs.Working.{Written}
-use Rattle.polynomials.specs.laws.Answers.{written_holds}
+use Rattle.polynomials.specs.laws.Answers.{written_holds, written_count}
 use Rattle.polynomials.specs.laws.Parts.{canonical_initial, at_leader, length_initial}
 use Rattle.polynomials.specs.laws.Terms.{length_terms}
 use Rattle.stored.specs.Stored.{member}
@@ -25,30 +27,31 @@ use Rattle.rules.proofs.laws.Pivot.{OtherIs, other_is}
 use Rattle.records.specs.Records.{Rec}
 use Rattle.branches.specs.Words.{is_one}
 use Rattle.branches.specs.Area.{Stored, Held, with_open, closed}
-use Rattle.representation.specs.Represent.{Sound, AllSound, branch_of, system_of, chosen, with_new}
+use Rattle.representation.specs.Represent.{TwoWords, Sound, AllSound, branch_of, system_of, chosen, with_new}
 use Rattle.representation.specs.laws.Lists.{sound_at}
 use Rattle.representation.specs.laws.Sounds.{closed_sound}
 use Rattle.representation.specs.laws.Monics.{remove_monic}
 use Rattle.representation.specs.laws.Tests.{is_one_terms, member_terms}
 use Rattle.representation.specs.laws.Steps.{chosen_at}
 use Rattle.representation.specs.laws.Replaced.{apply_close}
+use Rattle.members.proofs.MadeLaws.{two_words}
 use Rattle.pivots.specs.declared.Division.{Division}
 use Rattle.pivots.specs.Aimed.{division_of, aimed}
 use Rattle.representation.specs.Ready.{Ready}
 use Rattle.members.specs.Members.{rest_of_step}
 use Rattle.steps.specs.Pending.{Leads, Pivoted, Comes}
-use Rattle.members.proofs.MadeLaws.{small_take}
 use Rattle.steps.proofs.ChoiceLaws.{at_inside}
+use Rattle.polynomials.specs.declared.Term.{Term as Packed}
 
 -- ── loading ──
 -- The first n words of t are the pivot.
-pub record PivotIn (p k place : ℕ) (b : Stored) (t : List ℕ) (n : ℕ) : Type 0 where
+pub record PivotIn (p k place : ℕ) (b : Stored) (t : List Packed) (n : ℕ) : Type 0 where
   pub inside : n ≤ length t
   pub is : take n t ≡ get_or b.P place []
   pub sound : Sound p (take n t)
   pub led : leader (terms (take n t)) ≡ k + 1
 
-pub pivot_in : (p k place : ℕ) (b : Stored) (bs ss : List Stored) (t : List ℕ) (n : ℕ) → Ready p (with_open b bs ss) → Leads k place b
+pub pivot_in : (p k place : ℕ) (b : Stored) (bs ss : List Stored) (t : List Packed) (n : ℕ) → Ready p (with_open b bs ss) → Leads k place b
     → length (get_or b.P place []) ≤ length t → (n ≡ length (get_or b.P place [])) × (take n t ≡ get_or b.P place []) → PivotIn p k place b t n
 pivot_in p k place b bs ss t n R L room e =
     let s = sound_at p place b.P R.sound.branches.0.in_p in
@@ -56,30 +59,29 @@ pivot_in p k place b bs ss t n R L room e =
       inside = omega (arith, e.0, room);
       is = e.1;
       sound = subst (Sound p) (sym e.1) s;
-      led = ap (λ (f : List ℕ). leader (terms f)) e.1 ∙ L.2;
+      led = ap (λ (f : List Packed). leader (terms f)) e.1 ∙ L.2;
     }
 
 -- The first m words of i are the initial of f.
-pub record InitialIn (p k : ℕ) (f i : List ℕ) (m : ℕ) : Type 0 where
+pub record InitialIn (p k : ℕ) (f i : List Packed) (m : ℕ) : Type 0 where
   pub inside : m ≤ length i
   pub is : terms (take m i) ≡ initial k (terms f)
   pub sound : Sound p (take m i)
 
-pub initial_in : (p k : ℕ) (f i : List ℕ) (m : ℕ) → Sound p f → leader (terms f) ≡ k + 1 → Written (initial k (terms f)) m i
-    → ((j : ℕ) → get_or i j 0 < 18446744073709551616) → InitialIn p k f i m
-initial_in p k f i m s led W small =
+pub initial_in : (p k : ℕ) (f i : List Packed) (m : ℕ) → p < 2147483648 → Sound p f → leader (terms f) ≡ k + 1 → Written (initial k (terms f)) m i
+    → (Each (λ t. t.monomial < 2 ^ 64) f → Each (λ t. t.monomial < 2 ^ 64) (take m i)) → InitialIn p k f i m
+initial_in p k f i m below s led W words =
     let c = s.holds.canonical in
+    let few : m ≤ 256 = omega (arith, written_count (initial k (terms f)) m i W, length_initial k (terms f), length_terms f, s.holds.few) in
+    let holds = written_holds p (initial k (terms f)) m i W few (canonical_initial p k (terms f) c) in
     record {
       inside = W.within;
       is = W.holds;
-      sound = record {
-        holds = written_holds p (initial k (terms f)) m i W (omega (arith, W.pairs, length_initial k (terms f), length_terms f, s.holds.few)) (canonical_initial p k (terms f) c);
-        small = small_take m i 18446744073709551616 (omega arith) small;
-      };
+      sound = record { holds = holds; small = two_words p (omega (arith, below)) (take m i) holds.canonical (words (each_map TwoWords (λ t. t.monomial < 2 ^ 64) (λ t w. w.1) f s.small)) };
     }
 
 -- ── the rule ──
-module _ (p k i : ℕ) (b : Stored) (ini : List ℕ) (s : Sound p ini) (h : AllSound p b.Q) (e : terms ini ≡ initial k (chosen b i).poly) where
+module _ (p k i : ℕ) (b : Stored) (ini : List Packed) (s : Sound p ini) (h : AllSound p b.Q) (e : terms ini ≡ initial k (chosen b i).poly) where
   abbrev rule_by : Bool → Rule
   rule_by o = elim o [ true ↦ divide_or_close k (chosen b i) (other k i (branch_of b).P) | false ↦ split k (chosen b i) ]
 
@@ -120,7 +122,7 @@ module _ (l : Limits) (p k i : ℕ) (b : Stored) (bs ss : List Stored) where
       ∙ ap (λ (g : Chosen). after_division (remainder_by l p k f g.poly) (λ r. within_room l (state l p (map branch_of bs) (reverse (map system_of ss)) (divided l p g r (branch_of b))))) q
 
   -- t and j hold the pivot and its initial.
-  module _ (R : Ready p (with_open b bs ss)) (L : Leads k i b) (t : List ℕ) (n : ℕ) (T : PivotIn p k i b t n) (j : List ℕ) (m : ℕ) (I : InitialIn p k (take n t) j m)
+  module _ (R : Ready p (with_open b bs ss)) (L : Leads k i b) (t : List Packed) (n : ℕ) (T : PivotIn p k i b t n) (j : List Packed) (m : ℕ) (I : InitialIn p k (take n t) j m)
       (v : List Rec) (most : ℕ) where
     abbrev N : ℕ
     N = length (take n t)
@@ -136,7 +138,7 @@ module _ (l : Limits) (p k i : ℕ) (b : Stored) (bs ss : List Stored) where
 
     pivoted : Pivoted p k (degree k (terms (take n t))) (take N t) (take m j)
     unfolding initial
-    pivoted = subst (λ (f : List ℕ). Pivoted p k (degree k (terms (take n t))) f (take m j)) (sym whole) (record {
+    pivoted = subst (λ (f : List Packed). Pivoted p k (degree k (terms (take n t))) f (take m j)) (sym whole) (record {
       variable = L.0;
       some = at_leader (terms (take n t)) k T.led;
       pivot = T.sound.holds;

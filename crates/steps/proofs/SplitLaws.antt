@@ -27,6 +27,7 @@ use Rattle.representation.specs.laws.Monics.{initial_monic, stored_initial_own, 
 use Rattle.representation.specs.laws.Steps.{if_fits, apply_split}
 use Rattle.representation.specs.Ready.{Ready, limits_in}
 use Rattle.steps.specs.Pending.{Leads}
+use Rattle.polynomials.specs.declared.Term.{Term as Packed}
 
 -- The state a has an open branch, over the waiting ones bs and the systems ss.
 abbrev Opens : List Stored → List Stored → Area → Type 0
@@ -39,16 +40,16 @@ fitting_opens most {bs} {ss} a₀ a h₀ h = go (leb (size a) most)
     go true = h
     go false = h₀
 
-unfinished_split_opens : (most i : ℕ) (ini rst : List ℕ) (b : Stored) (bs ss : List Stored) → Opens bs ss (unfinished_split most i ini rst b bs ss)
+unfinished_split_opens : (most i : ℕ) (ini rst : List Packed) (b : Stored) (bs ss : List Stored) → Opens bs ss (unfinished_split most i ini rst b bs ss)
 unfinished_split_opens most i ini rst b bs ss = fitting_opens most _ _ (fitting_opens most _ _ (_, refl) (_, refl)) (_, refl)
 
-module _ (p k i : ℕ) (prime : Prime p) (b : Stored) (bs ss : List Stored) (R : Ready p (with_open b bs ss)) (L : Leads k i b) (ini rst : List ℕ) (s : Sound p ini)
+module _ (p k i : ℕ) (prime : Prime p) (b : Stored) (bs ss : List Stored) (R : Ready p (with_open b bs ss)) (L : Leads k i b) (ini rst : List Packed) (s : Sound p ini)
     (of_ini : terms ini ≡ initial k (terms (get_or b.P i []))) (u₀ : Sound p rst) (of_rst : terms rst ≡ monic p (rest k (terms (get_or b.P i [])))) where
   -- The pivot, and the members of P but it.
-  abbrev pivot : List ℕ
+  abbrev pivot : List Packed
   pivot = get_or b.P i []
 
-  abbrev others : List (List ℕ)
+  abbrev others : List (List Packed)
   others = remove i b.P
 
   here : Sound p pivot

@@ -14,13 +14,14 @@ use Rattle.members.specs.Members.{HasMembers, rest_of_step}
 use Rattle.pivots.specs.declared.Division.{Division}
 use Rattle.steps.specs.declared.Prepared.{Prepared}
 use Rattle.steps.specs.declared.Prepared.TheVariants.{Done, Members, Stop, Crowded}
+use Rattle.polynomials.specs.declared.Term.{Term as Packed}
 
 -- The member of P at `place` is led by v(k+1).
 abbrev pub Leads : ℕ → ℕ → Stored → Type 0
 Leads k place b = (k < 8) × (place < length b.P) × (leader (terms (get_or b.P place [])) ≡ k + 1)
 
 -- t is a pivot of degree d in v(k+1), and i its initial.
-pub record Pivoted (p k d : ℕ) (t i : List ℕ) : Type 0 where
+pub record Pivoted (p k d : ℕ) (t i : List Packed) : Type 0 where
   pub variable : k < 8
   pub some : 1 ≤ d
   pub pivot : Holds p t
@@ -29,7 +30,7 @@ pub record Pivoted (p k d : ℕ) (t i : List ℕ) : Type 0 where
   pub of_initial : terms i ≡ coefficient k d (terms t)
 
 -- The step S comes to the division d of members of the branch b.
-pub record Comes (l : Limits) (p : ℕ) (S : Stepped) (d : Division) (t i : List ℕ) (v : List Rec) (most : ℕ) (b : Stored) (bs ss : List Stored) : Type 0 where
+pub record Comes (l : Limits) (p : ℕ) (S : Stepped) (d : Division) (t i : List Packed) (v : List Rec) (most : ℕ) (b : Stored) (bs ss : List Stored) : Type 0 where
   pub held : Held v most (with_open b bs ss)
   pub ready : Ready p (with_open b bs ss)
   pub pivot_inside : d.pivot ≤ length t
@@ -39,7 +40,7 @@ pub record Comes (l : Limits) (p : ℕ) (S : Stepped) (d : Division) (t i : List
   pub goes : S ≡ rest_of_step l p d.closing d.place d.left d.k (terms (take d.pivot t)) b bs ss
 
 -- The step S is that with the pivot of the branch b at `place`, which is longer than t.
-pub record TooLong (l : Limits) (p : ℕ) (S : Stepped) (t : List ℕ) (v : List Rec) (most : ℕ) (b : Stored) (bs ss : List Stored) : Type 0 where
+pub record TooLong (l : Limits) (p : ℕ) (S : Stepped) (t : List Packed) (v : List Rec) (most : ℕ) (b : Stored) (bs ss : List Stored) : Type 0 where
   pub held : Held v most (with_open b bs ss)
   pub k : ℕ
   pub place : ℕ
@@ -49,7 +50,7 @@ pub record TooLong (l : Limits) (p : ℕ) (S : Stepped) (t : List ℕ) (v : List
 
 -- What the code answers of the step S: it is done, it comes to a division, or it stops and leaves an open branch, over the waiting ones and the systems
 -- that there were; or it was not begun, since the pivot is longer than t.
-abbrev pub Prepares : Limits → ℕ → Stepped → Prepared → List ℕ → List ℕ → List Rec → ℕ → List Stored → List Stored → Type 0
+abbrev pub Prepares : Limits → ℕ → Stepped → Prepared → List Packed → List Packed → List Rec → ℕ → List Stored → List Stored → Type 0
 Prepares l p S Done t i v most bs ss = (a : Area) × (S ≡ next (state_of a)) × Held v most a × Ready p a
 Prepares l p S (Members d) t i v most bs ss = (b : Stored) × Comes l p S d t i v most b bs ss
 Prepares l p S (Stop why) t i v most bs ss = (S ≡ stopped why) × ((b : Stored) × Held v most (with_open b bs ss))

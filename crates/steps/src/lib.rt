@@ -12,6 +12,7 @@ ghost use Rattle.representation.specs.Ready.{Ready, Modulus, limits_in};
 ghost use Rattle.steps.specs.Pending.{Leads, Prepares};
 
 use pivots::Division;
+use polynomials::Term;
 use survey::Choice;
 use tables::Reason;
 
@@ -30,22 +31,22 @@ fn with_pivot(
     p: u64,
     k: u32,
     place: usize,
-    t: &mut [u64],
-    i: &mut [u64],
-    r: &mut [u64],
+    t: &mut [Term],
+    i: &mut [Term],
+    r: &mut [Term],
 ) -> Prepared
     requires modulus { Modulus p × ((b : Stored) × (bs : List Stored) × (ss : List Stored) × HeldIn w.old (with_open b bs ss)
         × Ready p (with_open b bs ss) × Leads k place b) }
-    requires t_in_bounds { (length t.old ≤ length i.old) × (512 ≤ length r.old) }
+    requires t_in_bounds { (length t.old ≤ length i.old) × (256 ≤ length r.old) }
     ensures when_open { WhenOpen w.old (λ b bs ss.
         Ready p (with_open b bs ss) → Leads k place b
         → Prepares (limits_in (capacity w.old)) p
         (apply (limits_in (capacity w.old)) p (map branch_of bs) (reverse (map system_of ss)) (rule_with k (chosen b place) (branch_of b)) (branch_of b))
         result t.new i.new (view w.new) (capacity w.old) bs ss) }
-    ensures when_crowded { result ≡ Crowded → (length t.old < 512) × (w.new ≡ w.old) }
+    ensures when_crowded { result ≡ Crowded → (length t.old < 256) × (w.new ≡ w.old) }
     ensures outside_stays { outside w.new ≡ outside w.old }
 {
-    if t.len() < branches::words_p(w, place) {
+    if t.len() < branches::terms_p(w, place) {
         return Prepared::Crowded;
     }
     let n = branches::load_p(w, place, t);
@@ -61,14 +62,14 @@ fn with_pivot(
 }
 
 // Finds the rule that fits and applies it, but for the divisions of rules 4 and 5.
-pub fn prepare(w: &mut [u32], p: u64, t: &mut [u64], i: &mut [u64], r: &mut [u64]) -> Prepared
+pub fn prepare(w: &mut [u32], p: u64, t: &mut [Term], i: &mut [Term], r: &mut [Term]) -> Prepared
     requires modulus { Modulus p × ((b : Stored) × (bs : List Stored) × (ss : List Stored) × HeldIn w.old (with_open b bs ss) × Ready p (with_open b bs ss)) }
-    requires t_in_bounds { (length t.old ≤ length i.old) × (512 ≤ length r.old) }
+    requires t_in_bounds { (length t.old ≤ length i.old) × (256 ≤ length r.old) }
     ensures when_open { WhenOpen w.old (λ b bs ss. Ready p (with_open b bs ss)
         → Prepares (limits_in (capacity w.old)) p
         (step (limits_in (capacity w.old)) p (branch_of b) (map branch_of bs) (reverse (map system_of ss)))
         result t.new i.new (view w.new) (capacity w.old) bs ss) }
-    ensures when_crowded { result ≡ Crowded → (length t.old < 512) × (w.new ≡ w.old) }
+    ensures when_crowded { result ≡ Crowded → (length t.old < 256) × (w.new ≡ w.old) }
     ensures outside_stays { outside w.new ≡ outside w.old }
 {
     match survey::choose(w) {

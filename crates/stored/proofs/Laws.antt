@@ -1,41 +1,67 @@
 -- What a turn of each loop does to the lists.
 use mathlib.Core.Path.{◌≡◌, refl, sym, ap, ◌∙◌}
 use mathlib.Core.List.{List, [], ◌∷◌, ◌++◌}
-use Prim.Native.Nat.{ℕ, zero, suc, ◌+◌, ◌*◌, ◌-◌, ◌≤◌, ◌<◌}
+use Prim.Native.Nat.{ℕ, zero, suc, ◌+◌, ◌-◌, ◌≤◌, ◌<◌}
 use native.Mathlib.Nat.{not-suc-le-zero}
 use native.Mathlib.Omega.{arith}
 use lib.ListN.{length, take, drop, get_or, length-drop}
 use lib.Seq.{take-suc, get_or-drop}
+use Rattle.std.proofs.Common.{map, add-one}
+use Rattle.std.proofs.lemmas.List.{map-append}
 use Rattle.records.specs.Records.{Rec, zero_record}
-use Rattle.stored.specs.Stored.{size_at, pairs_of, words_at, skip_to, polys_at}
+use Rattle.stored.specs.Stored.{term_of, size_at, poly_at, skip_to, polys_at}
 
 -- ── loading ──
-pairs_of_append : (r s : List Rec) → pairs_of (r ++ s) ≡ pairs_of r ++ pairs_of s
-unfolding pairs_of
-pairs_of_append [] s = refl
-pairs_of_append (x ∷ r) s = ap (λ (l : List ℕ). x.w0 ∷ (x.w1 * 4294967296 + x.w2) ∷ l) (pairs_of_append r s)
-
--- The words of one record more.
-pub pairs_of_take : (v : List Rec) (k i : ℕ) → k + i < length v
-    → pairs_of (take (i + 1) (drop k v))
-    ≡ pairs_of (take i (drop k v)) ++ ((get_or v (k + i) zero_record).w0 ∷ ((get_or v (k + i) zero_record).w1 * 4294967296 + (get_or v (k + i) zero_record).w2) ∷ [])
-unfolding pairs_of
-pairs_of_take v k i h =
+-- The term of one record more.
+pub poly_more : (v : List Rec) (k i : ℕ) → k + i < length v
+    → map term_of (take (i + 1) (drop k v)) ≡ map term_of (take i (drop k v)) ++ (term_of (get_or v (k + i) zero_record) ∷ [])
+poly_more v k i h =
     let r : List Rec = drop k v in
-    let more : suc i ≡ i + 1 = omega arith in
     let inside : i < length r = simp length-drop (omega arith) in
-    ap (λ (j : ℕ). pairs_of (take j r)) (sym more)
-    ∙ ap pairs_of (take-suc r i zero_record inside ∙ ap (λ (x : Rec). take i r ++ (x ∷ [])) (get_or-drop k v i zero_record))
-    ∙ pairs_of_append (take i r) (get_or v (k + i) zero_record ∷ [])
+    rw add-one
+    (ap (map term_of) (take-suc r i zero_record inside ∙ ap (λ (x : Rec). take i r ++ (x ∷ [])) (get_or-drop k v i zero_record))
+    ∙ map-append term_of (take i r) (get_or v (k + i) zero_record ∷ []))
 
 -- ── walking ──
+-- One polynomial more, at a walk's end.
+skip_suc : (v : List Rec) (i k : ℕ) → skip_to v i (suc k) ≡ skip_to v i k + 1 + size_at v (skip_to v i k)
+skip_suc v i zero = refl
+skip_suc v i (suc k) = skip_suc v (i + 1 + size_at v i) k
+
+pub skip_more : (v : List Rec) (i k : ℕ) → skip_to v i (k + 1) ≡ skip_to v i k + 1 + size_at v (skip_to v i k)
+skip_more v i k = rw add-one (skip_suc v i k)
+
+polys_suc : (v : List Rec) (i k : ℕ) → polys_at v i (suc k) ≡ polys_at v i k ++ (poly_at v (skip_to v i k) ∷ [])
+polys_suc v i zero = refl
+polys_suc v i (suc k) = ap (λ l. poly_at v i ∷ l) (polys_suc v (i + 1 + size_at v i) k)
+
+pub polys_more : (v : List Rec) (i k : ℕ) → polys_at v i (k + 1) ≡ polys_at v i k ++ (poly_at v (skip_to v i k) ∷ [])
+polys_more v i k = rw add-one (polys_suc v i k)
+
+-- A walk ends where a longer one does, or before.
+skip_mono_to : (v : List Rec) (i k d : ℕ) → skip_to v i k ≤ skip_to v i (k + d)
+skip_mono_to v i k zero = let e : skip_to v i (k + 0) ≡ skip_to v i k = ap (skip_to v i) {x = k + 0} {y = k} (omega arith) in omega arith
+skip_mono_to v i k (suc d) =
+    let e : skip_to v i (k + suc d) ≡ skip_to v i (k + d + 1) = ap (skip_to v i) {x = k + suc d} {y = k + d + 1} (omega arith) in
+    omega (arith, skip_mono_to v i k d, skip_more v i (k + d))
+
+pub skip_mono : (v : List Rec) (i j k : ℕ) → j ≤ k → skip_to v i j ≤ skip_to v i k
+skip_mono v i j k h = omega (arith, skip_mono_to v i j (k - j), ap (skip_to v i) {x = j + (k - j)} {y = k} (omega arith))
+
+-- A walk that has come to e, past j polynomials: one more, and where a longer walk ends.
+pub walk_more : (v : List Rec) (i j e : ℕ) → e ≡ skip_to v i j → skip_to v i (j + 1) ≡ e + 1 + size_at v e
+walk_more v i j e at = skip_more v i j ∙ ap (λ (x : ℕ). x + 1 + size_at v x) (sym at)
+
+pub walk_in : (v : List Rec) (i j k e : ℕ) → e ≡ skip_to v i j → j < k → e + 1 + size_at v e ≤ skip_to v i k
+walk_in v i j k e at h = omega (arith, walk_more v i j e at, skip_mono v i (j + 1) k (omega arith))
+
 pub skip_turn : (v : List Rec) (i left : ℕ) → 0 < left → skip_to v i left ≡ skip_to v (i + 1 + size_at v i) (left - 1)
 skip_turn v i zero h = absurd (not-suc-le-zero h)
 skip_turn v i (suc k) h = ap (skip_to v (i + 1 + size_at v i)) {x = k} {y = suc k - 1} (omega arith)
 
-pub polys_turn : (v : List Rec) (i left : ℕ) → 0 < left → polys_at v i left ≡ words_at v i ∷ polys_at v (i + 1 + size_at v i) (left - 1)
+pub polys_turn : (v : List Rec) (i left : ℕ) → 0 < left → polys_at v i left ≡ poly_at v i ∷ polys_at v (i + 1 + size_at v i) (left - 1)
 polys_turn v i zero h = absurd (not-suc-le-zero h)
-polys_turn v i (suc k) h = ap (λ (j : ℕ). words_at v i ∷ polys_at v (i + 1 + size_at v i) j) {x = k} {y = suc k - 1} (omega arith)
+polys_turn v i (suc k) h = ap (λ (j : ℕ). poly_at v i ∷ polys_at v (i + 1 + size_at v i) j) {x = k} {y = suc k - 1} (omega arith)
 
 pub skip_le : (v : List Rec) (i k : ℕ) → i ≤ skip_to v i k
 skip_le v i zero = omega arith

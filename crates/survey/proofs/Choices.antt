@@ -14,6 +14,7 @@ use Rattle.survey.specs.declared.Choice.{Choice}
 use Rattle.survey.specs.declared.Choice.TheVariants.{Drop, List as Lists, Pivot}
 use Rattle.search.specs.Search.{pivot_place}
 use Rattle.survey.specs.Survey.{choice, choice_of_p}
+use Rattle.polynomials.specs.declared.Term.{Term as Packed}
 
 abbrev by : Bool → List Poly → Choice
 by t fs = elim t [ true ↦ Drop | false ↦ choice_of_p fs ]
@@ -38,7 +39,7 @@ pub choice_pivot : (fs : List Poly) (k place : ℕ) → 0 < length fs → k ≡ 
 choice_pivot [] k place h e q = absurd (omega arith)
 choice_pivot (f ∷ fs) k place h e q = sym (ap₂ Pivot e (q ∙ ap (λ (j : ℕ). (pivot j f fs).place) e))
 
-pub leaders_at_most_8 : (ss : List (List ℕ)) → highest_leader (map terms ss) ≤ 8
+pub leaders_at_most_8 : (ss : List (List Packed)) → highest_leader (map terms ss) ≤ 8
 unfolding highest_leader
 leaders_at_most_8 [] = omega arith
 leaders_at_most_8 (s ∷ ss) = omega (arith, leader_places 8 (terms s) (places_terms s), leaders_at_most_8 ss)

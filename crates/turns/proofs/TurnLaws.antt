@@ -8,9 +8,9 @@ use borrow.Author.Tests.{ne_eqb}
 use lib.Dec.{eqb}
 use lib.ListN.{length, take, drop, get_or, set, length-append, take-append-drop}
 use lib.Seq.{set_at, take_at, drop_at, take-append-le, take-append-add, length-take-le}
-use Rattle.records.specs.Records.{Rec, record_of, zero_record, moved}
+use Rattle.records.specs.Records.{Rec, record_of, zero_record, room, view, moved}
 use Rattle.stored.specs.Stored.{polys_records}
-use Rattle.branches.specs.Area.{Stored, Held, stack, branch_records, systems_records, with_open, empty}
+use Rattle.branches.specs.Area.{Stored, Held, Opened, capacity, stack, branch_records, systems_records, with_open, empty}
 use Rattle.branches.proofs.AreaLaws.{at_of, own_of, end_of, end_is}
 use Rattle.branches.proofs.ControlLaws.{Read, start_is, ends, free_is, bounds_inside}
 
@@ -107,6 +107,15 @@ module _ {v : List Rec} {most : ℕ} {b : Stored} {bs ss : List Stored} (H : Hel
       let h = bounds_inside H R tw in
       moved_up _ _ _ at (end - at) (top - (end - at)) p q t x (k + 1) (start_is H R) (omega (arith, ends H R)) (omega (arith, ends H R, free_is H R top tw))
       (ap (λ (r : Rec). r.w0) o) (ap (λ (r : Rec). r.w1) o) (ap (λ (r : Rec). r.w2) o) (ap (λ (r : Rec). r.w3) o) (ap (λ (n : ℕ). n + 1) e) e₁ e₂ e₃
+
+-- The open branch and the free records lie inside, as the control record says.
+module _ (w : List ℕ) (o : Opened w) {at end top : ℕ} (start : at ≡ (get_or (view w) 0 zero_record).w0) (last : end ≡ (get_or (view w) 0 zero_record).w1)
+    (free : top ≡ (get_or (view w) 0 zero_record).w2) where
+  pub inside : (at < end) × (end ≤ top) × (top ≤ capacity w)
+  inside = bounds_inside o.3 (record { at_word = start; end_word = last }) free
+
+  pub own_inside : at < room w
+  own_inside = omega (arith, inside)
 
 -- An empty first branch.
 pub begun : (v v₁ v₂ : List Rec) (most : ℕ) → 2 ≤ most → most ≤ length v → most ≤ 65536 → v₁ ≡ set v 0 (record_of 1 2 most 0) → v₂ ≡ set v₁ 1 (record_of 0 0 0 0)

@@ -1,14 +1,11 @@
--- Values modulo p by parts: a coordinate with its exponent taken off a monomial, a term taken off pairs of words.
-use mathlib.Core.Path.{◌≡◌, refl, sym, ◌∙◌, ap, ap₂, subst}
-use mathlib.Core.List.{List, [], ◌∷◌}
-use Prim.Native.Nat.{ℕ, zero, suc, ◌+◌, ◌*◌, ◌/◌, ◌%◌, ◌^◌, ◌≤◌, ◌<◌}
-use native.Mathlib.Nat.{zero-add, add-zero, mul-one, mul_assoc, pow-zero, add-mod-mod, mod-add-mod, mod-eq_of_lt}
-use native.Mathlib.Numerals.{add-one}
-use native.Mathlib.Omega.{arith}
-use lib.ListN.{length, drop, get_or, drop_of_length-le}
-use lib.Seq.{drop-cons}
+-- Values modulo p by parts: a coordinate with its exponent taken off a monomial, a term taken off a polynomial.
+use Rattle.std.specs.Prelude.{◌≡◌, List, [], ◌∷◌, ℕ, zero, suc, ◌+◌, ◌*◌, ◌/◌, ◌%◌, ◌^◌, ◌≤◌, ◌<◌, length, drop, get_or}
+use Rattle.std.proofs.Common.{refl, sym, ◌∙◌, ap, ap₂, subst, arith, add-one, zero-add, add-zero, mul-one, drop-cons}
+use Rattle.std.proofs.Math.Nat.{mul_assoc, pow-zero, add-mod-mod, mod-add-mod, mod-eq_of_lt}
+use Rattle.std.proofs.Math.ListN.{drop_of_length-le}
 use Rattle.residues.specs.laws.Inverse.{mul_mod_l, mul_mod_r}
 use Rattle.polynomials.specs.Packed.{bytes, terms}
+use Rattle.polynomials.specs.declared.Term.{Term as Packed}
 use Rattle.polynomials.specs.Canonical.{Canonical}
 use Rattle.polynomials.specs.Value.{monomial_valueℕ, valueℕ, value_modulo}
 use Rattle.polynomials.specs.laws.Packed.{fewer_bytes}
@@ -56,26 +53,26 @@ pub term_rest_zero : (p : ℕ) (xs : List ℕ) (i n v : ℕ) → v < p → term_
 term_rest_zero p xs i n v l = ap (λ z. v * z % p) (zero_exponents (drop i xs) n) ∙ ap (λ z. z % p) (mul-one v) ∙ mod-eq_of_lt l
 
 -- ── a polynomial ──
--- v plus what is left of a polynomial's value: the terms from word i on.
-abbrev pub value_rest : ℕ → List ℕ → List ℕ → ℕ → ℕ → ℕ
+-- v plus what is left of a polynomial's value: the terms from i on.
+abbrev pub value_rest : ℕ → List Packed → List ℕ → ℕ → ℕ → ℕ
 value_rest p f xs i v = (v + valueℕ (terms (drop i f)) xs) % p
 
-module _ (p : ℕ) (f : List ℕ) (i : ℕ) (h : i + 1 < length f) where
-  pub value_rest_next : (xs : List ℕ) (v : ℕ) → value_rest p f xs i v ≡ value_rest p f xs (i + 2) ((v + get_or f i 0 * monomial_valueℕ xs (bytes 8 (get_or f (i + 1) 0)) % p) % p)
+module _ (p : ℕ) (f : List Packed) (i : ℕ) (t : Packed) (h : i < length f) where
+  pub value_rest_next : (xs : List ℕ) (v : ℕ) → value_rest p f xs i v ≡ value_rest p f xs (i + 1) ((v + (get_or f i t).coefficient * monomial_valueℕ xs (bytes 8 (get_or f i t).monomial) % p) % p)
   unfolding valueℕ
-  value_rest_next xs v = ap (λ z. (v + valueℕ z xs) % p) (terms_at f i h) ∙ regroup (get_or f i 0 * monomial_valueℕ xs (bytes 8 (get_or f (i + 1) 0))) (valueℕ (terms (drop (i + 2) f)) xs)
+  value_rest_next xs v = ap (λ z. (v + valueℕ z xs) % p) (terms_at f i t h) ∙ regroup ((get_or f i t).coefficient * monomial_valueℕ xs (bytes 8 (get_or f i t).monomial)) (valueℕ (terms (drop (i + 1) f)) xs)
     where
       regroup : (q r : ℕ) → (v + (q + r)) % p ≡ ((v + q % p) % p + r) % p
       regroup q r = ap (λ z. z % p) (omega arith) ∙ sym (mod-add-mod (v + q) p r) ∙ ap (λ z. (z + r) % p) (sym (add-mod-mod v q p))
 
-  -- The coefficient at word i is a residue, and the terms behind it are canonical.
-  pub canonical_at : Canonical p (terms (drop i f)) → (get_or f i 0 < p) × Canonical p (terms (drop (i + 2) f))
-  canonical_at k = let l = subst (Canonical p) (terms_at f i h) k in (l.1, l.3)
+  -- The coefficient at i is a residue, and the terms behind it are canonical.
+  pub canonical_at : Canonical p (terms (drop i f)) → ((get_or f i t).coefficient < p) × Canonical p (terms (drop (i + 1) f))
+  canonical_at k = let l = subst (Canonical p) (terms_at f i t h) k in (l.1, l.3)
 
-pub value_rest_end : (p : ℕ) (f xs : List ℕ) (i v : ℕ) → v < p → length f ≤ i → value_rest p f xs i v ≡ v
+pub value_rest_end : (p : ℕ) (f : List Packed) (xs : List ℕ) (i v : ℕ) → v < p → length f ≤ i → value_rest p f xs i v ≡ v
 unfolding valueℕ terms
-value_rest_end p f xs i v l h = ap (λ (z : List ℕ). (v + valueℕ (terms z) xs) % p) (drop_of_length-le f h) ∙ ap (λ z. z % p) (add-zero v) ∙ mod-eq_of_lt l
+value_rest_end p f xs i v l h = ap (λ (z : List Packed). (v + valueℕ (terms z) xs) % p) (drop_of_length-le f h) ∙ ap (λ z. z % p) (add-zero v) ∙ mod-eq_of_lt l
 
-pub value_rest_start : (p : ℕ) (f xs : List ℕ) → value_rest p f xs 0 0 ≡ value_modulo p (terms f) xs
+pub value_rest_start : (p : ℕ) (f : List Packed) (xs : List ℕ) → value_rest p f xs 0 0 ≡ value_modulo p (terms f) xs
 unfolding value_modulo
 value_rest_start p f xs = ap (λ z. z % p) (zero-add (valueℕ (terms f) xs))

@@ -19,6 +19,7 @@ use Rattle.representation.specs.laws.Sizes.{length_polys_records_terms}
 use Rattle.writing.specs.Listed.{StoredAt}
 use Rattle.chains.proofs.Over.{over, paste_over, over_behind, record_behind}
 use Rattle.chains.proofs.Laws.{index_is}
+use Rattle.polynomials.specs.declared.Term.{Term as Packed}
 
 -- The records that a system takes.
 abbrev pub size_of : Stored → ℕ
@@ -28,7 +29,7 @@ pub size_is : (s : Stored) → size_of s ≡ 1 + (polynomials_size (map terms s.
 unfolding systems_size
 size_is s = omega arith
 
-no_records : (ss : List (List ℕ)) → ss ≡ [] → polys_records ss ≡ []
+no_records : (ss : List (List Packed)) → ss ≡ [] → polys_records ss ≡ []
 unfolding polys_records
 no_records ss e = ap polys_records e
 

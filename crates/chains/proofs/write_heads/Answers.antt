@@ -1,6 +1,5 @@
 -- A turn writes one head and its terms before the rest. No answer names a test, so that an edit of one is refused for what it means.
-use Rattle.std.proofs.Common.{rules, ◌≡◌, ◌∙◌, ◌+◌, ◌*◌, ◌-◌, refl, sym, ap, ℕ, suc, length, arith}
-use mathlib.Core.List.{map}
+use Rattle.std.proofs.Common.{rules, ◌≡◌, ◌∙◌, ◌+◌, ◌*◌, ◌-◌, sym, ap, ℕ, suc, map, length, arith}
 use Rattle.polynomials.specs.Packed.{terms}
 use Rattle.rules.specs.Written.{heads_words}
 use Rattle.rules.proofs.laws.Lengths.{length_heads}
@@ -12,29 +11,38 @@ use Rattle.chains.proofs.Over.{paste_over}
 use Rattle.chains.proofs.Laws.{heads_end, heads_turn, skip_to_turn, size_polys_at, turn_inside}
 use Rattle.chains.proofs.write_heads.Goals as goal
 
+pub write_terms-requires-clause-from_bound : goal.write_terms-requires-clause-from_bound
+write_terms-requires-clause-from_bound c =
+    let turn = c.loop-j in
+    let inside = turn_inside (view c.args.w.now) turn.i (c.args.k - turn.j) _ (omega arith) turn.invariant.2 in (omega arith, omega arith)
+
 pub write_terms-requires-clause-from_in_bounds : goal.write_terms-requires-clause-from_in_bounds
 write_terms-requires-clause-from_in_bounds c =
     let a = c.args in
     let v = view a.w.now in
-    let turn = c.loop-left in
-    let inside = turn_inside v turn.i turn.left _ c.loop-left-test.true turn.invariant.2 in
+    let turn = c.loop-j in
+    let left = a.k - turn.j in
+    let inside = turn_inside v turn.i left _ (omega arith) turn.invariant.2 in
     let behind = skip_le v a.from a.k in (omega arith, omega arith)
 
-pub loop-left-preserved : goal.loop-left-preserved
-loop-left-preserved c =
+pub loop-j-preserved : goal.loop-j-preserved
+loop-j-preserved c =
     let a = c.args in
     let v = view a.w.now in
-    let turn = c.loop-left in
+    let turn = c.loop-j in
+    let left = a.k - turn.j in
+    let behind = a.k - (turn.j + 1) in
     let n = c.get0-n.result in
-    let is : n ≡ size_at v turn.i = c.get0-n.ensures in
-    let less : turn.left ≡ suc (turn.left - 1) = omega arith in
-    let inside = turn_inside v turn.i turn.left _ c.loop-left-test.true turn.invariant.2 in
-    let behind = skip_le v a.from a.k in (
+    let less : left ≡ suc behind = omega arith in
+    let to : turn.i + (1 + n) ≡ turn.i + 1 + size_at v turn.i = omega (arith, c.get0-n.ensures) in
+    let inside = turn_inside v turn.i left _ (omega arith) turn.invariant.2 in
+    let ahead = skip_le v a.from a.k in (
       omega arith,
       omega arith,
-      ap (λ (k : ℕ). skip_to v (turn.i + 1 + k) (turn.left - 1)) is ∙ sym (skip_to_turn v turn.i turn.left (turn.left - 1) less) ∙ turn.invariant.2,
-      heads_turn v turn.out c.write.new.w c.write_terms.new.out turn.at (turn.at + 1 + n) turn.i turn.left (turn.left - 1) n _ _
-          c.write.ensures.1 c.write_terms.ensures (omega arith) is refl less (omega (arith, length_view a.w.now)) (omega arith)
+      ap (λ (i : ℕ). skip_to v i behind) to ∙ sym (skip_to_turn v turn.i left behind less) ∙ turn.invariant.2,
+      heads_turn v turn.out c.write.new.w c.write_terms.new.out turn.at (turn.at + (1 + n)) turn.i (turn.i + (1 + n)) left behind n _ _
+          c.write.ensures.1 c.write_terms.ensures (omega arith) c.get0-n.ensures (omega arith) (omega arith) less
+          (omega (arith, length_view a.w.now)) (omega arith)
           (λ h. search rules) (λ h. search rules) (λ h. search rules) (λ h. search rules)
           ∙ turn.invariant.3,
     )
@@ -47,6 +55,6 @@ returns c =
     let n = skip_to v a.from a.k - a.from in
     let l : length (heads_words a.to fs) ≡ 4 * n =
     omega (arith, length_heads a.to fs, size_polys_at v a.from a.k (omega (arith, length_view a.w.now))) in
-    let end = c.loop-left in
-    sym (heads_end v end.out end.at end.i end.left (omega arith)) ∙ end.invariant.3
+    let end = c.loop-j in
+    sym (heads_end v end.out end.at end.i (a.k - end.j) (omega arith)) ∙ end.invariant.3
     ∙ sym (paste_over a.out.now (4 * a.to) (heads_words a.to fs) (4 * n) l)

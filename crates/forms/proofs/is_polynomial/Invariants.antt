@@ -1,11 +1,11 @@
--- The test of the terms from word i on is the test of all.
-use Rattle.std.proofs.Common.{◌≡◌, ◌%◌, ◌-◌, length, drop}
+-- The test of the terms that are left is the test of all.
+use Rattle.std.proofs.Common.{◌≡◌, length}
 use Rattle.polynomials.specs.Packed.{terms}
 use Rattle.polynomials.specs.Working.{is_canonical, is_held}
 use Rattle.forms.proofs.is_polynomial.Given as goal
 
-abbrev pub invariant-loop-i : goal.invariant-loop-i
-invariant-loop-i l = (l.i % 2 ≡ 0) × (length l.f % 2 ≡ 0) × (is_canonical l.p (terms (drop l.i l.f)) ≡ is_held l.p l.f)
+abbrev pub invariant-loop-rest : goal.invariant-loop-rest
+invariant-loop-rest l = is_canonical l.p (terms l.rest) ≡ is_held l.p l.f
 
-abbrev pub decreases-loop-i : goal.decreases-loop-i
-decreases-loop-i l = length l.f - l.i
+abbrev pub decreases-loop-rest : goal.decreases-loop-rest
+decreases-loop-rest l = length l.rest

@@ -19,7 +19,7 @@ loop-i-preserved c =
     let i = c.loop-i.i in
     let e : bytes 8 c.packed.result ≡ exponents (word w i 1) (word w i 2) =
     c.packed.ensures.1 ∙ ap₂ exponents c.word-in-loop-i.ensures c.word-in-loop-i-2.ensures in
-    rw c.word-i-in-loop-i.ensures (load_next c.loop-i.invariant c.loop-i-test.true c.word.result c.packed.result c.word.ensures e)
+    rw c.word-i-in-loop-i.ensures (load_next c.loop-i.invariant c.loop-i-test.true _ (c.from.ensures ∙ c.word.ensures) e)
 
 pub returns : goal.returns
 returns c = load_end c.loop-i.invariant c.requires.inside c.loop-i-test.false

@@ -1,4 +1,4 @@
--- The words written and the terms from index i on make the polynomial. The records that index i can still reach become fewer.
+-- The terms written and the terms from index i on make the polynomial. The records that index i can still reach become fewer.
 use Rattle.tables.specs.Words.{records}
 use Rattle.tables.specs.laws.Linked.{left}
 use Rattle.loading.proofs.LoadLaws.{LoadLeft}

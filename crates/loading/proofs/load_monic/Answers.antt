@@ -1,4 +1,4 @@
--- The words loaded are made monic in place.
+-- The terms loaded are made monic in place.
 use Rattle.std.proofs.Common.{sym}
 use lib.Seq.{length-take-le}
 use Rattle.loading.proofs.MonicLaws.{readable_modulus, loaded_monic}
@@ -13,8 +13,8 @@ slice_bounds-monic-end-2 c = sym (length-take-le c.load_head-m.result c.load_hea
 pub monic-requires-clause-prime : goal.monic-requires-clause-prime
 monic-requires-clause-prime c = let m = readable_modulus c.args.table.readable in (m.prime, m.below)
 
-pub monic-requires-clause-pairs : goal.monic-requires-clause-pairs
-monic-requires-clause-pairs c = let h = (c.load_head-m.ensures c.requires.is_read.0 c.requires.is_read.1).1 in (h.pairs, h.canonical)
+pub monic-requires-clause-canonical : goal.monic-requires-clause-canonical
+monic-requires-clause-canonical c = let h = (c.load_head-m.ensures c.requires.is_read.0 c.requires.is_read.1).1 in h.canonical
 
 pub returns : goal.returns
 returns c f e =
@@ -22,4 +22,4 @@ returns c f e =
     let m = c.load_head-m in
     let x = m.ensures f e in
     loaded_monic t.words.now t.modulus t.variables c.args.head f t.readable c.requires.inside e m.result m.new.out c.monic.new.f x.0 x.1
-    c.monic.auto.f c.monic.ensures (λ i. (c.type_inv.out i).fits)
+    c.monic.auto.f c.monic.ensures.is c.monic.ensures.in_words

@@ -6,6 +6,7 @@ use Rattle.std.proofs.Math.ListN.{get_or-eq_default}
 use Rattle.polynomials.specs.Poly.{Exponents, Poly, join}
 use Rattle.polynomials.specs.Division.{degree, largest, degrees}
 use Rattle.polynomials.specs.Packed.{bytes, terms}
+use Rattle.polynomials.specs.declared.Term.{Term as Packed}
 use Rattle.polynomials.specs.Bounds.{at_most, over, some_over, degrees_over}
 use Rattle.polynomials.specs.laws.Degree.{at_join}
 use Rattle.polynomials.specs.laws.Packed.{length_bytes, byte_small}
@@ -60,24 +61,22 @@ pub degrees_over_none : (m : ℕ) (f g : Poly) → degrees_over (at_most m) f g 
 unfolding degrees_over
 degrees_over_none m f g h k = omega (arith, at_both k f g, over_none m (join (degrees f) (degrees g)) h k)
 
--- ── the degrees of a polynomial that pairs hold: eight, at most 255 ──
+-- ── the degrees of packed terms: eight, at most 255 ──
 length_largest : (a b : Exponents) → length (largest a b) ≡ max (length a) (length b)
 unfolding largest
 length_largest [] b = omega arith
 length_largest (x ∷ a) [] = omega arith
 length_largest (x ∷ a) (y ∷ b) = omega (arith, length_largest a b)
 
-length_degrees : (s : List ℕ) → length (degrees (terms s)) ≤ 8
+length_degrees : (s : List Packed) → length (degrees (terms s)) ≤ 8
 unfolding terms degrees
 length_degrees [] = omega arith
-length_degrees (c ∷ []) = omega arith
-length_degrees (c ∷ (m ∷ s)) = omega (arith, length_largest (bytes 8 m) (degrees (terms s)), length_bytes 8 m, length_degrees s)
+length_degrees (t ∷ s) = omega (arith, length_largest (bytes 8 t.monomial) (degrees (terms s)), length_bytes 8 t.monomial, length_degrees s)
 
-pub degree_past : (k : ℕ) (s : List ℕ) → 8 ≤ k → degree k (terms s) ≡ 0
+pub degree_past : (k : ℕ) (s : List Packed) → 8 ≤ k → degree k (terms s) ≡ 0
 degree_past k s h = sym (at_degrees k (terms s)) ∙ get_or-eq_default (degrees (terms s)) 0 (omega (arith, length_degrees s))
 
-pub degree_small : (k : ℕ) (s : List ℕ) → degree k (terms s) ≤ 255
+pub degree_small : (k : ℕ) (s : List Packed) → degree k (terms s) ≤ 255
 unfolding terms degree
 degree_small k [] = omega arith
-degree_small k (c ∷ []) = omega arith
-degree_small k (c ∷ (m ∷ s)) = omega (arith, byte_small 8 m k, degree_small k s)
+degree_small k (t ∷ s) = omega (arith, byte_small 8 t.monomial k, degree_small k s)

@@ -1,12 +1,13 @@
--- The test of equality is right: polynomials that pass it are the same list of terms; and words that hold the same polynomial are the same words.
-use Rattle.std.specs.Prelude.{◌≡◌, refl, List, [], ◌∷◌, Bool, true, false, ◌&&◌, eqb, get_or}
-use Rattle.std.proofs.Common.{ap, ap₂, arith, eqb-true, eq-eqb}
+-- The test of equality is right: polynomials that pass it are the same list of terms; and packed terms that are the same polynomial are the same.
+use Rattle.std.specs.Prelude.{◌≡◌, refl, List, [], ◌∷◌, Bool, true, false, ◌&&◌, eqb}
+use Rattle.std.proofs.Common.{ap, ap₂, eqb-true, eq-eqb}
 use Rattle.std.proofs.Math.Bool.{and-eq-true_iff}
-use Prim.Native.Nat.{ℕ, suc, ◌^◌, ◌<◌, Ordering}
+use Prim.Native.Nat.{◌^◌, ◌<◌, Ordering}
+use Rattle.residues.specs.Each.{Each}
 use Rattle.std.proofs.Math.Dec.{compare_is_eq}
 use Rattle.polynomials.specs.Poly.{Term, Poly, order, equal}
 use Rattle.polynomials.specs.Packed.{term, terms}
-use Rattle.polynomials.specs.Working.{Pairs}
+use Rattle.polynomials.specs.declared.Term.{Term as Packed}
 use Rattle.polynomials.specs.laws.Order.{order_eq, order_refl}
 use Rattle.polynomials.specs.laws.Packed.{bytes_inj}
 
@@ -39,17 +40,19 @@ unequal f g n = go (equal f g) refl
     go true h = absurd (n (equal_eq f g h))
     go false h = refl
 
--- Words of 64 bits are known by the polynomial that they hold.
-pub terms_inj : (s t : List ℕ) → ((i : ℕ) → get_or s i 0 < 2 ^ 64) → ((i : ℕ) → get_or t i 0 < 2 ^ 64) → Pairs s → Pairs t → terms s ≡ terms t → s ≡ t
+-- A packed term is known by the term that it is, and packed terms by their polynomial.
+pub term_inj : (t u : Packed) → t.monomial < 2 ^ 64 → u.monomial < 2 ^ 64 → term t ≡ term u → t ≡ u
+term_inj t u h k e =
+    let c : t.coefficient ≡ u.coefficient = ap (λ (x : Term). x.coef) e in
+    let m : t.monomial ≡ u.monomial = bytes_inj 8 t.monomial u.monomial h k (ap (λ (x : Term). x.exps) e) in
+    λ i. record { coefficient = c i; monomial = m i }
+
+pub terms_inj : (s t : List Packed) → Each (λ u. u.monomial < 2 ^ 64) s → Each (λ u. u.monomial < 2 ^ 64) t → terms s ≡ terms t → s ≡ t
 unfolding terms
-terms_inj [] [] fs ft hs ht e = refl
-terms_inj [] (d ∷ []) fs ft hs ht e = absurd (omega arith)
-terms_inj [] (d ∷ (n ∷ t)) fs ft hs ht e = cc
-terms_inj (c ∷ []) t fs ft hs ht e = absurd (omega arith)
-terms_inj (c ∷ (m ∷ s)) [] fs ft hs ht e = cc
-terms_inj (c ∷ (m ∷ s)) (d ∷ []) fs ft hs ht e = absurd (omega arith)
-terms_inj (c ∷ (m ∷ s)) (d ∷ (n ∷ t)) fs ft hs ht e =
-    let first : term c m ≡ term d n = cc in
+terms_inj [] [] fs ft e = refl
+terms_inj [] (u ∷ t) fs ft e = cc
+terms_inj (u ∷ s) [] fs ft e = cc
+terms_inj (u ∷ s) (v ∷ t) fs ft e =
+    let first : term u ≡ term v = cc in
     let behind : terms s ≡ terms t = cc in
-    ap₂ ◌∷◌ (ap (λ (u : Term). u.coef) first)
-    (ap₂ ◌∷◌ (bytes_inj 8 m n (fs 1) (ft 1) (ap (λ (u : Term). u.exps) first)) (terms_inj s t (λ i. fs (suc (suc i))) (λ i. ft (suc (suc i))) (omega arith) (omega arith) behind))
+    ap₂ ◌∷◌ (term_inj u v fs.0 ft.0 first) (terms_inj s t fs.1 ft.1 behind)

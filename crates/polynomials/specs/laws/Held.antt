@@ -1,11 +1,12 @@
--- The test `is_held` is true exactly where the words hold a canonical polynomial of at most 256 terms.
-use Rattle.std.specs.Prelude.{◌≡◌, refl, List, [], ◌∷◌, Bool, true, false, ◌&&◌, eqb, leb, ltb, length}
-use Rattle.std.proofs.Common.{ap, ap₂, ltb-true, leb-true, eqb-true, lt-ltb, le-leb, eq-eqb}
+-- The test `is_held` is true exactly where packed terms are a canonical polynomial of at most 256 terms.
+use Rattle.std.specs.Prelude.{◌≡◌, refl, List, [], ◌∷◌, Bool, true, false, ◌&&◌, leb, ltb, length}
+use Rattle.std.proofs.Common.{ap, ap₂, ltb-true, leb-true, lt-ltb, le-leb}
 use Rattle.std.proofs.Math.Bool.{and-eq-true_iff}
-use Prim.Native.Nat.{ℕ, ◌%◌, Ordering}
+use Prim.Native.Nat.{ℕ, Ordering}
 use Rattle.polynomials.specs.Poly.{Exponents, Poly, order}
 use Rattle.polynomials.specs.Canonical.{Under, Canonical}
 use Rattle.polynomials.specs.Packed.{terms}
+use Rattle.polynomials.specs.declared.Term.{Term as Packed}
 use Rattle.polynomials.specs.Working.{Holds, falls, is_canonical, is_held}
 use Rattle.polynomials.specs.laws.Canonical.{under_first}
 
@@ -41,14 +42,12 @@ test_of_canonical p (t ∷ f) n =
     ap₂ ◌&&◌ (le-leb 1 t.coef n.0)
     (ap₂ ◌&&◌ (lt-ltb t.coef p n.1) (ap₂ ◌&&◌ (falls_of_under t.exps f n.2) (test_of_canonical p f n.3)))
 
-pub holds_of_test : (p : ℕ) (s : List ℕ) → is_held p s ≡ true → Holds p s
+pub holds_of_test : (p : ℕ) (s : List Packed) → is_held p s ≡ true → Holds p s
 unfolding is_held
 holds_of_test p s h =
-    let h₁ = (and-eq-true_iff (eqb (length s % 2) 0) (leb (length s) 512 && is_canonical p (terms s))).0 h in
-    let h₂ = (and-eq-true_iff (leb (length s) 512) (is_canonical p (terms s))).0 h₁.1 in
-    record { pairs = eqb-true (length s % 2) 0 h₁.0; few = leb-true (length s) 512 h₂.0; canonical = canonical_of_test p (terms s) h₂.1 }
+    let h₁ = (and-eq-true_iff (leb (length s) 256) (is_canonical p (terms s))).0 h in
+    record { few = leb-true (length s) 256 h₁.0; canonical = canonical_of_test p (terms s) h₁.1 }
 
-pub test_of_holds : (p : ℕ) (s : List ℕ) → Holds p s → is_held p s ≡ true
+pub test_of_holds : (p : ℕ) (s : List Packed) → Holds p s → is_held p s ≡ true
 unfolding is_held
-test_of_holds p s h =
-    ap₂ ◌&&◌ (eq-eqb (length s % 2) 0 h.pairs) (ap₂ ◌&&◌ (le-leb (length s) 512 h.few) (test_of_canonical p (terms s) h.canonical))
+test_of_holds p s h = ap₂ ◌&&◌ (le-leb (length s) 256 h.few) (test_of_canonical p (terms s) h.canonical)

@@ -9,6 +9,7 @@ use Rattle.polynomials.specs.Poly.{Exponents, Poly, join, add_multiple, differen
 use Rattle.polynomials.specs.Canonical.{All}
 use Rattle.polynomials.specs.Division.{degree, coefficient, without, initial, rest, pure_power, shift, factor, round, remainder}
 use Rattle.polynomials.specs.Packed.{terms}
+use Rattle.polynomials.specs.declared.Term.{Term as Packed}
 use Rattle.polynomials.specs.laws.Packed.{length_bytes}
 use Rattle.polynomials.specs.laws.All.{coefficient_all, without_all, shift_all, all_add_multiple, all_product}
 
@@ -26,12 +27,11 @@ unfolding pure_power
 length_pure_power zero m = refl
 length_pure_power (suc k) m = ap suc (length_pure_power k m)
 
--- A term of a pair has eight.
-pub places_terms : (s : List ℕ) → Places 8 (terms s)
+-- A packed term has eight.
+pub places_terms : (s : List Packed) → Places 8 (terms s)
 unfolding terms
 places_terms [] = tt
-places_terms (c ∷ []) = tt
-places_terms (c ∷ (m ∷ s)) = (length_bytes 8 m, places_terms s)
+places_terms (t ∷ s) = (length_bytes 8 t.monomial, places_terms s)
 
 module _ (n : ℕ) where
   pub places_coefficient : (k d : ℕ) (f : Poly) → Places n f → Places n (coefficient k d f)

@@ -2,7 +2,7 @@
 use Rattle.std.specs.Prelude.{◌≡◌, List, [], ◌∷◌, Bool, true, false, eqb, length, drop, get_or}
 use Rattle.std.proofs.Common.{sym, ◌∙◌, subst}
 use Rattle.std.proofs.Math.Path.{ap}
-use Prim.Native.Nat.{ℕ, zero, suc, ◌+◌, ◌*◌, ◌/◌, ◌%◌, ◌≤◌, ◌<◌, Ordering}
+use Prim.Native.Nat.{ℕ, zero, suc, ◌+◌, ◌*◌, ◌%◌, ◌≤◌, ◌<◌, Ordering}
 use Rattle.std.proofs.Math.Nat.{le-max_left, le-max_right}
 use native.Mathlib.Omega.{arith}
 use Rattle.polynomials.specs.Poly.{Exponents, Term, Poly, order, join, keep, insert, add_multiple, product}
@@ -10,6 +10,7 @@ use Rattle.polynomials.specs.Canonical.{Canonical}
 use Rattle.polynomials.specs.Division.{degree, degrees}
 use Rattle.polynomials.specs.Bounds.{at_most, some_over, degrees_over}
 use Rattle.polynomials.specs.Packed.{bytes, terms, AllFit}
+use Rattle.polynomials.specs.declared.Term.{Term as Packed}
 use Rattle.polynomials.specs.laws.Order.{join_comm}
 use Rattle.polynomials.specs.laws.Canonical.{canonical_product, canonical_ext}
 use Rattle.polynomials.specs.laws.PolynomialRing.{w_product_comm}
@@ -80,35 +81,37 @@ canonical_drop p zero f c = c
 canonical_drop p (suc r) [] c = tt
 canonical_drop p (suc r) (t ∷ f) c = canonical_drop p r f c.3
 
-all_fit : (m : ℕ) (g : List ℕ) → ((k : ℕ) → get_or (bytes 8 m) k 0 + degree k (terms g) ≤ 255) → AllFit m g
+all_fit : (m : ℕ) (g : List Packed) → ((k : ℕ) → get_or (bytes 8 m) k 0 + degree k (terms g) ≤ 255) → AllFit m g
 unfolding terms degree
 all_fit m [] h = tt
-all_fit m (c ∷ []) h = tt
-all_fit m (c ∷ (e ∷ g)) h = (
-  fits 8 m e (λ k l. omega (arith, h k, le-max_left (get_or (bytes 8 e) k 0) (degree k (terms g)))),
-  all_fit m g (λ k. omega (arith, h k, le-max_right (get_or (bytes 8 e) k 0) (degree k (terms g)))),
+all_fit m (t ∷ g) h = (
+  fits 8 m t.monomial (λ k l. omega (arith, h k, le-max_left (get_or (bytes 8 t.monomial) k 0) (degree k (terms g)))),
+  all_fit m g (λ k. omega (arith, h k, le-max_right (get_or (bytes 8 t.monomial) k 0) (degree k (terms g)))),
 )
 
--- ── the term of f at word i, and g ──
-module _ (f : List ℕ) (i : ℕ) (even : i % 2 ≡ 0) (inside : i + 1 < length f) where
+-- ── the term t of f at place i, and g ──
+module _ (f : List Packed) (i : ℕ) (t : Packed) (inside : i < length f) where
+  abbrev at : Packed
+  at = get_or f i t
+
   -- Its row of the product.
-  pub row_added : (p : ℕ) (g : Poly) → product p (terms (drop i f)) g ≡ add_multiple p (get_or f i 0) (bytes 8 (get_or f (i + 1) 0)) g (product p (terms (drop (i + 2) f)) g)
+  pub row_added : (p : ℕ) (g : Poly) → product p (terms (drop i f)) g ≡ add_multiple p at.coefficient (bytes 8 at.monomial) g (product p (terms (drop (i + 1) f)) g)
   unfolding product
-  row_added p g = ap (λ s. product p s g) (terms_at f i inside)
+  row_added p g = ap (λ s. product p s g) (terms_at f i t inside)
 
-  pub coefficient_below : (p : ℕ) → Canonical p (terms f) → get_or f i 0 < p
-  coefficient_below p c = (subst (Canonical p) (sym (terms_drop i f even) ∙ terms_at f i inside) (canonical_drop p (i / 2) (terms f) c)).1
+  pub coefficient_below : (p : ℕ) → Canonical p (terms f) → at.coefficient < p
+  coefficient_below p c = (subst (Canonical p) (sym (terms_drop i f) ∙ terms_at f i t inside) (canonical_drop p i (terms f) c)).1
 
-  exponent_within : (k : ℕ) → get_or (bytes 8 (get_or f (i + 1) 0)) k 0 ≤ degree k (terms f)
+  exponent_within : (k : ℕ) → get_or (bytes 8 at.monomial) k 0 ≤ degree k (terms f)
   unfolding degree
   exponent_within k =
       omega (
         arith,
-        le-max_left (get_or (bytes 8 (get_or f (i + 1) 0)) k 0) (degree k (terms (drop (i + 2) f))),
-        ap (degree k) (sym (terms_drop i f even) ∙ terms_at f i inside),
-        degree_drop k (i / 2) (terms f),
+        le-max_left (get_or (bytes 8 at.monomial) k 0) (degree k (terms (drop (i + 1) f))),
+        ap (degree k) (sym (terms_drop i f) ∙ terms_at f i t inside),
+        degree_drop k i (terms f),
       )
 
   -- Where no degrees pass 255, no exponent of a term product does.
-  pub row_fits : (g : List ℕ) → degrees_over (at_most 255) (terms f) (terms g) ≡ false → AllFit (get_or f (i + 1) 0) g
-  row_fits g h = all_fit (get_or f (i + 1) 0) g (λ k. omega (arith, exponent_within k, degrees_over_none 255 (terms f) (terms g) h k))
+  pub row_fits : (g : List Packed) → degrees_over (at_most 255) (terms f) (terms g) ≡ false → AllFit at.monomial g
+  row_fits g h = all_fit at.monomial g (λ k. omega (arith, exponent_within k, degrees_over_none 255 (terms f) (terms g) h k))

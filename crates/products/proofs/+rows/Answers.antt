@@ -1,8 +1,15 @@
--- A single row is the product, else the rows are gathered: in the lent buffers, in longer ones, in the longest; the last two ask for the same.
-use Rattle.std.proofs.Common.{◌∙◌, length, arith}
+-- A single row is the product, else the rows are gathered: in the lent buffers, in longer ones, in the longest.
+use Rattle.std.proofs.Common.{◌∙◌, refl, arith}
+use Rattle.polynomials.specs.Packed.{terms}
+use Rattle.polynomials.specs.declared.Term.{Term as Packed}
 use Rattle.polynomials.specs.laws.Product.{degrees_over_comm}
-use Rattle.products.proofs.ProductLaws.{exchanged, lent_exchanged, single_asks}
+use Rattle.gathering.proofs.GatherLaws.{factors, row_residue, row_within}
+use Rattle.products.proofs.ProductLaws.{exchanged, lent_exchanged, single_row}
 use Rattle.products.proofs.+rows.Goals as goal
+
+-- Past the end of a slice.
+abbrev none : Packed
+none = record { coefficient = 0; monomial = 0 }
 
 pub rows-requires : goal.rows-requires
 rows-requires t c =
@@ -22,18 +29,18 @@ returns-then-g-f t c = exchanged _ c.requires.le_p.0 _ _ _ _ c.rows.ensures
 
 pub add_multiple-requires-clause-c_lt_p : goal.add_multiple-requires-clause-c_lt_p
 add_multiple-requires-clause-c_lt_p t c =
-    let a = c.args in
-    let q = c.requires in
-    (single_asks a.p a.f.now a.g.now (q.le_p, (q.holds, (q.holds_2, q.g_nonzero))) (omega arith) (length a.g.now) (omega arith)).0
+    let q = c.requires in (row_residue (factors c.args.p c.args.f.now c.args.g.now q.le_p q.holds q.holds_2) 0 none _ q.holds.1 refl, q.le_p.1)
 
-pub add_multiple-requires-clause-pairs : goal.add_multiple-requires-clause-pairs
-add_multiple-requires-clause-pairs t c =
-    let a = c.args in
-    let q = c.requires in
-    (single_asks a.p a.f.now a.g.now (q.le_p, (q.holds, (q.holds_2, q.g_nonzero))) (omega arith) (length a.g.now) (omega arith)).1.0
+pub add_multiple-requires-clause-g_canonical : goal.add_multiple-requires-clause-g_canonical
+add_multiple-requires-clause-g_canonical t c =
+    let q = c.requires in (q.holds_2.0.canonical, row_within (factors c.args.p c.args.f.now c.args.g.now q.le_p q.holds q.holds_2) 0 none _ q.holds.1 refl)
 
-pub add_multiple-requires-clause-pairs_2 : goal.add_multiple-requires-clause-pairs_2
-add_multiple-requires-clause-pairs_2 t c =
-    let a = c.args in
+pub add_multiple-requires-clause-f_canonical : goal.add_multiple-requires-clause-f_canonical
+unfolding terms
+add_multiple-requires-clause-f_canonical t c = tt
+
+pub returns-in-len1 : goal.returns-in-len1
+returns-in-len1 t c =
     let q = c.requires in
-    (single_asks a.p a.f.now a.g.now (q.le_p, (q.holds, (q.holds_2, q.g_nonzero))) (omega arith) (length a.g.now) (omega arith)).1.1.0
+    single_row (factors c.args.p c.args.f.now c.args.g.now q.le_p q.holds q.holds_2) none c.add_multiple.new.out c.add_multiple.result
+    (omega (arith, c.in-len1.len_at_least, c.in-len1.len_below)) c.add_multiple.ensures

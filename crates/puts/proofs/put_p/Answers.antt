@@ -1,5 +1,5 @@
 -- f is dropped if it is zero or found in P, and else put in behind P where there is room.
-use Rattle.std.proofs.Common.{◌≢◌, ◌∙◌, sym, ap, length, arith}
+use Rattle.std.proofs.Common.{rules, ◌≡◌, ◌≢◌, ◌∙◌, sym, ap, length}
 use Rattle.stored.specs.Stored.{member}
 use Rattle.branches.proofs.LengthLaws.{inside_room}
 use Rattle.branches.proofs.OpenLaws.{end_p_inside, all_p}
@@ -7,9 +7,9 @@ use Rattle.places.proofs.PlaceLaws.{counts_are, counts_fit}
 use Rattle.puts.proofs.PutLaws.{leaves_same, put_p_zero, put_p_found, kept_p, put_in_p}
 use Rattle.puts.proofs.put_p.Goals as goal
 
-pub returns-then-f-eq0-clause-when_open : goal.returns-then-f-eq0-clause-when_open
-returns-then-f-eq0-clause-when_open c b bs ss H =
-    leaves_same H _ (kept_p c.args.f.now b (put_p_zero c.args.f.now b.P (omega (arith, c.if-f-eq0.true, c.requires.storable.few))))
+pub returns-then-zero-clause-when_open : goal.returns-then-zero-clause-when_open
+returns-then-zero-clause-when_open c b bs ss H =
+    let none : length c.args.f.now ≡ 0 = search rules in leaves_same H _ (kept_p c.args.f.now b (put_p_zero c.args.f.now b.P none))
 
 pub contains-requires-clause-k_bound : goal.contains-requires-clause-k_bound
 contains-requires-clause-k_bound c = let o = c.requires.opened in inside_room c.args.w.now (end_p_inside o.3 (c.open_branch-b.ensures o.0 o.1 o.2 o.3))
@@ -31,7 +31,7 @@ pub put_at-requires-clause-some_open : goal.put_at-requires-clause-some_open
 put_at-requires-clause-some_open c =
     let o = c.requires.opened in
     let is = c.open_branch-b.ensures o.0 o.1 o.2 o.3 in
-    let some : length c.args.f.now ≢ 0 = omega (arith, c.if-f-eq0.false, c.requires.storable.few) in
+    let some : length c.args.f.now ≢ 0 = search rules in
     let found = c.contains.ensures ∙ ap (member c.args.f.now) (all_p o.3 is) in
     (_, _, _, put_in_p o.3 is c.args.f.now some (sym found ∙ c.if-contains.false) c.skip-to.ensures)
 
@@ -39,6 +39,6 @@ pub returns-clause-when_open : goal.returns-clause-when_open
 unfolding put_in_p
 returns-clause-when_open c b bs ss H =
     let is = c.open_branch-b.ensures b bs ss H in
-    let some : length c.args.f.now ≢ 0 = omega (arith, c.if-f-eq0.false, c.requires.storable.few) in
+    let some : length c.args.f.now ≢ 0 = search rules in
     let found = c.contains.ensures ∙ ap (member c.args.f.now) (all_p H is) in
     c.put_at.ensures.leaves _ _ _ (put_in_p H is c.args.f.now some (sym found ∙ c.if-contains.false) c.skip-to.ensures)

@@ -17,6 +17,7 @@ use Rattle.polynomials.specs.laws.Parts.{canonical_initial, initial_first}
 use Rattle.branches.specs.Words.{put_p, remove}
 use Rattle.representation.specs.Represent.{Monic, AllMonic, Sound}
 use Rattle.representation.specs.laws.Lists.{each_put_p, each_at}
+use Rattle.polynomials.specs.declared.Term.{Term as Packed}
 
 inverse_one : (p : ℕ) → inverse p 1 ≡ 1
 unfolding inverse inverse_from
@@ -59,18 +60,18 @@ module _ (p k n : ℕ) (f : Poly) (c : Canonical p f) (u : Places n f) (led : le
   initial_own = monic_own p (initial k f) (canonical_initial p k f c) initial_monic
 
 -- ── stored polynomials ──
-pub stored_initial_own : (p k : ℕ) (s : List ℕ) → Sound p s → leader (terms s) ≡ k + 1 → Monic (terms s) → monic p (initial k (terms s)) ≡ initial k (terms s)
+pub stored_initial_own : (p k : ℕ) (s : List Packed) → Sound p s → leader (terms s) ≡ k + 1 → Monic (terms s) → monic p (initial k (terms s)) ≡ initial k (terms s)
 stored_initial_own p k s h led m = initial_own p k 8 (terms s) h.holds.canonical (places_terms s) led m
 
-pub stored_monic : (p : ℕ) (s : List ℕ) (f : Poly) → Prime p → Canonical p f → terms s ≡ monic p f → Monic (terms s)
+pub stored_monic : (p : ℕ) (s : List Packed) (f : Poly) → Prime p → Canonical p f → terms s ≡ monic p f → Monic (terms s)
 stored_monic p s f prime c e = subst Monic (sym e) (monic_monic p f prime c)
 
-pub remove_monic : (i : ℕ) (fs : List (List ℕ)) → AllMonic fs → AllMonic (remove i fs)
+pub remove_monic : (i : ℕ) (fs : List (List Packed)) → AllMonic fs → AllMonic (remove i fs)
 remove_monic i fs ms = each_remove (λ f. Monic (terms f)) i fs ms
 
-pub put_p_monic : (f : List ℕ) (fs : List (List ℕ)) → Monic (terms f) → AllMonic fs → AllMonic (put_p f fs)
+pub put_p_monic : (f : List Packed) (fs : List (List Packed)) → Monic (terms f) → AllMonic fs → AllMonic (put_p f fs)
 put_p_monic f fs m ms = each_put_p (λ f. Monic (terms f)) f fs m ms
 
-pub monic_at : (i : ℕ) (fs : List (List ℕ)) → AllMonic fs → Monic (terms (get_or fs i []))
+pub monic_at : (i : ℕ) (fs : List (List Packed)) → AllMonic fs → Monic (terms (get_or fs i []))
 unfolding terms
 monic_at i fs ms = each_at (λ f. Monic (terms f)) i fs tt ms

@@ -16,8 +16,9 @@ use Rattle.branches.specs.Area.{Stored, size, with_open, put_into_q, without_q, 
 use Rattle.representation.specs.Represent.{AllListed, branch_of, system_of, chosen, with_new, Sound, AllSound}
 use Rattle.representation.specs.laws.Lists.{map_remove, map_put_q, map_put_q_before}
 use Rattle.representation.specs.laws.Sizes.{size_live}
+use Rattle.polynomials.specs.declared.Term.{Term as Packed}
 
-remove_at : (new : List (List ℕ)) (g : List ℕ) (old : List (List ℕ)) → remove (length new) (new ++ (g ∷ old)) ≡ new ++ old
+remove_at : (new : List (List Packed)) (g : List Packed) (old : List (List Packed)) → remove (length new) (new ++ (g ∷ old)) ≡ new ++ old
 unfolding remove
 remove_at [] g old = refl
 remove_at (f ∷ new) g old = ap (λ fs. f ∷ fs) (remove_at new g old)
@@ -39,15 +40,15 @@ apply_close l p b bs ss k i =
     ap (replace l p (map branch_of bs) (reverse (map system_of ss)) k (chosen b i).poly (map terms b.Q)) (sym (with_new_closed l p b i))
 
 -- g, behind the new members and before the old ones, is replaced by r.
-abbrev pub turned : Stored → List (List ℕ) → List ℕ → List (List ℕ) → Stored
+abbrev pub turned : Stored → List (List Packed) → List Packed → List (List Packed) → Stored
 turned b new r old = put_into_q (length old) r (without_q (length new) b)
 
-module _ (l : Limits) (p : ℕ) (b : Stored) (bs ss : List Stored) (new : List (List ℕ)) (g : List ℕ) (old : List (List ℕ)) (parts : b.Q ≡ new ++ (g ∷ old)) where
-  pub turned_q : (r : List ℕ) → (turned b new r old).Q ≡ put_q r new ++ old
+module _ (l : Limits) (p : ℕ) (b : Stored) (bs ss : List Stored) (new : List (List Packed)) (g : List Packed) (old : List (List Packed)) (parts : b.Q ≡ new ++ (g ∷ old)) where
+  pub turned_q : (r : List Packed) → (turned b new r old).Q ≡ put_q r new ++ old
   turned_q r =
       ap (put_q_before (length old) r) (ap (remove (length new)) parts ∙ remove_at new g old) ∙ put_q_before_in_parts (length old) r new old refl
 
-  module _ (r : List ℕ) (R : Poly) (sound_r : Sound p r) (of_r : terms r ≡ monic p R) (sound : AllSound p new) where
+  module _ (r : List Packed) (R : Poly) (sound_r : Sound p r) (of_r : terms r ≡ monic p R) (sound : AllSound p new) where
     pub with_new_turned : with_new b (put_q r new) ≡ with_q l p R (with_new b new)
     with_new_turned = λ t. record { P = map terms b.P; Q = map_put_q p r R sound_r of_r new sound t; T = map terms b.T }
 

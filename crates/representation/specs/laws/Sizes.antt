@@ -7,22 +7,23 @@ use Rattle.records.specs.Records.{Rec}
 use Rattle.polynomials.specs.Packed.{terms}
 use Rattle.polynomials.specs.Bounds.{at_most, over}
 use Rattle.polynomials.specs.laws.Terms.{length_terms}
-use Rattle.stored.specs.Stored.{poly_records, polys_records, size_at, words_at}
-use Rattle.stored.specs.laws.Stored.{length_poly_records, length_words_at}
+use Rattle.stored.specs.Stored.{poly_records, polys_records, size_at, poly_at}
+use Rattle.stored.specs.laws.Stored.{length_poly_records, length_poly_at}
 use Rattle.tables.specs.Read.{System}
 use Rattle.rules.specs.Room.{polynomials_size, branch_size, branches_size, systems_size, live}
 use Rattle.branches.specs.Area.{Stored, Area, branch_records, stack, systems_records, size}
 use Rattle.representation.specs.Represent.{AllListed, branch_of, system_of, state_of}
+use Rattle.polynomials.specs.declared.Term.{Term as Packed}
 
 -- A polynomial takes a record, and each of its terms one.
-length_poly_records_terms : (s : List ℕ) → length (poly_records s) ≡ 1 + length (terms s)
+length_poly_records_terms : (s : List Packed) → length (poly_records s) ≡ 1 + length (terms s)
 length_poly_records_terms s = omega (arith, length_poly_records s, length_terms s)
 
 -- The polynomial at record i has as many terms as its head says.
-pub length_terms_at : (v : List Rec) (i : ℕ) → i + 1 + size_at v i ≤ length v → length (terms (words_at v i)) ≡ size_at v i
-length_terms_at v i h = omega (arith, length_terms (words_at v i), length_words_at v i h)
+pub length_terms_at : (v : List Rec) (i : ℕ) → i + 1 + size_at v i ≤ length v → length (terms (poly_at v i)) ≡ size_at v i
+length_terms_at v i h = omega (arith, length_terms (poly_at v i), length_poly_at v i h)
 
-pub length_polys_records_terms : (fs : List (List ℕ)) → polynomials_size (map terms fs) ≡ length (polys_records fs)
+pub length_polys_records_terms : (fs : List (List Packed)) → polynomials_size (map terms fs) ≡ length (polys_records fs)
 unfolding polynomials_size polys_records
 length_polys_records_terms [] = refl
 length_polys_records_terms (f ∷ fs) =

@@ -22,6 +22,7 @@ use Rattle.branches.specs.Area.{Stored, Area, size, with_open, put_into_p, witho
 use Rattle.representation.specs.Represent.{AllListed, branch_of, system_of, state_of, chosen, Sound, BranchSound}
 use Rattle.representation.specs.laws.Lists.{map_remove, map_put_p, map_put_q, each_put_p}
 use Rattle.representation.specs.laws.Sizes.{room_of_count, size_live}
+use Rattle.polynomials.specs.declared.Term.{Term as Packed}
 
 -- ── room ──
 -- What follows where there is room.
@@ -45,7 +46,7 @@ unfolding within_room
 within_room_fits l most bound some a h = tested_room l most bound some (live (state_of a)) (size a) (size_live a h) (next (state_of a))
 
 -- ── the rules ──
-member_at : (i : ℕ) (f : Poly) (fs : List (List ℕ)) → At i f (map terms fs) → f ≡ terms (get_or fs i [])
+member_at : (i : ℕ) (f : Poly) (fs : List (List Packed)) → At i f (map terms fs) → f ≡ terms (get_or fs i [])
 member_at i f [] a = absurd a
 member_at zero f (g ∷ fs) a = a
 member_at (suc i) f (g ∷ fs) a = member_at i f fs a
@@ -66,7 +67,7 @@ module _ (l : Limits) (p : ℕ) (b : Stored) (bs ss : List Stored) where
       ap (λ (rs : List System). next (record { branches = map branch_of bs; systems = rs })) (sym (reverse-cons (system_of b) (map system_of ss)))
 
   -- 3. The initial of a monic pivot is monic (`Monics`).
-  module _ (sound : BranchSound p b) (k i : ℕ) (ini rst : List ℕ) (sound_ini : Sound p ini) (sound_rst : Sound p rst)
+  module _ (sound : BranchSound p b) (k i : ℕ) (ini rst : List Packed) (sound_ini : Sound p ini) (sound_rst : Sound p rst)
       (of_ini : terms ini ≡ initial k (chosen b i).poly) (own : monic p (initial k (chosen b i).poly) ≡ initial k (chosen b i).poly)
       (of_rst : terms rst ≡ monic p (rest k (chosen b i).poly)) where
     split_state : state_of (split_area i ini rst b bs ss) ≡ record {
@@ -98,7 +99,7 @@ module _ (l : Limits) (p : ℕ) (b : Stored) (bs ss : List Stored) where
     apply_split most bound some h = ap (within_room l) (sym split_state) ∙ within_room_fits l most bound some (split_area i ini rst b bs ss) h
 
   -- 4.
-  module _ (sound : BranchSound p b) (g : Chosen) (r : List ℕ) (R : Poly) (sound_r : Sound p r) (of_r : terms r ≡ monic p R) where
+  module _ (sound : BranchSound p b) (g : Chosen) (r : List Packed) (R : Poly) (sound_r : Sound p r) (of_r : terms r ≡ monic p R) where
     pub divide_state : state_of (with_open (put_into_p r (without_p g.place b)) bs ss) ≡
         state l p (map branch_of bs) (reverse (map system_of ss)) (divided l p g R (branch_of b))
     divide_state = λ t. record {

@@ -2,6 +2,8 @@
 use Rattle.std.specs.Prelude.{◌≡◌, refl, List, [], ◌∷◌, map, Bool, true, false, ◌&&◌, ◌||◌, ℕ, zero, suc, ◌+◌, ◌*◌, ◌^◌, ◌<◌, eqb}
 use Rattle.std.proofs.Common.{sym, ◌∙◌, ap, ap₂, arith, ne_eqb}
 use Rattle.std.proofs.Math.Bool.{and-true}
+use Rattle.residues.specs.Each.{Each}
+use Rattle.residues.specs.laws.Each.{each_map}
 use Rattle.polynomials.specs.Poly.{Exponents, Poly, equal}
 use Rattle.polynomials.specs.Packed.{bytes, word, terms}
 use Rattle.polynomials.specs.laws.Equal.{equal_refl, unequal, terms_inj}
@@ -10,13 +12,13 @@ use Rattle.stored.specs.Stored.{same, member}
 use Rattle.stored.specs.laws.Stored.{equal_of_same, same_of_equal}
 use Rattle.rules.specs.Branch as rules
 use Rattle.branches.specs.Words.{is_zero, is_one}
-use Rattle.representation.specs.Represent.{Sound, AllSound}
+use Rattle.representation.specs.Represent.{TwoWords, Sound, AllSound}
+use Rattle.polynomials.specs.declared.Term.{Term as Packed}
 
-pub is_zero_terms : (p : ℕ) (s : List ℕ) → Sound p s → is_zero s ≡ rules.is_zero (terms s)
+pub is_zero_terms : (p : ℕ) (s : List Packed) → Sound p s → is_zero s ≡ rules.is_zero (terms s)
 unfolding is_zero rules.is_zero terms
 is_zero_terms p [] h = refl
-is_zero_terms p (c ∷ []) h = absurd (omega (arith, h.holds.pairs))
-is_zero_terms p (c ∷ (m ∷ s)) h = refl
+is_zero_terms p (t ∷ s) h = refl
 
 -- ── equality ──
 -- A test that is true exactly of equal polynomials.
@@ -24,15 +26,18 @@ decides : (b : Bool) (f g : Poly) → (b ≡ true → f ≡ g) → (f ≡ g → 
 decides true f g to from = sym (equal_refl f) ∙ ap (equal f) (to refl)
 decides false f g to from = sym (unequal f g (λ q. let r : false ≡ true = from q in let z : ◌≡◌ {A = ℕ} 0 1 = cc in omega arith))
 
-module _ (p : ℕ) (s t : List ℕ) (hs : Sound p s) (ht : Sound p t) where
-  words_of_terms_eq : terms s ≡ terms t → s ≡ t
-  words_of_terms_eq = terms_inj s t hs.small ht.small hs.holds.pairs ht.holds.pairs
+monomials_small : (p : ℕ) (s : List Packed) → Sound p s → Each (λ t. t.monomial < 2 ^ 64) s
+monomials_small p s h = each_map TwoWords (λ t. t.monomial < 2 ^ 64) (λ t w. w.1) s h.small
 
-  -- `member` of words compares the other way round.
+module _ (p : ℕ) (s t : List Packed) (hs : Sound p s) (ht : Sound p t) where
+  packed_of_terms_eq : terms s ≡ terms t → s ≡ t
+  packed_of_terms_eq = terms_inj s t (monomials_small p s hs) (monomials_small p t ht)
+
+  -- `member` of packed terms compares the other way round.
   same_terms : same s t ≡ equal (terms t) (terms s)
-  same_terms = decides (same s t) (terms t) (terms s) (λ e. sym (ap terms (equal_of_same s t e))) (λ q. same_of_equal s t (words_of_terms_eq (sym q)))
+  same_terms = decides (same s t) (terms t) (terms s) (λ e. sym (ap terms (equal_of_same s t e))) (λ q. same_of_equal s t (packed_of_terms_eq (sym q)))
 
-pub member_terms : (p : ℕ) (f : List ℕ) (fs : List (List ℕ)) → Sound p f → AllSound p fs → member f fs ≡ rules.member (terms f) (map terms fs)
+pub member_terms : (p : ℕ) (f : List Packed) (fs : List (List Packed)) → Sound p f → AllSound p fs → member f fs ≡ rules.member (terms f) (map terms fs)
 unfolding member rules.member
 member_terms p f [] h hs = refl
 member_terms p f (g ∷ gs) h hs = ap₂ ◌||◌ (same_terms p g f hs.0 h) (member_terms p f gs h hs.1)
@@ -56,10 +61,8 @@ and_false true true = refl
 and_false true false = refl
 and_false false b = refl
 
-pub is_one_terms : (p : ℕ) (s : List ℕ) → Sound p s → is_one s ≡ rules.is_one (terms s)
+pub is_one_terms : (p : ℕ) (s : List Packed) → Sound p s → is_one s ≡ rules.is_one (terms s)
 unfolding is_one rules.is_one terms same
 is_one_terms p [] h = refl
-is_one_terms p (c ∷ []) h = absurd (omega (arith, h.holds.pairs))
-is_one_terms p (c ∷ (m ∷ [])) h = ap (λ b. eqb c 1 && b) (and-true (eqb m 0) ∙ all_zeros_bytes 8 m (h.small 1))
-is_one_terms p (c ∷ (m ∷ (d ∷ []))) h = absurd (omega (arith, h.holds.pairs))
-is_one_terms p (c ∷ (m ∷ (d ∷ (e ∷ s)))) h = and_false (eqb c 1) (eqb m 0)
+is_one_terms p (t ∷ []) h = ap (λ b. eqb t.coefficient 1 && b) (and-true (eqb t.monomial 0) ∙ all_zeros_bytes 8 t.monomial h.small.0.1)
+is_one_terms p (t ∷ (u ∷ s)) h = and_false (eqb t.coefficient 1) (eqb t.monomial 0)

@@ -1,10 +1,11 @@
--- The coefficients of the first i words are times the inverse.
-use Rattle.std.proofs.Common.{length, ◌-◌}
-use Rattle.scaling.proofs.ScaledLaws.{Scaled}
+-- The terms that are passed are scaled, and their monomials are words.
+use Rattle.std.proofs.Common.{◌≡◌, ◌++◌, ◌<◌, ◌^◌, take, drop}
+use Rattle.residues.specs.Each.{Each}
+use Rattle.std.specs.Prelude.{map}
+use Rattle.scaling.proofs.ScaledLaws.{scale}
 use Rattle.scaling.proofs.monic.Given as goal
 
-abbrev pub invariant-loop-i : goal.invariant-loop-i
-invariant-loop-i l = Scaled l.p l.c l.initial.f l.f l.i
-
-abbrev pub decreases-loop-i : goal.decreases-loop-i
-decreases-loop-i l = length l.initial.f - l.i
+abbrev pub invariant-loop-t : goal.invariant-loop-t
+invariant-loop-t l =
+    let i = l.t-index in
+    let f = l.initial.f in (l.f ≡ map (scale l.p l.c) (take i f) ++ drop i f) × Each (λ t. t.monomial < 2 ^ 64) (take i f)

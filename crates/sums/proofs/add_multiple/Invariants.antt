@@ -1,4 +1,4 @@
--- The words written, with what is still to be merged, are the whole sum.
+-- The terms written, with what is still to be merged, are the whole sum.
 use Rattle.std.proofs.Common.{◌≡◌, ◌+◌, ◌-◌, length}
 use Rattle.sums.proofs.MergeLaws.{Head}
 use Rattle.sums.proofs.add_multiple.Given as goal

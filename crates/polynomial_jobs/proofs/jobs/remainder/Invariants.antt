@@ -1,4 +1,4 @@
--- The rounds left, from the words in r, form what all form.
+-- The rounds left, from the terms in r, form what all form.
 use Rattle.polynomial_jobs.proofs.Rounds.{AtRound}
 use Rattle.polynomial_jobs.proofs.jobs.remainder.Given as goal
 

@@ -15,8 +15,8 @@ ghost use Rattle.delivery.specs.Delivered.{Delivered};
 ghost use Rattle.elimination.specs.Eliminates.{Eliminates};
 ghost use Rattle.elimination.specs.Worked.{Worked};
 
-pub use run::{Answer, Outcome};
 use polynomials::Term;
+pub use run::{Answer, Outcome};
 use tables::{Reason, Refusal};
 use words::Table;
 

@@ -55,8 +55,8 @@ loop-i-preserved c =
     record {
       is =
           ap (λ t. terms (take (i + 1) (set c.loop-i.out i (lowered t (c.exponent.result * 2 ^ (8 * k) % 18446744073709551616))))) same
-              ∙ initial_next k s i blank (omega arith) c.loop-i.out i _ d (led_place k s L) (omega arith) (top_shifted k s L c.exponent.result c.exponent.ensures)
-              (subst (λ t. power_of k t ≡ d) same q) c.loop-i.invariant.is;
+          ∙ initial_next k s i blank (omega arith) c.loop-i.out i _ d (led_place k s L) (omega arith) (top_shifted k s L c.exponent.result c.exponent.ensures)
+          (subst (λ t. power_of k t ≡ d) same q) c.loop-i.invariant.is;
       in_words = λ u.
           let word = each_member (λ (t : Packed). t.monomial < 2 ^ 64) i s blank (omega arith) u in
           lowered_in_words c.loop-i.out i _ _ (omega arith) (omega (arith, word, ap (λ (t : Packed). t.monomial) same)) (c.loop-i.invariant.in_words u);

@@ -1,14 +1,16 @@
 -- The whole state of a run in the work area:
 --
---     [control] [waiting branches, oldest .. newest] [open branch] [free] [systems, newest .. oldest] [records beyond 65,536]
+--     [control] [waiting branches, oldest .. newest] [open branch] [free] [systems, newest .. oldest]
 --
 -- The control record holds where the open branch starts and ends, where the systems start, and how many there are.
-use Rattle.std.specs.Prelude.{◌≡◌, refl, Bool, true, false, List, [], ◌∷◌, ◌++◌, ℕ, ◌+◌, ◌-◌, ◌/◌, ◌≤◌, min, leb, length, get_or, take, drop}
+use Rattle.std.specs.Prelude.{◌≡◌, Bool, true, false, List, [], ◌∷◌, ◌++◌, ℕ, ◌+◌, ◌-◌, ◌≤◌, leb, length, get_or, take, drop, Result, Ok, Err, IsOk, IsErr}
 use Rattle.residues.specs.Each.{Each}
-use Rattle.records.specs.Records.{Rec, record_of, view, words_behind}
+use Rattle.records.specs.Records.{Rec, record_of, view}
 use Rattle.stored.specs.Stored.{polys_records, Storable}
 use Rattle.branches.specs.Words.{put_p, put_q_before, remove}
 use Rattle.polynomials.specs.declared.Term.{Term as Packed}
+use Rattle.tables.specs.declared.Reason.{Reason}
+use Rattle.tables.specs.declared.Reason.TheVariants.{Room}
 
 -- A branch, its polynomials as packed terms.
 pub record Stored : Type 0 where
@@ -38,10 +40,6 @@ pub record Area : Type 0 where
 unfoldable pub size : Area → ℕ
 size a = 1 + (length (stack a.branches).0 + length (systems_records a.systems))
 
--- The records that a work area of these words has: "its words divided by 4, rounded down, at most 65,536".
-abbrev pub capacity : List ℕ → ℕ
-capacity w = min (length w / 4) 65536
-
 -- All polynomials are such as records can hold.
 abbrev pub StorableBranch : Stored → Type 0
 StorableBranch b = Each Storable b.P × Each Storable b.Q × Each Storable b.T
@@ -57,11 +55,16 @@ pub record Held (v : List Rec) (most : ℕ) (a : Area) : Type 0 where
   pub few : most ≤ 65536
   pub storable : Each StorableBranch a.branches × Each StorableBranch a.systems
 
--- An operation that may find no room for the state a: it answers whether a fits, and leaves a if so, and otherwise a₀.
-pub record Leaves (most : ℕ) (a₀ a : Area) (r : Bool) (v : List Rec) : Type 0 where
-  pub answer : r ≡ leb (size a) most
-  pub held : r ≡ true → Held v most a
-  pub otherwise : r ≡ false → Held v most a₀
+-- The answer where there is room, and where there is none.
+abbrev pub fitted : Bool → Result (Unit {0}) Reason
+fitted true = Ok tt
+fitted false = Err Room
+
+-- An operation that may find no room for the state a: it is refused unless a fits, and leaves a then, and otherwise a₀.
+pub record Leaves (most : ℕ) (a₀ a : Area) (r : Result (Unit {0}) Reason) (v : List Rec) : Type 0 where
+  pub answer : r ≡ fitted (leb (size a) most)
+  pub held : IsOk r → Held v most a
+  pub otherwise : IsErr r → Held v most a₀
 
 abbrev pub empty : Stored
 empty = record { P = []; Q = []; T = [] }
@@ -115,27 +118,18 @@ unfinished_split most i initial rest b bs ss =
     (with_open (aside i initial rest b) bs ss)
 
 -- ── what a lent work area holds, before and after a call ──
--- The words hold the state a.
-abbrev pub HeldIn : List ℕ → Area → Type 0
-HeldIn w a = Held (view w) (capacity w) a
+-- Its records, each of four words, hold the state a.
+abbrev pub HeldIn : List (List ℕ) → Area → Type 0
+HeldIn w a = Held (view w) (length w) a
 
 -- Some state with an open branch is held.
-abbrev pub Opened : List ℕ → Type 0
+abbrev pub Opened : List (List ℕ) → Type 0
 Opened w = (b : Stored) × (bs : List Stored) × (ss : List Stored) × HeldIn w (with_open b bs ss)
 
--- What lies behind the records of a work area: whole records beyond 65,536, and at most three words.
-abbrev pub outside : List ℕ → List Rec × List ℕ
-outside w = (drop (capacity w) (view w), words_behind w)
-
--- Behind two records, the ninth word.
-nine_words : outside (1 ∷ 2 ∷ 3 ∷ 4 ∷ 5 ∷ 6 ∷ 7 ∷ 8 ∷ 9 ∷ []) ≡ ([], 9 ∷ [])
-unfolding view
-nine_words = refl
-
--- Φ, of the open branch, the waiting ones and the systems that the words hold.
-abbrev pub WhenOpen : List ℕ → (Stored → List Stored → List Stored → Type 0) → Type 0
+-- Φ, of the open branch, the waiting ones and the systems that the records hold.
+abbrev pub WhenOpen : List (List ℕ) → (Stored → List Stored → List Stored → Type 0) → Type 0
 WhenOpen w Φ = (b : Stored) (bs ss : List Stored) → HeldIn w (with_open b bs ss) → Φ b bs ss
 
 -- The open branch b becomes g b; the waiting branches and the systems stay.
-abbrev pub OpenBecomes : (Stored → Stored) → List ℕ → List ℕ → Type 0
-OpenBecomes g w w' = WhenOpen w (λ b bs ss. Held (view w') (capacity w) (with_open (g b) bs ss))
+abbrev pub OpenBecomes : (Stored → Stored) → List (List ℕ) → List (List ℕ) → Type 0
+OpenBecomes g w w' = WhenOpen w (λ b bs ss. Held (view w') (length w) (with_open (g b) bs ss))

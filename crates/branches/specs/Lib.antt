@@ -1,4 +1,5 @@
 pub mod Area
+pub mod Members
 pub mod Open
 pub mod Listed
 pub mod Words

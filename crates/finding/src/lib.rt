@@ -2,18 +2,19 @@
 #![tactic(auto)]
 
 ghost use Rattle.std.specs.Prelude.{◌≡◌, ◌+◌, ◌≤◌, ◌<◌};
-ghost use Rattle.records.specs.Records.{room, view};
+ghost use Rattle.records.specs.Records.{view};
 ghost use Rattle.stored.specs.Stored.{size_at, poly_at, skip_to, polys_at, same, member, Storable};
 
 use polynomials::Term;
+use records::Record;
 
 // Whether the polynomial at record `at` is f.
-fn equal_at(w: &[u32], at: usize, f: &[Term]) -> bool
-    requires at_bound { (at < room w.now) × (at + 1 + size_at (view w.now) at ≤ room w.now) }
+fn equal_at(w: &[Record], at: usize, f: &[Term]) -> bool
+    requires at_bound { (at < length w.now) × (at + 1 + size_at (view w.now) at ≤ length w.now) }
     requires storable { Storable f.now }
     ensures { result ≡ same (poly_at (view w.now) at) f.now }
 {
-    if records::get0(w, at) as usize != f.len() {
+    if w[at][0] as usize != f.len() {
         return false;
     }
     for (i, term) in f.iter().enumerate() {
@@ -25,8 +26,8 @@ fn equal_at(w: &[u32], at: usize, f: &[Term]) -> bool
 }
 
 // Whether one of the k polynomials from record `at` on is f.
-pub fn contains(w: &[u32], at: usize, k: usize, f: &[Term]) -> bool
-    requires k_bound { skip_to (view w.now) at k ≤ room w.now }
+pub fn contains(w: &[Record], at: usize, k: usize, f: &[Term]) -> bool
+    requires k_bound { skip_to (view w.now) at k ≤ length w.now }
     requires storable { Storable f.now }
     ensures { result ≡ member f.now (polys_at (view w.now) at k) }
 {
@@ -35,7 +36,7 @@ pub fn contains(w: &[u32], at: usize, k: usize, f: &[Term]) -> bool
         if equal_at(w, next, f) {
             return true;
         }
-        next += 1 + records::get0(w, next) as usize;
+        next += 1 + w[next][0] as usize;
     }
     false
 }

@@ -1,16 +1,17 @@
 -- The first branch, put in the work area polynomial by polynomial.
-use Rattle.std.specs.Prelude.{◌≡◌, refl, ◌≢◌, Bool, true, false, List, [], ◌∷◌, ℕ, suc, ◌+◌, ◌-◌, ◌≤◌, ◌<◌, leb, take, length}
+use Rattle.std.specs.Prelude.{◌≡◌, refl, ◌≢◌, List, [], ◌∷◌, ℕ, suc, ◌+◌, ◌-◌, ◌≤◌, ◌<◌, leb, take, length, Result, Ok, Err, IsOk, IsErr}
 use Rattle.residues.specs.Each.{Each}
 use Rattle.polynomials.specs.Poly.{Poly, monic}
 use Rattle.polynomials.specs.Packed.{terms}
 use Rattle.tables.specs.Read.{Input}
+use Rattle.tables.specs.declared.Reason.{Reason}
 use Rattle.tables.specs.declared.Reason.TheVariants.{Room}
 use Rattle.rules.specs.Branch.{Branch, is_zero, is_one, member, put_p, put_q, put_all}
 use Rattle.rules.specs.Room.{branch_size}
 use Rattle.rules.specs.Step.{Stepped, next, stopped}
 use Rattle.rules.specs.Run.{first_branch}
 use Rattle.records.specs.Records.{Rec}
-use Rattle.branches.specs.Area.{Stored, Area, Held, with_open, put_into_p, put_into_q}
+use Rattle.branches.specs.Area.{Stored, Area, Held, fitted, with_open, put_into_p, put_into_q}
 use Rattle.representation.specs.Represent.{Sound, BranchSound, branch_of, state_of, Monic, AllMonic}
 use Rattle.representation.specs.Ready.{Ready}
 use Rattle.loading.specs.declared.Target.{Target}
@@ -43,12 +44,12 @@ pub record Alone (p most : ℕ) (c : Branch) (v : List Rec) : Type 0 where
   pub nonzero : Each (λ f. f ≢ []) stored.P
   pub is : branch_of stored ≡ c
 
--- The polynomials fs, put into the branch c one after the other: the answer is whether there is room for all of them and the control record.
--- If so the work area holds the branch with all, and otherwise with the first j, those before one that has no room.
-pub record Filled (p most : ℕ) (target : Target) (fs : List Poly) (c : Branch) (r : Bool) (v : List Rec) : Type 0 where
-  pub answer : r ≡ leb (1 + branch_size (put_heads target p fs c)) most
-  pub alone : r ≡ true → Alone p most (put_heads target p fs c) v
-  pub otherwise : r ≡ false → (j : ℕ) × (j < length fs) × (most < 1 + branch_size (put_heads target p (take (suc j) fs) c)) × Alone p most (put_heads target p (take j fs) c) v
+-- The polynomials fs, put into the branch c one after the other: refused unless there is room for all of them and the control record.
+-- If there is, the work area holds the branch with all, and otherwise with the first j, those before one that has no room.
+pub record Filled (p most : ℕ) (target : Target) (fs : List Poly) (c : Branch) (r : Result (Unit {0}) Reason) (v : List Rec) : Type 0 where
+  pub answer : r ≡ fitted (leb (1 + branch_size (put_heads target p fs c)) most)
+  pub alone : IsOk r → Alone p most (put_heads target p fs c) v
+  pub otherwise : IsErr r → (j : ℕ) × (j < length fs) × (most < 1 + branch_size (put_heads target p (take (suc j) fs) c)) × Alone p most (put_heads target p (take j fs) c) v
 
 -- The branch of a table's first k polynomials, those of P before those of Q.
 abbrev pub first_put : Input → ℕ → Branch
@@ -59,9 +60,9 @@ three_zeros : first_put (record { modulus = 7; variables = 1; P = [] ∷ []; Q =
 unfolding first_branch put_all put_p put_q monic is_zero is_one member
 three_zeros = refl
 
--- The answer is whether the run starts. If so there are at least two records, and the work area holds its first state; otherwise, given
+-- Refused unless the run starts. If it does, there are at least two records, and the work area holds its first state; otherwise, given
 -- two records, the branch of the table's first k polynomials, those before one that has no room.
-abbrev pub Started : Input → Stepped → ℕ → Bool → List Rec → Type 0
-Started t (next s) most r v = (r ≡ true) × (2 ≤ most) × ((a : Area) × Held v most a × Ready t.modulus a × (state_of a ≡ s))
+abbrev pub Started : Input → Stepped → ℕ → Result (Unit {0}) Reason → List Rec → Type 0
+Started t (next s) most r v = (r ≡ Ok tt) × (2 ≤ most) × ((a : Area) × Held v most a × Ready t.modulus a × (state_of a ≡ s))
 Started t (stopped why) most r v =
-    (r ≡ false) × (why ≡ Room) × (2 ≤ most → (k : ℕ) × (most < 1 + branch_size (first_put t (suc k))) × Alone t.modulus most (first_put t k) v)
+    (r ≡ Err why) × (why ≡ Room) × (2 ≤ most → (k : ℕ) × (most < 1 + branch_size (first_put t (suc k))) × Alone t.modulus most (first_put t k) v)

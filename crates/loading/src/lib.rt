@@ -11,11 +11,14 @@ ghost use Rattle.tables.specs.Read.{Input, good, read_head, read_heads, read_tab
 ghost use Rattle.words.specs.Table.{TableOf};
 ghost use Rattle.rules.specs.Branch.{Branch};
 ghost use Rattle.rules.specs.Run.{start};
-ghost use Rattle.branches.specs.Area.{Opened, Leaves, capacity, with_open, WhenOpen, outside};
+ghost use Rattle.branches.specs.Area.{Opened, Leaves, with_open, WhenOpen};
 ghost use Rattle.representation.specs.Ready.{limits_in};
 ghost use Rattle.loading.specs.Started.{Loaded, put_into, Alone, Filled, Started};
 
 use polynomials::Term;
+use records::Record;
+use residues::Modulus;
+use tables::Reason;
 use words::Table;
 
 // Where a polynomial is put.
@@ -26,13 +29,12 @@ enum Target {
 }
 
 impl Target {
-    // Puts f there; whether there is room.
-    fn put(self, work: &mut [u32], f: &[Term]) -> bool
+    // Puts f there; refused if there is no room.
+    fn put(self, work: &mut [Record], f: &[Term]) -> Result<(), Reason>
         requires opened { Opened work.old }
         requires storable { Storable f.now }
         ensures when_open { WhenOpen work.old (λ b bs ss.
-            Leaves (capacity work.old) (with_open b bs ss) (with_open (put_into self f.now b) bs ss) result (view work.new)) }
-        ensures outside_stays { outside work.new ≡ outside work.old }
+            Leaves (length work.old) (with_open b bs ss) (with_open (put_into self f.now b) bs ss) result (view work.new)) }
     {
         match self {
             Target::P => puts::put_p(work, f),
@@ -72,49 +74,52 @@ fn load_monic(table: Table<'_>, head: usize, out: &mut [Term]) -> usize
         → Loaded table.entry.modulus f result out.new }
 {
     let m = load_head(table, head, out);
-    scaling::monic(table.modulus as u64, &mut out[..m]);
+    scaling::monic(Modulus::new(u64::from(table.modulus)), &mut out[..m]);
     m
 }
 
-// Puts the polynomials from the index `first` on, which the header holds; whether there is room. r is scratch.
-fn put_heads(table: Table<'_>, first: u32, target: Target, work: &mut [u32], r: &mut [Term]) -> bool
+// Puts the polynomials from the index `first` on, which the header holds; refused if there is no room. r is scratch.
+fn put_heads(
+    table: Table<'_>,
+    first: u32,
+    target: Target,
+    work: &mut [Record],
+    r: &mut [Term],
+) -> Result<(), Reason>
     requires are_read { (fs : List Poly) × (read_heads table.words.now table.modulus table.variables (records table.words.now) 0 first ≡ good fs) }
-    requires alone { (c : Branch) × Alone table.modulus (capacity work.old) c (view work.old) }
+    requires alone { (c : Branch) × Alone table.modulus (length work.old) c (view work.old) }
     requires in_bounds { 256 ≤ length r.old }
     ensures filled { (fs : List Poly) (c : Branch)
         → read_heads table.entry.words.now table.entry.modulus table.entry.variables (records table.entry.words.now) 0 first ≡ good fs
-        → Alone table.entry.modulus (capacity work.old) c (view work.old)
-        → Filled table.entry.modulus (capacity work.old) target fs c result (view work.new) }
-    ensures outside_stays { outside work.new ≡ outside work.old }
+        → Alone table.entry.modulus (length work.old) c (view work.old)
+        → Filled table.entry.modulus (length work.old) target fs c result (view work.new) }
 {
     // The chain is accepted: no index is tested again.
     let mut i = first as usize;
     while i != 0 {
         let m = load_monic(table, i, r);
-        if !target.put(work, &r[..m]) {
-            return false;
-        }
+        target.put(work, &r[..m])?;
         i = table.word(i, 3) as usize;
     }
-    true
+    Ok(())
 }
 
-// The first branch of an accepted table, whatever the words of the work area were; whether there is room. r is scratch.
+// The first branch of an accepted table, whatever the records of the work area were; refused if there is no room. r is scratch.
 #[tactic(auto, using(words::proofs::Laws::first_record))]
-pub fn start(table: Table<'_>, work: &mut [u32], r: &mut [Term]) -> bool
+pub fn start(table: Table<'_>, work: &mut [Record], r: &mut [Term]) -> Result<(), Reason>
     requires header { TableOf table.words.now table }
     requires accepted { (t : Input) × (read_table table.words.now ≡ good t) }
+    requires few { length work.old ≤ 65536 }
     requires in_bounds { 256 ≤ length r.old }
     ensures started { (t : Input) → read_table table.entry.words.now ≡ good t
-        → Started t (start (limits_in (capacity work.old)) t) (capacity work.old) result (view work.new) }
-    ensures too_small { capacity work.old < 2 → work.new ≡ work.old }
-    ensures outside_stays { outside work.new ≡ outside work.old }
+        → Started t (start (limits_in (length work.old)) t) (length work.old) result (view work.new) }
+    ensures too_small { length work.old < 2 → work.new ≡ work.old }
 {
     // Fewer than two records: no room for the control record and the branch's own.
-    if work.len() < 8 {
-        return false;
+    if work.len() < 2 {
+        return Err(Reason::Room);
     }
     turns::begin(work);
-    put_heads(table, table.word(0, 2), Target::P, work, r)
-        && put_heads(table, table.word(0, 3), Target::Q, work, r)
+    put_heads(table, table.word(0, 2), Target::P, work, r)?;
+    put_heads(table, table.word(0, 3), Target::Q, work, r)
 }

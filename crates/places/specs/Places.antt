@@ -1,8 +1,8 @@
 -- One polynomial more, or one less, among those of the open branch: where it lies, and which state the work area holds then.
 use Rattle.std.specs.Prelude.{◌≡◌, refl, List, [], ◌∷◌, ◌++◌, ℕ, ◌+◌, length, get_or, set}
 use Rattle.records.specs.Records.{Rec, record_of, zero_record}
-use Rattle.stored.specs.Stored.{polys_records}
-use Rattle.branches.specs.Area.{Stored, HeldIn, stack, with_open}
+use Rattle.branches.specs.Area.{Stored, HeldIn, with_open}
+use Rattle.branches.specs.Members.{behind}
 use Rattle.polynomials.specs.declared.Term.{Term as Packed}
 
 -- The branch c has the polynomial f besides those of b, between xs and ys.
@@ -10,18 +10,14 @@ pub record More (b c : Stored) (xs : List (List Packed)) (f : List Packed) (ys :
   pub less : b.P ++ (b.Q ++ b.T) ≡ xs ++ ys
   pub more : c.P ++ (c.Q ++ c.T) ≡ xs ++ (f ∷ ys)
 
--- The record behind xs, the first polynomials of the open branch: before them are the control record, the waiting branches and the branch's own record.
-abbrev pub behind : List Stored → List (List Packed) → ℕ
-behind bs xs = 1 + length (stack bs).0 + 1 + length (polys_records xs)
-
 -- So many members P, Q and T have.
 pub record Counts (p q t : ℕ) (b : Stored) : Type 0 where
   pub in_p : p ≡ length b.P
   pub in_q : q ≡ length b.Q
   pub in_t : t ≡ length b.T
 
--- The words hold a branch b that becomes c, with p, q and t members, when f is put in at record `to`.
-pub record PutAt (w : List ℕ) (to : ℕ) (f : List Packed) (p q t : ℕ) (c : Stored) (bs ss : List Stored) : Type 0 where
+-- The records hold a branch b that becomes c, with p, q and t members, when f is put in at record `to`.
+pub record PutAt (w : List (List ℕ)) (to : ℕ) (f : List Packed) (p q t : ℕ) (c : Stored) (bs ss : List Stored) : Type 0 where
   pub b : Stored
   pub held : HeldIn w (with_open b bs ss)
   pub xs : List (List Packed)
@@ -30,8 +26,8 @@ pub record PutAt (w : List ℕ) (to : ℕ) (f : List Packed) (p q t : ℕ) (c : 
   pub there : to ≡ behind bs xs
   pub counts : Counts p q t c
 
--- The words hold a branch c that becomes b, with p, q and t members, when the polynomial at record `from` is taken out.
-pub record TakeAt (w : List ℕ) (from : ℕ) (p q t : ℕ) (b : Stored) (bs ss : List Stored) : Type 0 where
+-- The records hold a branch c that becomes b, with p, q and t members, when the polynomial at record `from` is taken out.
+pub record TakeAt (w : List (List ℕ)) (from : ℕ) (p q t : ℕ) (b : Stored) (bs ss : List Stored) : Type 0 where
   pub c : Stored
   pub held : HeldIn w (with_open c bs ss)
   pub xs : List (List Packed)

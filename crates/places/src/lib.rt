@@ -2,54 +2,51 @@
 #![tactic(auto)]
 
 ghost use Rattle.std.specs.Prelude.{◌≡◌, List, ◌<◌, get_or};
-ghost use Rattle.records.specs.Records.{room, view, zero_record, RecordsBecome};
+ghost use Rattle.records.specs.Records.{view, zero_record};
 ghost use Rattle.stored.specs.Stored.{Storable};
-ghost use Rattle.branches.specs.Area.{Stored, Held, Leaves, capacity, with_open, outside};
+ghost use Rattle.branches.specs.Area.{Stored, Held, Leaves, with_open};
 ghost use Rattle.places.specs.Places.{PutAt, TakeAt, SomeOpen, resized};
 
 use polynomials::Term;
+use records::Record;
+use tables::Reason;
 
-// Puts f in at record `to`, so that P, Q and T have p, q and t members; whether there is room.
-pub fn put_at(w: &mut [u32], to: usize, f: &[Term], p: u32, q: u32, t: u32) -> bool
+// Puts f in at record `to`, so that P, Q and T have p, q and t members; refused if there is no room.
+pub fn put_at(w: &mut [Record], to: usize, f: &[Term], p: u32, q: u32, t: u32) -> Result<(), Reason>
     requires storable { Storable f.now }
     requires some_open { SomeOpen (PutAt w.old to f.now p q t) }
     ensures leaves { (c : Stored) (bs ss : List Stored) (put : PutAt w.old to f.now p q t c bs ss)
-        → Leaves (capacity w.old) (with_open put.b bs ss) (with_open c bs ss) result (view w.new) }
-    ensures outside_stays { outside w.new ≡ outside w.old }
+        → Leaves (length w.old) (with_open put.b bs ss) (with_open c bs ss) result (view w.new) }
 {
-    let end = records::get1(w, 0) as usize;
-    let top = records::get2(w, 0) as usize;
+    let [_, end, top, _] = w[0];
     let n = f.len() + 1;
-    if top - end < n {
-        return false;
+    if ((top - end) as usize) < n {
+        return Err(Reason::Room);
     }
-    storing::insert(w, to, end, f);
-    resize(w, (end + n) as u32, p, q, t);
-    true
+    storing::insert(w, to, end as usize, f);
+    resize(w, end + n as u32, p, q, t);
+    Ok(())
 }
 
 // Takes the polynomial at record `from` out, so that P, Q and T have p, q and t members.
-pub fn take_at(w: &mut [u32], from: usize, p: u32, q: u32, t: u32)
+pub fn take_at(w: &mut [Record], from: usize, p: u32, q: u32, t: u32)
     requires { SomeOpen (TakeAt w.old from p q t) }
     ensures held { (b : Stored) (bs ss : List Stored) → TakeAt w.old from p q t b bs ss
-        → Held (view w.new) (capacity w.old) (with_open b bs ss) }
-    ensures outside_stays { outside w.new ≡ outside w.old }
+        → Held (view w.new) (length w.old) (with_open b bs ss) }
 {
-    let end = records::get1(w, 0) as usize;
-    let n = records::get0(w, from) as usize + 1;
+    let end = w[0][1] as usize;
+    let n = w[from][0] as usize + 1;
     storing::remove(w, from, n, end);
     resize(w, (end - n) as u32, p, q, t)
 }
 
 // Writes where the open branch ends, and how many members P, Q and T have.
-fn resize(w: &mut [u32], end: u32, p: u32, q: u32, t: u32)
-    requires { (get_or (view w.old) 0 zero_record).w0 < room w.old }
-    ensures { RecordsBecome (resized (view w.old) end p q t) w.old w.new }
+fn resize(w: &mut [Record], end: u32, p: u32, q: u32, t: u32)
+    requires { (get_or (view w.old) 0 zero_record).w0 < length w.old }
+    ensures { view w.new ≡ resized (view w.old) end p q t }
 {
-    let at = records::get0(w, 0);
-    let top = records::get2(w, 0);
-    let systems = records::get3(w, 0);
-    let under = records::get3(w, at as usize);
-    records::write(w, at as usize, p, q, t, under);
-    records::write(w, 0, at, end, top, systems);
+    let [at, _, top, systems] = w[0];
+    let [_, _, _, under] = w[at as usize];
+    w[at as usize] = [p, q, t, under];
+    w[0] = [at, end, top, systems];
 }

@@ -24,8 +24,3 @@ pub record Ready (p : ℕ) (a : Area) : Type 0 where
 -- The limits of a run in a work area of so many records: document 01's bounds, and all records but one.
 abbrev pub limits_in : ℕ → Limits
 limits_in most = record { bounds = standard; of_room = at_most (most - 1) }
-
--- A prime that residues are taken by.
-pub record Modulus (p : ℕ) : Type 0 where
-  pub prime : Prime p
-  pub below : p < 2147483648

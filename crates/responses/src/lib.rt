@@ -58,11 +58,11 @@ pub fn respond(
 {
     let refused = [1, 0, 0];
     if LONGEST < bytes.len() {
-        moves::clear(work);
+        work.fill(0);
         return text.put_line(&refused);
     }
     if bytes.len() % 4 != 0 {
-        moves::clear(work);
+        work.fill(0);
         return text.put_line(&refused);
     }
     decoding::decode(bytes, words);

@@ -1,16 +1,18 @@
 // The run: labelled nested loops; a limit met in the division breaks the outer loop, which yields the outcome.
 #![tactic(auto)]
 
-ghost use Rattle.std.specs.Prelude.{◌≡◌, ◌⊎◌, ◌-◌, ◌≤◌, ◌<◌, length};
+ghost use Rattle.std.specs.Prelude.{◌≡◌, ◌⊎◌, ◌-◌, ◌≤◌, ◌<◌, length, None};
+ghost use Rattle.residues.specs.Prime.{Prime};
 ghost use Rattle.records.specs.Records.{view};
-ghost use Rattle.branches.specs.Area.{Area, capacity, HeldIn, outside};
+ghost use Rattle.branches.specs.Area.{Area, HeldIn};
 ghost use Rattle.rules.specs.Run.{run};
 ghost use Rattle.representation.specs.Represent.{state_of};
-ghost use Rattle.representation.specs.Ready.{Ready, Modulus, limits_in};
+ghost use Rattle.representation.specs.Ready.{Ready, limits_in};
 ghost use Rattle.run.specs.Stretch.{Stretches};
-ghost use Rattle.run.specs.declared.Ending.TheVariants.{Paused};
 
 use polynomials::{Passed, Term};
+use records::Record;
+use residues::Modulus;
 use steps::Prepared;
 use tables::Reason;
 
@@ -28,18 +30,12 @@ pub struct Answer {
     pub outcome: Outcome,
 }
 
-// How a stretch of the run ends: with the run's outcome, or with a pause between two steps, where the lent scratch is too short.
-#[derive(Clone, Copy)]
-pub enum Ending {
-    Final(Outcome),
-    Paused,
-}
-
-// A stretch of the run: the whole steps finished so far, and how it ended.
+// A stretch of the run: the whole steps finished so far, and the run's outcome, or none where it pauses between two steps since the lent scratch is too
+// short.
 #[derive(Clone, Copy)]
 pub struct Stretch {
     pub steps: u32,
-    pub ending: Ending,
+    pub outcome: Option<Outcome>,
 }
 
 // Runs the steps from the state in the work area on, `from` being done and at most `limit` allowed. The other slices are scratch: for the pivot and
@@ -47,8 +43,8 @@ pub struct Stretch {
 // each of the others, suits every step. In shorter scratch the run pauses before a step whose pivot does not fit, and after a step in which a round
 // did not.
 pub fn run(
-    w: &mut [u32],
-    p: u64,
+    w: &mut [Record],
+    p: Modulus,
     limit: u32,
     from: u32,
     t: &mut [Term],
@@ -58,45 +54,45 @@ pub fn run(
     y: &mut [Term],
     z: &mut [Term],
 ) -> Stretch
-    requires modulus { Modulus p × (from ≤ limit) × ((a : Area) × HeldIn w.old a × Ready p a) }
+    requires prime { Prime p }
+    requires from_le_limit { from ≤ limit }
+    requires ready { (a : Area) × HeldIn w.old a × Ready p a }
     requires t_in_bounds { (length t.old ≤ length i.old) × (256 ≤ length r.old)
         × (length x.old ≤ length r.old) × (length x.old ≤ length y.old) × (length x.old ≤ length z.old) }
     ensures stretches { (a : Area) → HeldIn w.old a → Ready p a
-        → Stretches (run (limits_in (capacity w.old)) p (limit - from) from (state_of a)) p limit result (view w.new) (capacity w.old) }
-    ensures when_paused { result.ending ≡ Paused → (length t.old < 256) ⊎ (length x.old < 512) }
-    ensures outside_stays { outside w.new ≡ outside w.old }
+        → Stretches (run (limits_in (length w.old)) p (limit - from) from (state_of a)) p limit result (view w.new) (length w.old) }
+    ensures when_paused { result.outcome ≡ None → (length t.old < 256) ⊎ (length x.old < 512) }
 {
     let mut steps: u32 = from;
     let mut crowded = false;
-    let ending = 'run: loop {
+    let outcome = 'run: loop {
         if !turns::is_open(w) {
             let listed = branches::listed_systems(w);
-            break 'run Ending::Final(Outcome::Systems(listed.count));
+            break 'run Some(Outcome::Systems(listed.count));
         }
         if limit <= steps {
-            break 'run Ending::Final(Outcome::Refused(Reason::Steps, 0));
+            break 'run Some(Outcome::Refused(Reason::Steps, 0));
         }
         if crowded {
-            break 'run Ending::Paused;
+            break 'run None;
         }
         match steps::prepare(w, p, t, i, r) {
-            Prepared::Done => {}
-            Prepared::Crowded => {
-                break 'run Ending::Paused;
+            Ok(Prepared::Done) => {}
+            Ok(Prepared::Crowded) => {
+                break 'run None;
             }
-            Prepared::Stop(why) => {
-                break 'run Ending::Final(Outcome::Refused(why, 0));
+            Err(why) => {
+                break 'run Some(Outcome::Refused(why, 0));
             }
-            Prepared::Members(d) => {
+            Ok(Prepared::Members(d)) => {
                 let k = d.k;
                 let degree = d.degree;
                 let pivot = d.pivot;
                 let initial = d.initial;
-                let closing = d.closing;
-                let place = d.place;
-                let mut left = d.left;
+                let dividends = d.dividends;
+                let mut left = dividends.count();
                 'members: while 0 < left {
-                    let mut n = members::take(w, closing, place, left, r);
+                    let mut n = members::take(w, dividends, left, r);
                     'division: loop {
                         let e = degrees::degree(&r[..n], k);
                         if e < degree {
@@ -122,21 +118,21 @@ pub fn run(
                                 n = m;
                             }
                             Err(Passed::Degree) => {
-                                break 'run Ending::Final(Outcome::Refused(Reason::Degree, 0));
+                                break 'run Some(Outcome::Refused(Reason::Degree, 0));
                             }
                             Err(Passed::Terms) => {
-                                break 'run Ending::Final(Outcome::Refused(Reason::Terms, 0));
+                                break 'run Some(Outcome::Refused(Reason::Terms, 0));
                             }
                         }
                     }
                     left -= 1;
-                    if !members::put_back(w, p, closing, left, r, n) {
-                        break 'run Ending::Final(Outcome::Refused(Reason::Room, 0));
+                    if let Err(why) = members::put_back(w, p, dividends, left, r, n) {
+                        break 'run Some(Outcome::Refused(why, 0));
                     }
                 }
             }
         }
         steps += 1;
     };
-    Stretch { steps, ending }
+    Stretch { steps, outcome }
 }

@@ -5,14 +5,23 @@ ghost use Rattle.std.specs.Prelude.{◌≡◌, false, [], ◌<◌, length, get_o
 ghost use Rattle.records.specs.Records.{view};
 ghost use Rattle.stored.specs.Stored.{member, Storable};
 ghost use Rattle.branches.specs.Words.{is_one};
-ghost use Rattle.branches.specs.Area.{Leaves, Opened, capacity, split_area, unfinished_split, WhenOpen, outside};
+ghost use Rattle.branches.specs.Area.{Leaves, Opened, split_area, unfinished_split, WhenOpen};
 
+use branches::Member;
 use polynomials::Term;
+use records::Record;
+use tables::Reason;
 
 // The initial goes into Q, and a branch is set aside: with P without its member at place i, which is f, then the
-// initial, then the rest; with Q as it was; with T. Whether there is room. The open branch is made the one set aside,
+// initial, then the rest; with Q as it was; with T. Refused if there is no room. The open branch is made the one set aside,
 // and the other is built on top of it; without room it stops on the way (`unfinished_split`).
-pub fn split(w: &mut [u32], i: usize, f: &[Term], initial: &[Term], rest: &[Term]) -> bool
+pub fn split(
+    w: &mut [Record],
+    i: usize,
+    f: &[Term],
+    initial: &[Term],
+    rest: &[Term],
+) -> Result<(), Reason>
     requires opened { Opened w.old }
     requires when_open { WhenOpen w.old (λ b bs ss.
         (i < length b.P) × (get_or b.P i [] ≡ f.now) × (is_one initial.now ≡ false) × (member initial.now b.Q ≡ false)) }
@@ -20,17 +29,12 @@ pub fn split(w: &mut [u32], i: usize, f: &[Term], initial: &[Term], rest: &[Term
     requires storable_2 { Storable initial.now }
     requires storable_3 { Storable rest.now }
     ensures when_open_2 { WhenOpen w.old (λ b bs ss.
-        Leaves (capacity w.old) (unfinished_split (capacity w.old) i initial.now rest.now b bs ss)
+        Leaves (length w.old) (unfinished_split (length w.old) i initial.now rest.now b bs ss)
         (split_area i initial.now rest.now b bs ss) result (view w.new)) }
-    ensures outside_stays { outside w.new ≡ outside w.old }
 {
     let b = branches::open_branch(w);
-    changes::remove_p(w, i);
-    if !puts::put_p(w, initial) {
-        return false;
-    }
-    if !puts::put_p(w, rest) {
-        return false;
-    }
+    changes::remove(w, Member::P(i));
+    puts::put_p(w, initial)?;
+    puts::put_p(w, rest)?;
     keeping::keep_open(w, i, b.p as usize - 1, f, initial)
 }

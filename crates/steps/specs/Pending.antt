@@ -1,5 +1,5 @@
 -- What is left of a step when its rule has been found.
-use Rattle.std.specs.Prelude.{◌≡◌, List, [], map, reverse, ℕ, ◌+◌, ◌≤◌, ◌<◌, length, get_or, take}
+use Rattle.std.specs.Prelude.{◌≡◌, List, [], map, reverse, ℕ, ◌+◌, ◌≤◌, ◌<◌, length, get_or, take, Result, Ok, Err}
 use Rattle.polynomials.specs.Packed.{terms}
 use Rattle.polynomials.specs.Division.{degree, leader, coefficient}
 use Rattle.polynomials.specs.Working.{Holds}
@@ -10,10 +10,11 @@ use Rattle.records.specs.Records.{Rec}
 use Rattle.branches.specs.Area.{Stored, Area, Held, with_open}
 use Rattle.representation.specs.Represent.{branch_of, system_of, state_of, chosen}
 use Rattle.representation.specs.Ready.{Ready}
-use Rattle.members.specs.Members.{HasMembers, rest_of_step}
+use Rattle.members.specs.Members.{count, HasMembers, rest_of_step}
 use Rattle.pivots.specs.declared.Division.{Division}
 use Rattle.steps.specs.declared.Prepared.{Prepared}
-use Rattle.steps.specs.declared.Prepared.TheVariants.{Done, Members, Stop, Crowded}
+use Rattle.steps.specs.declared.Prepared.TheVariants.{Done, Members, Crowded}
+use Rattle.tables.specs.declared.Reason.{Reason}
 use Rattle.polynomials.specs.declared.Term.{Term as Packed}
 
 -- The member of P at `place` is led by v(k+1).
@@ -36,8 +37,8 @@ pub record Comes (l : Limits) (p : ℕ) (S : Stepped) (d : Division) (t i : List
   pub pivot_inside : d.pivot ≤ length t
   pub initial_inside : d.initial ≤ length i
   pub pivoted : Pivoted p d.k d.degree (take d.pivot t) (take d.initial i)
-  pub has : HasMembers d.closing d.place d.left b
-  pub goes : S ≡ rest_of_step l p d.closing d.place d.left d.k (terms (take d.pivot t)) b bs ss
+  pub has : HasMembers d.dividends (count d.dividends) b
+  pub goes : S ≡ rest_of_step l p d.dividends (count d.dividends) d.k (terms (take d.pivot t)) b bs ss
 
 -- The step S is that with the pivot of the branch b at `place`, which is longer than t.
 pub record TooLong (l : Limits) (p : ℕ) (S : Stepped) (t : List Packed) (v : List Rec) (most : ℕ) (b : Stored) (bs ss : List Stored) : Type 0 where
@@ -50,8 +51,8 @@ pub record TooLong (l : Limits) (p : ℕ) (S : Stepped) (t : List Packed) (v : L
 
 -- What the code answers of the step S: it is done, it comes to a division, or it stops and leaves an open branch, over the waiting ones and the systems
 -- that there were; or it was not begun, since the pivot is longer than t.
-abbrev pub Prepares : Limits → ℕ → Stepped → Prepared → List Packed → List Packed → List Rec → ℕ → List Stored → List Stored → Type 0
-Prepares l p S Done t i v most bs ss = (a : Area) × (S ≡ next (state_of a)) × Held v most a × Ready p a
-Prepares l p S (Members d) t i v most bs ss = (b : Stored) × Comes l p S d t i v most b bs ss
-Prepares l p S (Stop why) t i v most bs ss = (S ≡ stopped why) × ((b : Stored) × Held v most (with_open b bs ss))
-Prepares l p S Crowded t i v most bs ss = (b : Stored) × TooLong l p S t v most b bs ss
+abbrev pub Prepares : Limits → ℕ → Stepped → Result Prepared Reason → List Packed → List Packed → List Rec → ℕ → List Stored → List Stored → Type 0
+Prepares l p S (Ok Done) t i v most bs ss = (a : Area) × (S ≡ next (state_of a)) × Held v most a × Ready p a
+Prepares l p S (Ok (Members d)) t i v most bs ss = (b : Stored) × Comes l p S d t i v most b bs ss
+Prepares l p S (Err why) t i v most bs ss = (S ≡ stopped why) × ((b : Stored) × Held v most (with_open b bs ss))
+Prepares l p S (Ok Crowded) t i v most bs ss = (b : Stored) × TooLong l p S t v most b bs ss

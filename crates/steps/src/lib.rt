@@ -1,18 +1,23 @@
 // A step of the run in the work area: the rule that fits is found and applied, but for the divisions of rules 4 and 5.
 #![tactic(auto)]
 
-ghost use Rattle.std.specs.Prelude.{◌≡◌, List, map, reverse, ◌≤◌, ◌<◌, length};
+ghost use Rattle.std.specs.Prelude.{◌≡◌, List, map, reverse, ◌≤◌, ◌<◌, length, Ok};
+ghost use Rattle.residues.specs.Prime.{Prime};
 ghost use Rattle.records.specs.Records.{view};
-ghost use Rattle.branches.specs.Area.{Stored, capacity, with_open, HeldIn, WhenOpen, outside};
+ghost use Rattle.branches.specs.Area.{Stored, with_open, HeldIn, WhenOpen};
 ghost use Rattle.rules.specs.Rule.{rule_with};
 ghost use Rattle.rules.specs.Step.{apply, step};
 ghost use Rattle.representation.specs.Represent.{branch_of, system_of, chosen};
 ghost use Rattle.steps.specs.declared.Prepared.TheVariants.{Crowded};
-ghost use Rattle.representation.specs.Ready.{Ready, Modulus, limits_in};
+ghost use Rattle.representation.specs.Ready.{Ready, limits_in};
 ghost use Rattle.steps.specs.Pending.{Leads, Prepares};
 
+use branches::Member;
+use monomials::Variable;
 use pivots::Division;
 use polynomials::Term;
+use records::Record;
+use residues::Modulus;
 use survey::Choice;
 use tables::Reason;
 
@@ -21,68 +26,69 @@ use tables::Reason;
 pub enum Prepared {
     Done,
     Members(Division),
-    Stop(Reason),
     Crowded,
 }
 
 // Rules 3 to 5 for the pivot in v(k+1), which stands in P at `place`: it and its initial are loaded into t and i, if it fits t.
 fn with_pivot(
-    w: &mut [u32],
-    p: u64,
-    k: u32,
+    w: &mut [Record],
+    p: Modulus,
+    k: Variable,
     place: usize,
     t: &mut [Term],
     i: &mut [Term],
     r: &mut [Term],
-) -> Prepared
-    requires modulus { Modulus p × ((b : Stored) × (bs : List Stored) × (ss : List Stored) × HeldIn w.old (with_open b bs ss)
-        × Ready p (with_open b bs ss) × Leads k place b) }
+) -> Result<Prepared, Reason>
+    requires prime { Prime p }
+    requires ready { (b : Stored) × (bs : List Stored) × (ss : List Stored) × HeldIn w.old (with_open b bs ss)
+        × Ready p (with_open b bs ss) × Leads k place b }
     requires t_in_bounds { (length t.old ≤ length i.old) × (256 ≤ length r.old) }
     ensures when_open { WhenOpen w.old (λ b bs ss.
         Ready p (with_open b bs ss) → Leads k place b
-        → Prepares (limits_in (capacity w.old)) p
-        (apply (limits_in (capacity w.old)) p (map branch_of bs) (reverse (map system_of ss)) (rule_with k (chosen b place) (branch_of b)) (branch_of b))
-        result t.new i.new (view w.new) (capacity w.old) bs ss) }
-    ensures when_crowded { result ≡ Crowded → (length t.old < 256) × (w.new ≡ w.old) }
-    ensures outside_stays { outside w.new ≡ outside w.old }
+        → Prepares (limits_in (length w.old)) p
+        (apply (limits_in (length w.old)) p (map branch_of bs) (reverse (map system_of ss)) (rule_with k (chosen b place) (branch_of b)) (branch_of b))
+        result t.new i.new (view w.new) (length w.old) bs ss) }
+    ensures when_crowded { result ≡ Ok Crowded → (length t.old < 256) × (w.new ≡ w.old) }
 {
-    if t.len() < branches::terms_p(w, place) {
-        return Prepared::Crowded;
+    if t.len() < branches::count_terms(w, Member::P(place)) {
+        return Ok(Prepared::Crowded);
     }
-    let n = branches::load_p(w, place, t);
+    let n = branches::load(w, Member::P(place), t);
     let m = terms::initial(&t[..n], k, i);
     if pivots::is_settled(w, &i[..m]) {
         let d = pivots::prepare_division(w, k, place, &t[..n], m);
-        return Prepared::Members(d);
+        return Ok(Prepared::Members(d));
     }
-    if pivots::apply_split(w, p, k, place, &t[..n], &i[..m], r) {
-        return Prepared::Done;
-    }
-    Prepared::Stop(Reason::Room)
+    pivots::apply_split(w, p, k, place, &t[..n], &i[..m], r)?;
+    Ok(Prepared::Done)
 }
 
 // Finds the rule that fits and applies it, but for the divisions of rules 4 and 5.
-pub fn prepare(w: &mut [u32], p: u64, t: &mut [Term], i: &mut [Term], r: &mut [Term]) -> Prepared
-    requires modulus { Modulus p × ((b : Stored) × (bs : List Stored) × (ss : List Stored) × HeldIn w.old (with_open b bs ss) × Ready p (with_open b bs ss)) }
+pub fn prepare(
+    w: &mut [Record],
+    p: Modulus,
+    t: &mut [Term],
+    i: &mut [Term],
+    r: &mut [Term],
+) -> Result<Prepared, Reason>
+    requires prime { Prime p }
+    requires ready { (b : Stored) × (bs : List Stored) × (ss : List Stored) × HeldIn w.old (with_open b bs ss) × Ready p (with_open b bs ss) }
     requires t_in_bounds { (length t.old ≤ length i.old) × (256 ≤ length r.old) }
     ensures when_open { WhenOpen w.old (λ b bs ss. Ready p (with_open b bs ss)
-        → Prepares (limits_in (capacity w.old)) p
-        (step (limits_in (capacity w.old)) p (branch_of b) (map branch_of bs) (reverse (map system_of ss)))
-        result t.new i.new (view w.new) (capacity w.old) bs ss) }
-    ensures when_crowded { result ≡ Crowded → (length t.old < 256) × (w.new ≡ w.old) }
-    ensures outside_stays { outside w.new ≡ outside w.old }
+        → Prepares (limits_in (length w.old)) p
+        (step (limits_in (length w.old)) p (branch_of b) (map branch_of bs) (reverse (map system_of ss)))
+        result t.new i.new (view w.new) (length w.old) bs ss) }
+    ensures when_crowded { result ≡ Ok Crowded → (length t.old < 256) × (w.new ≡ w.old) }
 {
     match survey::choose(w) {
         Choice::Drop => {
             turns::drop(w);
-            return Prepared::Done;
+            Ok(Prepared::Done)
         }
         Choice::List => {
             turns::list(w);
-            return Prepared::Done;
+            Ok(Prepared::Done)
         }
-        Choice::Pivot(k, place) => {
-            return with_pivot(w, p, k, place, t, i, r);
-        }
+        Choice::Pivot(k, place) => with_pivot(w, p, k, place, t, i, r),
     }
 }

@@ -9,16 +9,19 @@ ghost use Rattle.heads.specs.Heads.{AllHold};
 ghost use Rattle.search.specs.Search.{other_place};
 ghost use Rattle.survey.specs.Survey.{choice};
 
+use monomials::Variable;
+use records::Record;
+
 // Rule 1, rule 2, or the pivot: the position k of its variable v(k+1), and its place in P.
 #[derive(Clone, Copy)]
 pub enum Choice {
     Drop,
     List,
-    Pivot(u32, usize),
+    Pivot(Variable, usize),
 }
 
 // Which of rules 1 and 2 fits the open branch, or its pivot.
-pub fn choose(w: &[u32]) -> Choice
+pub fn choose(w: &[Record]) -> Choice
     requires opened { Opened w.now }
     requires when_open { WhenOpen w.now (λ b bs ss. (p : ℕ) × AllHold p b.P × AllHold p b.Q) }
     ensures { WhenOpen w.now (λ b bs ss. result ≡ choice (branch_of b)) }
@@ -35,13 +38,13 @@ pub fn choose(w: &[u32]) -> Choice
         return Choice::List;
     }
     let h = heads::highest_leader(w, b.first, p);
-    let k = h.saturating_sub(1);
+    let k = Variable::new(h.saturating_sub(1));
     Choice::Pivot(k, search::pivot_place(w, b.first, p, k))
 }
 
 // The other polynomial of P that v(k+1) leads, the pivot standing at `place`.
-pub fn find_other(w: &[u32], k: u32, place: usize) -> Option<usize>
-    requires opened { Opened w.now × (k < 8) }
+pub fn find_other(w: &[Record], k: Variable, place: usize) -> Option<usize>
+    requires opened { Opened w.now }
     requires when_open { WhenOpen w.now (λ b bs ss. (p : ℕ) × AllHold p b.P) }
     ensures { WhenOpen w.now (λ b bs ss. result ≡ other_place (other k place (branch_of b).P)) }
 {

@@ -3,58 +3,48 @@
 
 ghost use Rattle.std.specs.Prelude.{◌≡◌, [], ◌∷◌, ◌≤◌};
 ghost use Rattle.records.specs.Records.{view};
-ghost use Rattle.branches.specs.Area.{Area, Held, Opened, capacity, with_open, empty, has_branch, HeldIn, WhenOpen, outside};
+ghost use Rattle.branches.specs.Area.{Area, Held, Opened, with_open, empty, has_branch, HeldIn, WhenOpen};
+
+use records::Record;
 
 // An empty first branch, whatever the words were.
-pub fn begin(w: &mut [u32])
-    requires { 2 ≤ capacity w.old }
-    ensures held { Held (view w.new) (capacity w.old) (with_open empty [] []) }
-    ensures outside_stays { outside w.new ≡ outside w.old }
+pub fn begin(w: &mut [Record])
+    requires { (2 ≤ length w.old) × (length w.old ≤ 65536) }
+    ensures held { Held (view w.new) (length w.old) (with_open empty [] []) }
 {
-    let most = branches::count_records(w);
-    records::write(w, 0, 1, 2, most as u32, 0);
-    records::write(w, 1, 0, 0, 0, 0);
+    w[0] = [1, 2, w.len() as u32, 0];
+    w[1] = [0, 0, 0, 0];
 }
 
 // Whether a branch is left.
-pub fn is_open(w: &[u32]) -> bool
+pub fn is_open(w: &[Record]) -> bool
     requires { (a : Area) × HeldIn w.now a }
     ensures { (a : Area) → HeldIn w.now a → result ≡ has_branch a }
 {
-    records::get0(w, 0) != 0
+    w[0][0] != 0
 }
 
 // Drops the open branch.
-pub fn drop(w: &mut [u32])
+pub fn drop(w: &mut [Record])
     requires { Opened w.old }
     ensures when_open { WhenOpen w.old (λ b bs ss.
-        Held (view w.new) (capacity w.old) (record { branches = bs; systems = ss })) }
-    ensures outside_stays { outside w.new ≡ outside w.old }
+        Held (view w.new) (length w.old) (record { branches = bs; systems = ss })) }
 {
-    let at = records::get0(w, 0) as usize;
-    let under = records::get3(w, at);
-    let top = records::get2(w, 0);
-    let systems = records::get3(w, 0);
-    records::write(w, 0, under, at as u32, top, systems);
+    let [at, _, top, systems] = w[0];
+    let [_, _, _, under] = w[at as usize];
+    w[0] = [under, at, top, systems];
 }
 
 // Lists the open branch as a system, with its P, which is empty at rule 2.
-pub fn list(w: &mut [u32])
+pub fn list(w: &mut [Record])
     requires { Opened w.old }
     ensures when_open { WhenOpen w.old (λ b bs ss.
-        Held (view w.new) (capacity w.old) (record { branches = bs; systems = b ∷ ss })) }
-    ensures outside_stays { outside w.new ≡ outside w.old }
+        Held (view w.new) (length w.old) (record { branches = bs; systems = b ∷ ss })) }
 {
-    let at = records::get0(w, 0) as usize;
-    let end = records::get1(w, 0) as usize;
-    let top = records::get2(w, 0) as usize;
-    let systems = records::get3(w, 0);
-    let p = records::get0(w, at);
-    let q = records::get1(w, at);
-    let t = records::get2(w, at);
-    let under = records::get3(w, at);
+    let [at, end, top, systems] = w[0];
+    let [p, q, t, under] = w[at as usize];
     let to = top - (end - at);
-    moves::move_up(w, at, end - at, to);
-    records::write(w, to, p, q, t, 0);
-    records::write(w, 0, under, at as u32, to as u32, systems + 1);
+    w.copy_within(at as usize..end as usize, to as usize);
+    w[to as usize] = [p, q, t, 0];
+    w[0] = [under, at, to, systems + 1];
 }

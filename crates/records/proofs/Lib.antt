@@ -1,2 +1,0 @@
--- `Rows` has the laws of `view`.
-pub mod Rows

@@ -1,0 +1,2 @@
+-- `Rows` has the laws of `view`.
+pub mod Rows

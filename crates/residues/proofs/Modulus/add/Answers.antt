@@ -2,12 +2,12 @@
 use Rattle.std.proofs.Common.{sym, ◌∙◌, mod-eq_of_lt, arith}
 use Rattle.std.proofs.Math.Nat.{mod-eq-sub-mod}
 use Rattle.residues.specs.Residue.{sum}
-use Rattle.residues.proofs.add.Goals as goal
+use Rattle.residues.proofs.Modulus.add.Goals as goal
 
-pub returns-then-s-p : goal.returns-then-s-p
+pub returns-then-s-self : goal.returns-then-s-self
 unfolding sum
-returns-then-s-p c = sym (mod-eq_of_lt (omega arith))
+returns-then-s-self c = sym (mod-eq_of_lt (omega arith))
 
-pub returns-else-s-p : goal.returns-else-s-p
+pub returns-else-s-self : goal.returns-else-s-self
 unfolding sum
-returns-else-s-p c = sym (mod-eq-sub-mod (omega arith) ∙ mod-eq_of_lt (omega arith))
+returns-else-s-self c = rw (sym c.self.view_is) (sym (mod-eq-sub-mod (omega arith) ∙ mod-eq_of_lt (omega arith)))

@@ -37,8 +37,8 @@ pub record Factors (p : ℕ) (f g : List Packed) : Type 0 where
   pub within : degrees_over (at_most 255) (terms f) (terms g) ≡ false
 
 -- A residue other than 0 stands in f, so that p is not 0.
-pub factors : (p : ℕ) (f g : List Packed) → Holds p f × (0 < length f) → Holds p g × (degrees_over (at_most 255) (terms f) (terms g) ≡ false) → Factors p f g
-factors p f g b c = record { positive = omega (arith, coefficient_below f 0 (record { coefficient = 0; monomial = 0 }) b.1 p b.0.canonical); left = b.0; right = c.0; within = c.1 }
+pub factors : {p : ℕ} {f g : List Packed} → Holds p f × (0 < length f) → Holds p g × (degrees_over (at_most 255) (terms f) (terms g) ≡ false) → Factors p f g
+factors {p} {f} b c = record { positive = omega (arith, coefficient_below f 0 (record { coefficient = 0; monomial = 0 }) b.1 p b.0.canonical); left = b.0; right = c.0; within = c.1 }
 
 module _ {p : ℕ} {f g : List Packed} (F : Factors p f g) where
   pub rows_none : (x : List Packed) → RowsFrom p f g (length f) 0 x

@@ -1,5 +1,5 @@
 // The jobs on two polynomials.
-ghost use Rattle.std.specs.Prelude.{◌≡◌, ◌&&◌, ◌+◌, ◌≤◌, ◌<◌, IfSome, length, take, is_some};
+ghost use Rattle.std.specs.Prelude.{◌≡◌, ◌&&◌, ◌+◌, ◌≤◌, IfSome, length, take, is_some};
 ghost use Rattle.std.proofs.Props.{props};
 ghost use Rattle.residues.specs.Prime.{Prime, is_modulus};
 ghost use Rattle.polynomials.specs.Bounds.{standard, bounded_round, bounded_remainder};
@@ -12,7 +12,9 @@ use crate::generator::Generator;
 use crate::operands::ZERO;
 use crate::print;
 use crate::print::Polynomial;
+use monomials::Variable;
 use polynomials::{Passed, Term};
+use residues::Modulus;
 use std::io;
 use std::io::Write;
 
@@ -28,11 +30,10 @@ pub fn run(out: &mut impl Write, p: u32, f: &[Term], g: &[Term]) -> io::Result<(
 // Two polynomials modulo a prime below 2^31.
 #[derive(Clone, Copy)]
 struct Operands<'a> {
-    p: u64,
+    p: Modulus,
     f: &'a [Term],
     g: &'a [Term],
     ghost prime: { Prime p } by { Prim.hlevel props },
-    ghost small: { p < 2147483648 },
     ghost f_holds: { Holds p f.now } by { Prim.hlevel (props, Canonical-prop) },
     ghost g_holds: { Holds p g.now } by { Prim.hlevel (props, Canonical-prop) },
 }
@@ -42,17 +43,18 @@ impl<'a> Operands<'a> {
         ensures tested { is_some result ≡ (is_modulus p && (is_held p f.now && is_held p g.now)) }
         ensures same { IfSome result (λ o. (o.p ≡ p) × (o.f.now ≡ f.now) × (o.g.now ≡ g.now)) }
     {
-        let modulus = u64::from(p);
+        let number = u64::from(p);
         if primes::is_prime(p)
-            && forms::is_polynomial(modulus, f)
-            && forms::is_polynomial(modulus, g)
+            && forms::is_polynomial(number, f)
+            && forms::is_polynomial(number, g)
         {
-            return Some(Operands { p: modulus, f, g });
+            let p = Modulus::new(number);
+            return Some(Operands { p, f, g });
         }
         None
     }
 
-    fn all(self, out: &mut impl Write) -> io::Result<()> {
+    fn all(&self, out: &mut impl Write) -> io::Result<()> {
         writeln!(out, "f {}", Polynomial(self.f))?;
         writeln!(out, "g {}", Polynomial(self.g))?;
         self.product(out)?;
@@ -65,7 +67,7 @@ impl<'a> Operands<'a> {
         self.values(out)
     }
 
-    fn swapped(self) -> Self {
+    fn swapped(&self) -> Self {
         Operands {
             p: self.p,
             f: self.g,
@@ -73,21 +75,21 @@ impl<'a> Operands<'a> {
         }
     }
 
-    fn product(self, out: &mut impl Write) -> io::Result<()> {
+    fn product(&self, out: &mut impl Write) -> io::Result<()> {
         let mut x = [ZERO; 512];
         let mut z = [ZERO; 512];
         let answer = products::product(self.p, self.f, self.g, &mut x, &mut z);
         print::formed(out, "product", answer, &x)
     }
 
-    fn difference(self, out: &mut impl Write) -> io::Result<()> {
+    fn difference(&self, out: &mut impl Write) -> io::Result<()> {
         let mut x = [ZERO; 512];
         let answer = sums::difference(self.p, self.f, self.g, &mut x);
         print::formed(out, "difference", answer, &x)
     }
 
     // f made monic, and whether it was.
-    fn monic(self, out: &mut impl Write) -> io::Result<()> {
+    fn monic(&self, out: &mut impl Write) -> io::Result<()> {
         let mut terms = [ZERO; 256];
         let x = &mut terms[..self.f.len()];
         x.copy_from_slice(self.f);
@@ -97,35 +99,39 @@ impl<'a> Operands<'a> {
     }
 
     // Leading variable, initial and rest of f.
-    fn split(self, out: &mut impl Write) -> io::Result<()> {
+    #[tactic(auto, using(crate::proofs::Rounds::leader_small))]
+    fn split(&self, out: &mut impl Write) -> io::Result<()> {
         let lead = terms::leader(self.f);
         writeln!(out, "leader {lead}")?;
         if lead == 0 {
             return Ok(());
         }
+        let k = Variable::new(lead - 1);
         let mut x = [ZERO; 256];
-        let n = terms::initial(self.f, lead - 1, &mut x);
+        let n = terms::initial(self.f, k, &mut x);
         writeln!(out, "initial {}", Polynomial(&x[..n]))?;
-        writeln!(out, "rest {}", Polynomial(terms::rest(self.f, lead - 1)))
+        writeln!(out, "rest {}", Polynomial(terms::rest(self.f, k)))
     }
 
     // The division of f by g in the leading variable of g.
-    fn divide(self, out: &mut impl Write) -> io::Result<()> {
+    #[tactic(auto, using(crate::proofs::Rounds::leader_small))]
+    fn divide(&self, out: &mut impl Write) -> io::Result<()> {
         let lead = terms::leader(self.g);
         if lead == 0 {
             return writeln!(out, "no divisor");
         }
+        let k = Variable::new(lead - 1);
         let mut i = [ZERO; 256];
-        let m = terms::initial(self.g, lead - 1, &mut i);
+        let m = terms::initial(self.g, k, &mut i);
         let mut r = [ZERO; 512];
         let n = self.f.len();
         r[..n].copy_from_slice(self.f);
-        let answer = remainder(self.p, lead - 1, &i[..m], self.g, &mut r, n);
+        let answer = remainder(self.p, k, &i[..m], self.g, &mut r, n);
         print::formed(out, "remainder", answer, &r)
     }
 
     // The values of f at the origin and at a random point.
-    fn values(self, out: &mut impl Write) -> io::Result<()> {
+    fn values(&self, out: &mut impl Write) -> io::Result<()> {
         let origin = [0u32; 8];
         let x = Generator::new(1 + self.f.len() as u64).point(self.p);
         writeln!(out, "value {}", values::value(self.p, self.f, &origin))?;
@@ -135,14 +141,13 @@ impl<'a> Operands<'a> {
 
 // Rounds on the first m terms of r, until the degree is below that of t: each lowers it, so that there are at most 255.
 fn remainder(
-    p: u64,
-    k: u32,
+    p: Modulus,
+    k: Variable,
     i: &[Term],
     t: &[Term],
     r: &mut [Term],
     m: usize,
 ) -> Result<usize, Passed>
-    requires le_p { (1 ≤ p) × (p < 2147483648) }
     requires holds { Holds p t.now × (leader (terms t.now) ≡ k + 1) }
     requires holds_2 { Holds p i.now × (terms i.now ≡ initial k (terms t.now)) }
     requires m_in_bounds { (m ≤ length r.old) × (512 ≤ length r.old) × Holds p (take m r.old) }
@@ -161,15 +166,15 @@ fn remainder(
 
 // One round on the first n terms of r, with buffers of its own.
 fn round(
-    p: u64,
-    k: u32,
+    p: Modulus,
+    k: Variable,
     d: u64,
     i: &[Term],
     t: &[Term],
     r: &mut [Term],
     n: usize,
 ) -> Result<usize, Passed>
-    requires le_p { (1 ≤ p) × (p < 2147483648) × (k < 8) × (1 ≤ d) }
+    requires d_positive { 1 ≤ d }
     requires holds { Holds p t.now × (degree k (terms t.now) ≡ d) }
     requires holds_2 { Holds p i.now × (terms i.now ≡ coefficient k d (terms t.now)) }
     requires n_in_bounds { (n ≤ length r.old) × (512 ≤ length r.old) × Holds p (take n r.old) × (d ≤ degree k (terms (take n r.old))) }

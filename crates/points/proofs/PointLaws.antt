@@ -1,8 +1,8 @@
 -- A point against a table: what the tests of a point and the answers of its polynomials say of it.
-use Rattle.std.specs.Prelude.{◌≡◌, Bool, true, false, not, List, ℕ, Ok, Err}
+use Rattle.std.specs.Prelude.{◌≡◌, Bool, true, false, not, List, ℕ, ◌⊎◌, Ok, Err}
 use Rattle.std.specs.Bool.{Decides}
 use Rattle.std.proofs.lemmas.Bool.Decides.{same_from_decides}
-use Rattle.std.proofs.Common.{sym}
+use Rattle.std.proofs.Common.{sym, inl, inr}
 use Rattle.polynomials.specs.Poly.{Poly}
 use Rattle.polynomials.specs.Value.{Point}
 use Rattle.tables.specs.declared.Reason.TheVariants.{Point as PointReason}
@@ -41,6 +41,11 @@ module _ {w : List ℕ} {t : Table} (of : TableOf w t) {i : Input} (is_read : re
 
   pub nonzeros : ArePolynomialsFrom t 0 (word t.words.now 0 3) i.Q
   nonzeros = rw (of.words, of.modulus, of.variables) k.nonzeros
+
+  -- Whichever of the two chains an index begins, it was read.
+  pub chain_read : {first : ℕ} → (first ≡ word t.words.now 0 2) ⊎ (first ≡ word t.words.now 0 3) → (fs : List Poly) × ArePolynomialsFrom t 0 first fs
+  chain_read (inl e) = (i.P, rw e zeros)
+  chain_read (inr e) = (i.Q, rw e nonzeros)
 
   module _ (x : List ℕ) where
     answer : try_input w x ≡ unless (not (is_point t.modulus t.variables x)) PointReason 0 (good (solves t.modulus x i.P i.Q))

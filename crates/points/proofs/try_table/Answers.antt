@@ -1,5 +1,6 @@
+use Rattle.std.proofs.Common.{rules}
 use Rattle.std.proofs.lemmas.Result.{err_from_is_err_and}
-use Rattle.points.proofs.PointLaws.{table_refused, zeros, nonzeros, no_point, some_nonzero, all_zeros, point_residues}
+use Rattle.points.proofs.PointLaws.{table_refused, chain_read, no_point, some_nonzero, all_zeros, point_residues}
 use Rattle.points.proofs.try_table.Goals as goal
 
 pub returns-in_err-table : goal.returns-in_err-table
@@ -13,13 +14,13 @@ returns-then-not-is_point c =
     rw c.refusal.ensures (no_point T.0 T.1.1 c.args.point.now (rw c.if-not-is_point.true at c.is_point.ensures))
 
 pub all_zero-requires-clause-read : goal.all_zero-requires-clause-read
-all_zero-requires-clause-read c = let T = c.in_ok-table.ensures.ok in rw c.word.ensures (T.1.0.P, zeros T.0 T.1.1)
+all_zero-requires-clause-read c = let T = c.in_ok-table.ensures.ok in chain_read T.0 T.1.1 (search rules)
 
 pub all_zero-requires-clause-point : goal.all_zero-requires-clause-point
 all_zero-requires-clause-point c = point_residues c.in_ok-table.table.modulus c.in_ok-table.table.variables c.args.point.now (rw c.if-not-is_point.false at c.is_point.ensures)
 
 pub none_zero-requires-clause-read : goal.none_zero-requires-clause-read
-none_zero-requires-clause-read c = let T = c.in_ok-table.ensures.ok in rw c.word-then-all_zero.ensures (T.1.0.Q, nonzeros T.0 T.1.1)
+none_zero-requires-clause-read c = let T = c.in_ok-table.ensures.ok in chain_read T.0 T.1.1 (search rules)
 
 pub none_zero-requires-clause-point : goal.none_zero-requires-clause-point
 none_zero-requires-clause-point c = point_residues c.in_ok-table.table.modulus c.in_ok-table.table.variables c.args.point.now (rw c.if-not-is_point.false at c.is_point.ensures)

@@ -6,7 +6,8 @@ ghost use Rattle.polynomials.specs.Poly.{Poly};
 ghost use Rattle.polynomials.specs.Value.{value_modulo, Point};
 ghost use Rattle.tables.specs.Words.{word, records};
 ghost use Rattle.tables.specs.Solve.{all_zero, none_zero};
-ghost use Rattle.evaluation.specs.Walks.{IsPolynomialAt, ArePolynomialsFrom, TestsEach, plus_term};
+ghost use Rattle.words.specs.Table.{IsPolynomialAt, ArePolynomialsFrom};
+ghost use Rattle.evaluation.specs.Walks.{TestsEach, plus_term};
 
 use polynomials::Term;
 use readers::Reader;

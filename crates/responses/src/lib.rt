@@ -56,13 +56,14 @@ pub fn respond(
     ensures response_made { Adds (response bytes.now) text.old text.new }
     ensures responded { Responded bytes.now words.old work.old output.old words.new work.new output.new }
 {
+    // The line of refusal 1: its number, the steps, the record.
     let refused = [1, 0, 0];
     if LONGEST < bytes.len() {
-        moves::clear(work);
+        work.fill(0);
         return text.put_line(&refused);
     }
     if bytes.len() % 4 != 0 {
-        moves::clear(work);
+        work.fill(0);
         return text.put_line(&refused);
     }
     decoding::decode(bytes, words);

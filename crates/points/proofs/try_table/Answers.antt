@@ -1,6 +1,7 @@
 use Rattle.std.proofs.Common.{rules}
 use Rattle.std.proofs.lemmas.Result.{err_from_is_err_and}
-use Rattle.points.proofs.PointLaws.{table_refused, chain_read, no_point, some_nonzero, all_zeros, point_residues}
+use Rattle.words.proofs.Accepted.{chain_read}
+use Rattle.points.proofs.PointLaws.{table_refused, no_point, some_nonzero, all_zeros, point_residues}
 use Rattle.points.proofs.try_table.Goals as goal
 
 pub returns-in_err-table : goal.returns-in_err-table

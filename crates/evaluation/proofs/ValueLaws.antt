@@ -14,7 +14,8 @@ use Rattle.tables.specs.laws.Chains.{term_read}
 use Rattle.tables.specs.laws.Linked.{left, good_same, Member, chain_end, chain_next, chain_on, chain_less, TermsLeft, terms_left, HeadsLeft, heads_left}
 use Rattle.tables.specs.laws.Accepted.{readable_numbers}
 use Rattle.words.specs.declared.Table.{Table}
-use Rattle.evaluation.specs.Walks.{IsPolynomialAt, ArePolynomialsFrom, TestsEach, plus_term}
+use Rattle.words.specs.Table.{IsPolynomialAt, ArePolynomialsFrom}
+use Rattle.evaluation.specs.Walks.{TestsEach, plus_term}
 
 -- ── the prime ──
 module _ (t : Table) where

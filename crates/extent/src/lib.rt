@@ -6,7 +6,7 @@ ghost use Rattle.std.specs.Prelude.{◌≡◌, ◌≤◌, ◌<◌};
 ghost use Rattle.tables.specs.Words.{records};
 ghost use Rattle.extent.specs.Extent.{chain_last, extent};
 
-// The last record of the chain that word j of record i starts; i itself where it starts none.
+// The last record of the chain that word j of record i starts; i itself where it starts none, which no chain ends at.
 fn chain_last(list: &[u32], i: usize, j: usize) -> usize
     requires { (i < records list.now) × (j < 4) }
     ensures value { result ≡ chain_last list.now i j }
@@ -14,6 +14,7 @@ fn chain_last(list: &[u32], i: usize, j: usize) -> usize
 {
     let mut at = i;
     let mut index = words::word(list, i, j);
+    // No iterator: an index that leads astray ends the walk too.
     while let Ok(Some(k)) = words::follow(list, at, index) {
         at = k;
         index = words::word(list, k, 3);

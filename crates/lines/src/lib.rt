@@ -106,7 +106,7 @@ impl<'a> Text<'a> {
         self.put_number(u64::from(number));
     }
 
-    // Adds a line, where there is room for it.
+    // Adds a line, where there is room for it. Not by `write!`, whose contract says nothing of the text's room.
     pub fn put_line(&mut self, numbers: &[u32])
         requires { 21 * length numbers.now + 1 ≤ self.old.free }
         ensures { LineAdded numbers.now self.old self.new }

@@ -14,7 +14,7 @@ use Rattle.tables.specs.laws.Accepted.{ListRead, list_read, system_read}
 use Rattle.words.specs.declared.Table.{Table}
 use Rattle.words.specs.Table.{TableOf}
 use Rattle.words.proofs.Laws.{first_record}
-use Rattle.evaluation.specs.Walks.{ArePolynomialsFrom}
+use Rattle.words.specs.Table.{ArePolynomialsFrom}
 use Rattle.lists.specs.Listed.{IsSystemAt, AreSystemsOf}
 
 -- A T chain that was read is a chain of heads.

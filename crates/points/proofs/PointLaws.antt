@@ -12,11 +12,10 @@ use Rattle.tables.specs.Read.{Input, good, unless, read_table}
 use Rattle.tables.specs.Solve.{is_point, all_zero, none_zero, solves, refusal, checked, try_input, Tries}
 use Rattle.tables.specs.Solved.{PointOf}
 use Rattle.tables.specs.laws.Chains.{checked_refused}
-use Rattle.tables.specs.laws.Accepted.{TableRead, table_read}
 use Rattle.tables.specs.laws.Solved.{point_is}
 use Rattle.words.specs.declared.Table.{Table}
-use Rattle.words.specs.Table.{TableOf}
-use Rattle.evaluation.specs.Walks.{ArePolynomialsFrom}
+use Rattle.words.specs.Table.{TableOf, ArePolynomialsFrom}
+use Rattle.words.proofs.Accepted.{ChainsRead, chains_read}
 
 -- ── a point ──
 pub point_decided : (p n : ℕ) (x : List ℕ) (b : Bool) → Decides b (PointOf p n x) → b ≡ is_point p n x
@@ -33,19 +32,13 @@ module _ (w x : List ℕ) where
 
 -- The table of an accepted input.
 module _ {w : List ℕ} {t : Table} (of : TableOf w t) {i : Input} (is_read : read_table w ≡ good i) where
-  k : TableRead w i
-  k = table_read w i is_read
-
-  pub zeros : ArePolynomialsFrom t 0 (word t.words.now 0 2) i.P
-  zeros = rw (of.words, of.modulus, of.variables) k.zeros
-
-  pub nonzeros : ArePolynomialsFrom t 0 (word t.words.now 0 3) i.Q
-  nonzeros = rw (of.words, of.modulus, of.variables) k.nonzeros
+  k : ChainsRead t i
+  k = chains_read of is_read
 
   module _ (x : List ℕ) where
     answer : try_input w x ≡ unless (not (is_point t.modulus t.variables x)) PointReason 0 (good (solves t.modulus x i.P i.Q))
     unfolding try_input
-    answer = rw (is_read, k.modulus, k.variables, of.modulus, of.variables)
+    answer = rw (is_read, k.modulus, k.variables)
 
     pub no_point : false ≡ is_point t.modulus t.variables x → Tries w x (Err (refusal PointReason 0))
     no_point e = rw (answer, ← e)
@@ -55,9 +48,9 @@ module _ {w : List ℕ} {t : Table} (of : TableOf w t) {i : Input} (is_read : re
         (a_is : (fs : List Poly) → ArePolynomialsFrom t 0 first fs → a ≡ all_zero t.modulus x fs) where
       pub some_nonzero : a ≡ false → Tries w x (Ok a)
       unfolding solves
-      some_nonzero h = rw (answer, ← is_one, ← a_is i.P (rw P zeros), h)
+      some_nonzero h = rw (answer, ← is_one, ← a_is i.P (rw P k.zeros), h)
 
       pub all_zeros : a ≡ true → {second : ℕ} → second ≡ word t.words.now 0 3 → {b : Bool} → ((fs : List Poly) → ArePolynomialsFrom t 0 second fs → b ≡ none_zero t.modulus x fs)
           → Tries w x (Ok b)
       unfolding solves
-      all_zeros h Q b_is = rw (answer, ← is_one, ← a_is i.P (rw P zeros), h, ← b_is i.Q (rw Q nonzeros))
+      all_zeros h Q b_is = rw (answer, ← is_one, ← a_is i.P (rw P k.zeros), h, ← b_is i.Q (rw Q k.nonzeros))

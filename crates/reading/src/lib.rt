@@ -11,7 +11,7 @@ ghost use Rattle.words.specs.Table.{TableOf};
 use tables::{Reason, Refusal};
 use words::Table;
 
-// The header: shape, prime and number of variables.
+// The header: shape, prime and number of variables. A table comes as words: document 01's form.
 #[tactic(auto, using(crate::proofs::ReadLaws::header_tests))]
 pub fn check_header(words: &[u32]) -> Result<Table<'_>, Refusal>
     ensures ok { IfOk result (λ t. TableOf words.now t × (checked (read_header words.now accepted) ≡ Ok tt)) }
@@ -50,6 +50,7 @@ pub fn check_heads(table: Table<'_>, from: usize, first: u32) -> Result<(), Refu
     requires { from < records table.words.now }
     ensures { result ≡ checked (read_heads table.entry.words.now table.entry.modulus table.entry.variables (records table.entry.words.now) from first) }
 {
+    // No iterator, as in `checking`: it would yield Results.
     let mut next = table.follow(from, first)?;
     while let Some(i) = next {
         checking::check_head(table, i)?;

@@ -56,6 +56,7 @@ pub fn respond(
     ensures response_made { Adds (response bytes.now) text.old text.new }
     ensures responded { Responded bytes.now words.old work.old output.old words.new work.new output.new }
 {
+    // The line of refusal 1: its number, the steps, the record.
     let refused = [1, 0, 0];
     if LONGEST < bytes.len() {
         work.fill(0);

@@ -13,7 +13,7 @@ ghost use Rattle.systems.specs.Count.{counted};
 use tables::{Reason, Refusal};
 use words::Table;
 
-// The leading variable of the polynomial with its head in record `head`: that of its first term.
+// The leading variable of the polynomial with its head in record `head`: that of its first term, or 0, as document 01 has it.
 #[tactic(auto, using(crate::proofs::SystemLaws::leading))]
 fn leader_at(table: Table<'_>, head: usize) -> u32
     requires record { head < records table.words.now }
@@ -32,6 +32,7 @@ fn check_triangle(table: Table<'_>, system: usize) -> Result<(), Refusal>
     requires { system < records table.words.now }
     ensures { result ≡ checked (read_triangle table.entry.words.now table.entry.modulus table.entry.variables (records table.entry.words.now) 0 system (word table.entry.words.now system 0)) }
 {
+    // No iterator, as in `checking`: it would yield Results.
     let mut next = table.follow(system, table.word(system, 0))?;
     let mut last = 0;
     while let Some(i) = next {
@@ -64,6 +65,7 @@ fn check_system(table: Table<'_>, i: usize) -> Result<(), Refusal>
 fn check_systems(table: Table<'_>) -> Result<u32, Refusal>
     ensures { result ≡ counted (read_systems table.entry.words.now table.entry.modulus table.entry.variables (records table.entry.words.now) 0 (word table.entry.words.now 0 2)) }
 {
+    // No iterator, as in `checking`: it would yield Results.
     let mut next = table.follow(0, table.word(0, 2))?;
     let mut count: u32 = 0;
     while let Some(i) = next {

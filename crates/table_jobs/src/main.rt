@@ -22,6 +22,7 @@ enum Kind {
     Placing,
 }
 
+// The kind as the input has it.
 impl From<u32> for Kind {
     ghost use Rattle.std.specs.Prelude.{◌≡◌};
     ghost use Rattle.table_jobs.specs.Line.{kind_of};

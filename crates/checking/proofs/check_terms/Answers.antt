@@ -19,35 +19,18 @@ pub loop-next-init : goal.loop-next-init
 loop-next-init c =
     let t = c.args.table in
     let C = terms_chain t.words.now t.modulus t.variables in
-    leads_from C (reached_first C (0, _) c.args.head _ c.requires) (rw (← c.word.ensures) c.in_ok-next.ensures)
+    let l = leads_from C (reached_first C (0, _) c.args.head _ c.requires) (rw (← c.word.ensures) c.in_ok-next.ensures) in
+    record { inside = λ i. leads_inside C l; leads = l }
 
 pub returns : goal.returns
-returns c = let t = c.args.table in leads_end (terms_chain t.words.now t.modulus t.variables) c.loop-next.invariant c.in_default.is
+returns c = let t = c.args.table in leads_end (terms_chain t.words.now t.modulus t.variables) c.loop-next.invariant.leads c.in_default.is
 
 -- ── the term that it leads to ──
-pub check_term-requires : goal.check_term-requires
-check_term-requires c = let t = c.args.table in leads_inside (terms_chain t.words.now t.modulus t.variables) c.loop-next.invariant c.in-Some.is
-
 pub returns-in_err-check_term : goal.returns-in_err-check_term
 returns-in_err-check_term c =
     let t = c.args.table in
     let p = err_from_is_err_and c.from_residual-in_err-check_term.result c.from_residual-in_err-check_term.ensures.1 in
-    rw (p.1, p.2) (leads_refused (terms_chain t.words.now t.modulus t.variables) c.loop-next.invariant c.in-Some.is c.in_err-check_term.ensures)
-
-pub word-requires-in-Some : goal.word-requires-in-Some
-word-requires-in-Some c =
-    let t = c.args.table in (leads_inside (terms_chain t.words.now t.modulus t.variables) c.loop-next.invariant c.in-Some.is, omega arith)
-
-pub word-requires-in-Some-2 : goal.word-requires-in-Some-2
-word-requires-in-Some-2 c =
-    let t = c.args.table in (leads_inside (terms_chain t.words.now t.modulus t.variables) c.loop-next.invariant c.in-Some.is, omega arith)
-
-pub word-requires-in-Some-3 : goal.word-requires-in-Some-3
-word-requires-in-Some-3 c =
-    let t = c.args.table in (leads_inside (terms_chain t.words.now t.modulus t.variables) c.loop-next.invariant c.in-Some.is, omega arith)
-
-pub follow-requires-in-Some : goal.follow-requires-in-Some
-follow-requires-in-Some c = let t = c.args.table in leads_inside (terms_chain t.words.now t.modulus t.variables) c.loop-next.invariant c.in-Some.is
+    rw (p.1, p.2) (leads_refused (terms_chain t.words.now t.modulus t.variables) c.loop-next.invariant.leads c.in-Some.is c.in_err-check_term.ensures)
 
 pub overflow_add-m : goal.overflow_add-m
 overflow_add-m c =
@@ -61,18 +44,20 @@ returns-in_err-next-2 c =
     let t = c.args.table in
     let p = err_from_is_err_and c.from_residual-in_err-next-2.result c.from_residual-in_err-next-2.ensures.1 in
     let same = c.packed.ensures.1 ∙ ap₂ exponents c.word-in-Some.ensures c.word-in-Some-2.ensures in
-    let on = terms_on t.words.now t.modulus t.variables c.loop-next.m c.loop-next.last c.packed.result c.loop-next.invariant c.in-Some.is c.in_ok-check_term.ensures same in
+    let on = terms_on t.words.now t.modulus t.variables c.loop-next.m c.loop-next.last c.packed.result c.loop-next.invariant.leads c.in-Some.is c.in_ok-check_term.ensures same in
     rw (p.1, p.2) (strays_from (terms_chain t.words.now t.modulus t.variables) on (rw (← c.word-in-Some-3.ensures) c.in_err-next-2.ensures))
 
 pub loop-next-smaller : goal.loop-next-smaller
 loop-next-smaller c =
     let t = c.args.table in
-    let inside = leads_inside (terms_chain t.words.now t.modulus t.variables) c.loop-next.invariant c.in-Some.is in
+    let inside = c.loop-next.invariant.inside c.in-Some.i c.in-Some.is in
     left_less t.words.now c.word-in-Some-3.result c.in-Some.i c.in_ok-next-2.next c.loop-next.next c.in-Some.is inside c.in_ok-next-2.ensures
 
 pub loop-next-preserved : goal.loop-next-preserved
 loop-next-preserved c =
     let t = c.args.table in
     let same = c.packed.ensures.1 ∙ ap₂ exponents c.word-in-Some.ensures c.word-in-Some-2.ensures in
-    let on = terms_on t.words.now t.modulus t.variables c.loop-next.m c.loop-next.last c.packed.result c.loop-next.invariant c.in-Some.is c.in_ok-check_term.ensures same in
-    leads_from (terms_chain t.words.now t.modulus t.variables) on (rw (← c.word-in-Some-3.ensures) c.in_ok-next-2.ensures)
+    let on = terms_on t.words.now t.modulus t.variables c.loop-next.m c.loop-next.last c.packed.result c.loop-next.invariant.leads c.in-Some.is c.in_ok-check_term.ensures same in
+    let C = terms_chain t.words.now t.modulus t.variables in
+    let l = leads_from C on (rw (← c.word-in-Some-3.ensures) c.in_ok-next-2.ensures) in
+    record { inside = λ i. leads_inside C l; leads = l }

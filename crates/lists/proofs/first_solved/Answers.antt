@@ -5,13 +5,13 @@ use Rattle.lists.proofs.ListLaws.{placed_first, placed_none, placed_at, placed_i
 use Rattle.lists.proofs.first_solved.Goals as goal
 
 pub step-r-requires : goal.step-r-requires
-step-r-requires c = rw c.new.ensures (first_record c.args.table, omega arith)
+step-r-requires c = rw c.new.ensures (first_record c.args.point.table, omega arith)
 
 pub loop-r-init : goal.loop-r-init
 loop-r-init c =
     rw (c.step-r.ensures, c.new.ensures) (record {
       on_table = refl;
-      still = placed_first c.args.table c.args.point.now c.requires.read.1;
+      still = placed_first c.args.point.table c.args.point.residues.now c.requires.read.1;
     })
 
 pub is_solved-requires-clause-record : goal.is_solved-requires-clause-record
@@ -33,7 +33,7 @@ pub overflow_add-place : goal.overflow_add-place
 overflow_add-place c =
     let more : c.loop-r.r.at ≢ 0 = search rules in
     let inside = placed_inside c.loop-r.invariant.still more in
-    let t = c.args.table in
+    let t = c.args.point.table in
     omega (arith, inside, (whole_records t.words.now t.readable.whole).2)
 
 pub step-r-requires-in-loop-r : goal.step-r-requires-in-loop-r

@@ -8,9 +8,9 @@ use Rattle.lists.proofs.first_solved.Given as goal
 
 abbrev pub invariant-loop-r : goal.invariant-loop-r
 invariant-loop-r l = record {
-  on_table : l.r.table ≡ l.table.words;
-  still : Placed l.table l.point l.r.at l.place;
+  on_table : l.r.table ≡ l.point.table.words;
+  still : Placed l.point.table l.point.residues.now l.r.at l.place;
 }
 
 abbrev pub decreases-loop-r : goal.decreases-loop-r
-decreases-loop-r l = left (records l.table.words.now) l.r.at
+decreases-loop-r l = left (records l.point.table.words.now) l.r.at

@@ -3,7 +3,7 @@ use Rattle.lists.proofs.ListLaws.{zeros, nonzeros}
 use Rattle.lists.proofs.is_solved.Goals as goal
 
 pub all_zero-requires-clause-read : goal.all_zero-requires-clause-read
-all_zero-requires-clause-read c = let s = c.requires.read in rw c.word.ensures (s.0.T, zeros c.args.table c.args.i s.0 s.1)
+all_zero-requires-clause-read c = let s = c.requires.read in rw c.word.ensures (s.0.T, zeros c.args.point.table c.args.i s.0 s.1)
 
 pub none_zero-requires-clause-read : goal.none_zero-requires-clause-read
-none_zero-requires-clause-read c = let s = c.requires.read in rw c.word-then-all_zero.ensures (s.0.U, nonzeros c.args.table c.args.i s.0 s.1)
+none_zero-requires-clause-read c = let s = c.requires.read in rw c.word-then-all_zero.ensures (s.0.U, nonzeros c.args.point.table c.args.i s.0 s.1)

@@ -1,5 +1,7 @@
+use Rattle.std.proofs.Common.{rules, sym}
 use Rattle.std.proofs.lemmas.Result.{err_from_is_err_and}
-use Rattle.points.proofs.PointLaws.{table_refused, zeros, nonzeros, no_point, some_nonzero, all_zeros, point_residues}
+use Rattle.words.proofs.Accepted.{chain_read}
+use Rattle.points.proofs.PointLaws.{table_refused, no_point, some_nonzero, all_zeros}
 use Rattle.points.proofs.try_table.Goals as goal
 
 pub returns-in_err-table : goal.returns-in_err-table
@@ -7,30 +9,28 @@ returns-in_err-table c =
     let p = err_from_is_err_and c.from_residual.result c.from_residual.ensures.1 in
     rw (p.1, p.2) (table_refused c.args.table.now c.args.point.now c.in_err-table.ensures.err)
 
-pub returns-then-not-is_point : goal.returns-then-not-is_point
-returns-then-not-is_point c =
+pub returns-in_err-point : goal.returns-in_err-point
+returns-in_err-point c =
+    let p = err_from_is_err_and c.from_residual-in_err-point.result c.from_residual-in_err-point.ensures.1 in
     let T = c.in_ok-table.ensures.ok in
-    rw c.refusal.ensures (no_point T.0 T.1.1 c.args.point.now (rw c.if-not-is_point.true at c.is_point.ensures))
+    let e = c.in_err-point.ensures.err in
+    rw (p.1, p.2, e.0) (no_point T.0 T.1.1 c.args.point.now (sym e.1))
 
 pub all_zero-requires-clause-read : goal.all_zero-requires-clause-read
-all_zero-requires-clause-read c = let T = c.in_ok-table.ensures.ok in rw c.word.ensures (T.1.0.P, zeros T.0 T.1.1)
-
-pub all_zero-requires-clause-point : goal.all_zero-requires-clause-point
-all_zero-requires-clause-point c = point_residues c.in_ok-table.table.modulus c.in_ok-table.table.variables c.args.point.now (rw c.if-not-is_point.false at c.is_point.ensures)
+all_zero-requires-clause-read c = let T = c.in_ok-table.ensures.ok in rw c.in_ok-point.ensures.ok.0 (chain_read T.0 T.1.1 (search rules))
 
 pub none_zero-requires-clause-read : goal.none_zero-requires-clause-read
-none_zero-requires-clause-read c = let T = c.in_ok-table.ensures.ok in rw c.word-then-all_zero.ensures (T.1.0.Q, nonzeros T.0 T.1.1)
-
-pub none_zero-requires-clause-point : goal.none_zero-requires-clause-point
-none_zero-requires-clause-point c = point_residues c.in_ok-table.table.modulus c.in_ok-table.table.variables c.args.point.now (rw c.if-not-is_point.false at c.is_point.ensures)
+none_zero-requires-clause-read c = let T = c.in_ok-table.ensures.ok in rw c.in_ok-point.ensures.ok.0 (chain_read T.0 T.1.1 (search rules))
 
 pub returns-then-all_zero : goal.returns-then-all_zero
 returns-then-all_zero c =
     let T = c.in_ok-table.ensures.ok in
-    all_zeros T.0 T.1.1 c.args.point.now (rw c.if-not-is_point.false at c.is_point.ensures) c.word.ensures c.all_zero.ensures c.if-all_zero.true
-    c.word-then-all_zero.ensures c.none_zero.ensures
+    let P = c.in_ok-point.ensures.ok in
+    all_zeros T.0 T.1.1 c.args.point.now (sym P.2) c.word.ensures (rw (P.0, P.1) at c.all_zero.ensures) c.if-all_zero.true
+    c.word-then-all_zero.ensures (rw (P.0, P.1) at c.none_zero.ensures)
 
 pub returns-else-all_zero : goal.returns-else-all_zero
 returns-else-all_zero c =
     let T = c.in_ok-table.ensures.ok in
-    some_nonzero T.0 T.1.1 c.args.point.now (rw c.if-not-is_point.false at c.is_point.ensures) c.word.ensures c.all_zero.ensures c.if-all_zero.false
+    let P = c.in_ok-point.ensures.ok in
+    some_nonzero T.0 T.1.1 c.args.point.now (sym P.2) c.word.ensures (rw (P.0, P.1) at c.all_zero.ensures) c.if-all_zero.false

@@ -1,5 +1,5 @@
 -- Each way that an index leads, and the head there.
-use Rattle.std.proofs.Common.{arith, sym}
+use Rattle.std.proofs.Common.{sym}
 use Rattle.std.proofs.lemmas.Result.{err_from_is_err_and}
 use Rattle.tables.specs.laws.Chains.{checked_good, reached_first, strays_from, leads_from, leads_end, leads_inside, leads_refused, leads_on, left_less, heads_chain}
 use Rattle.reading.proofs.check_heads.Goals as goal
@@ -15,27 +15,18 @@ pub loop-next-init : goal.loop-next-init
 loop-next-init c =
     let t = c.args.table in
     let C = heads_chain t.words.now t.modulus t.variables in
-    leads_from C (reached_first C tt c.args.from c.args.first c.requires) c.in_ok-next.ensures
+    let l = leads_from C (reached_first C tt c.args.from c.args.first c.requires) c.in_ok-next.ensures in
+    record { inside = λ i. leads_inside C l; leads = l }
 
 pub returns : goal.returns
-returns c = let t = c.args.table in leads_end (heads_chain t.words.now t.modulus t.variables) c.loop-next.invariant c.in_default.is
+returns c = let t = c.args.table in leads_end (heads_chain t.words.now t.modulus t.variables) c.loop-next.invariant.leads c.in_default.is
 
 -- ── the head that it leads to ──
-pub check_head-requires : goal.check_head-requires
-check_head-requires c = let t = c.args.table in leads_inside (heads_chain t.words.now t.modulus t.variables) c.loop-next.invariant c.in-Some.is
-
 pub returns-in_err-check_head : goal.returns-in_err-check_head
 returns-in_err-check_head c =
     let t = c.args.table in
     let p = err_from_is_err_and c.from_residual-in_err-check_head.result c.from_residual-in_err-check_head.ensures.1 in
-    rw (p.1, p.2) (leads_refused (heads_chain t.words.now t.modulus t.variables) c.loop-next.invariant c.in-Some.is c.in_err-check_head.ensures)
-
-pub word-requires : goal.word-requires
-word-requires c =
-    let t = c.args.table in (leads_inside (heads_chain t.words.now t.modulus t.variables) c.loop-next.invariant c.in-Some.is, omega arith)
-
-pub follow-requires-in-Some : goal.follow-requires-in-Some
-follow-requires-in-Some c = let t = c.args.table in leads_inside (heads_chain t.words.now t.modulus t.variables) c.loop-next.invariant c.in-Some.is
+    rw (p.1, p.2) (leads_refused (heads_chain t.words.now t.modulus t.variables) c.loop-next.invariant.leads c.in-Some.is c.in_err-check_head.ensures)
 
 -- ── the next index ──
 pub returns-in_err-next-2 : goal.returns-in_err-next-2
@@ -43,18 +34,19 @@ returns-in_err-next-2 c =
     let t = c.args.table in
     let p = err_from_is_err_and c.from_residual-in_err-next-2.result c.from_residual-in_err-next-2.ensures.1 in
     let g = checked_good _ (sym c.in_ok-check_head.ensures) in
-    let on = leads_on (heads_chain t.words.now t.modulus t.variables) c.loop-next.invariant c.in-Some.is g.1 in
+    let on = leads_on (heads_chain t.words.now t.modulus t.variables) c.loop-next.invariant.leads c.in-Some.is g.1 in
     rw (p.1, p.2) (strays_from (heads_chain t.words.now t.modulus t.variables) on (rw (← c.word.ensures) c.in_err-next-2.ensures))
 
 pub loop-next-smaller : goal.loop-next-smaller
 loop-next-smaller c =
     let t = c.args.table in
-    let inside = leads_inside (heads_chain t.words.now t.modulus t.variables) c.loop-next.invariant c.in-Some.is in
+    let inside = c.loop-next.invariant.inside c.in-Some.i c.in-Some.is in
     left_less t.words.now c.word.result c.in-Some.i c.in_ok-next-2.next c.loop-next.next c.in-Some.is inside c.in_ok-next-2.ensures
 
 pub loop-next-preserved : goal.loop-next-preserved
 loop-next-preserved c =
     let t = c.args.table in
     let g = checked_good _ (sym c.in_ok-check_head.ensures) in
-    let on = leads_on (heads_chain t.words.now t.modulus t.variables) c.loop-next.invariant c.in-Some.is g.1 in
-    leads_from (heads_chain t.words.now t.modulus t.variables) on (rw (← c.word.ensures) c.in_ok-next-2.ensures)
+    let C = heads_chain t.words.now t.modulus t.variables in
+    let l = leads_from C (leads_on C c.loop-next.invariant.leads c.in-Some.is g.1) (rw (← c.word.ensures) c.in_ok-next-2.ensures) in
+    record { inside = λ i. leads_inside C l; leads = l }

@@ -1,6 +1,6 @@
 use Rattle.std.proofs.Common.{◌≢◌, refl, arith, rules}
 use Rattle.evaluation.proofs.ValueLaws.{tests_start, tests_end, tests_inside, tests_read, tests_less, tests_next, tests_fail}
-use Rattle.evaluation.proofs.all_pass.Goals as goal
+use Rattle.evaluation.proofs.Point.all_pass.Goals as goal
 
 pub loop-r-init : goal.loop-r-init
 loop-r-init g c =

@@ -3,13 +3,13 @@ use Rattle.std.proofs.Common.{◌≡◌}
 use Rattle.tables.specs.Words.{records}
 use Rattle.tables.specs.laws.Linked.{left}
 use Rattle.evaluation.proofs.ValueLaws.{TestsLeft}
-use Rattle.evaluation.proofs.all_pass.Given as goal
+use Rattle.evaluation.proofs.Point.all_pass.Given as goal
 
 abbrev pub invariant-loop-r : goal.invariant-loop-r
 invariant-loop-r g l = record {
-  on_table : l.r.table ≡ l.table.words;
-  still : TestsLeft (goal.F-post g l.test) l.table l.from l.first l.point l.r.at;
+  on_table : l.r.table ≡ l.self.table.words;
+  still : TestsLeft (goal.F-post g l.test) l.self.table l.from l.first l.self.residues.now l.r.at;
 }
 
 abbrev pub decreases-loop-r : goal.decreases-loop-r
-decreases-loop-r g l = left (records l.table.words.now) l.r.at
+decreases-loop-r g l = left (records l.self.table.words.now) l.r.at

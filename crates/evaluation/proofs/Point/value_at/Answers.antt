@@ -1,6 +1,6 @@
 use Rattle.std.proofs.Common.{◌≢◌, refl, arith, rules}
 use Rattle.evaluation.proofs.ValueLaws.{value_start, value_end, value_inside, value_residue, value_less, value_next}
-use Rattle.evaluation.proofs.value_at.Goals as goal
+use Rattle.evaluation.proofs.Point.value_at.Goals as goal
 
 pub loop-r-init : goal.loop-r-init
 loop-r-init c =

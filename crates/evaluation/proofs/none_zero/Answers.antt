@@ -1,6 +1,0 @@
-use Rattle.std.proofs.Common.{◌∙◌, not, eqb, rules}
-use Rattle.evaluation.proofs.ValueLaws.{tested, none_tested}
-use Rattle.evaluation.proofs.none_zero.Goals as goal
-
-pub returns : goal.returns
-returns c = λ fs e. tested (λ v. not (eqb v 0)) fs _ (c.all_pass.ensures fs e) (λ v b k. search rules) ∙ none_tested c.args.table.modulus c.args.point.now fs

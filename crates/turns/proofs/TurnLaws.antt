@@ -1,12 +1,9 @@
 -- What is held once the open branch is dropped or listed, and at the beginning of a run.
 use mathlib.Core.Path.{◌≡◌, sym, ap, ◌∙◌}
-use mathlib.Core.Bool.{true, false, not}
 use mathlib.Core.List.{List, [], ◌∷◌, ◌++◌, append_assoc, append-nil}
 use Prim.Native.Nat.{ℕ, ◌+◌, ◌-◌, ◌≤◌, ◌<◌}
 use native.Mathlib.Omega.{arith}
-use borrow.Author.Tests.{ne_eqb}
-use lib.Dec.{eqb}
-use lib.ListN.{length, take, drop, get_or, set, length-append, take-append-drop}
+use lib.ListN.{length, take, drop, set, length-append}
 use lib.Seq.{set_at, take_at, drop_at, take-append-le, take-append-add, length-take-le}
 use Rattle.std.specs.List.{copy_within}
 use Rattle.records.specs.Records.{Rec, record_of, view, moved}
@@ -21,11 +18,6 @@ length_le_systems_records : (ss : List Stored) → length ss ≤ length (systems
 unfolding systems_records
 length_le_systems_records [] = omega arith
 length_le_systems_records (s ∷ ss) = omega (arith, length-append (branch_records 0 s) (systems_records ss), length_le_systems_records ss)
-
--- A branch is left where the control record does not say 0.
-pub open_test : (bs : List Stored) (x : ℕ) → x ≡ (stack bs).1 → not (eqb x 0) ≡ elim bs [ [] ↦ false | b ∷ bs ↦ true ]
-open_test [] x h = ap (λ (n : ℕ). not (eqb n 0)) h
-open_test (b ∷ bs) x h = ap not (ne_eqb x 0 (λ e. absurd (omega arith)))
 
 module _ {v : List Rec} {most : ℕ} {b : Stored} {bs ss : List Stored} (H : Held v most (with_open b bs ss)) where
   behind : List Rec

@@ -1,16 +1,17 @@
 -- The member's head is known, and it is taken out there.
+use Rattle.std.proofs.Common.{arith}
 use Rattle.changes.proofs.ChangeLaws.{some_p, some_q, take_p, take_q}
 use Rattle.changes.proofs.remove.Goals as goal
 
 pub overflow_sub-b : goal.overflow_sub-b
 overflow_sub-b c =
     let o = c.requires.opened in
-    some_p o.3 (c.open_branch-b.ensures _ _ _ o.3) c.args.member (c.requires.when_open _ _ _ o.3) c.in-P.is
+    omega (arith, some_p o.3 (c.open_branch-b.ensures _ _ _ o.3) c.args.member (c.requires.when_open _ _ _ o.3) c.in-P.is)
 
 pub overflow_sub-b-in-Q : goal.overflow_sub-b-in-Q
 overflow_sub-b-in-Q c =
     let o = c.requires.opened in
-    some_q o.3 (c.open_branch-b.ensures _ _ _ o.3) c.args.member (c.requires.when_open _ _ _ o.3) c.in-Q.is
+    omega (arith, some_q o.3 (c.open_branch-b.ensures _ _ _ o.3) c.args.member (c.requires.when_open _ _ _ o.3) c.in-Q.is)
 
 pub take_at-requires : goal.take_at-requires
 take_at-requires c =

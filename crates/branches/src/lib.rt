@@ -7,6 +7,7 @@ ghost use Rattle.std.specs.Prelude.{◌≡◌, [], ◌≤◌, ◌<◌, length, g
 ghost use Rattle.stored.specs.Stored.{member, Storable};
 ghost use Rattle.branches.specs.Area.{Area, HeldIn, Opened, WhenOpen};
 ghost use Rattle.branches.specs.Listed.{listed_of};
+ghost use Rattle.branches.specs.Members.{HasMember, member_of, members_before, behind};
 ghost use Rattle.branches.specs.Open.{open_of};
 ghost use Rattle.branches.specs.Words.{is_one};
 
@@ -21,6 +22,7 @@ pub struct Listed {
 }
 
 // The listed systems, by the control record.
+#[tactic(auto, using(records::proofs::Rows::word_2, records::proofs::Rows::word_3, crate::proofs::ControlLaws::listed_is))]
 pub fn listed_systems(w: &[Record]) -> Listed
     requires { (a : Area) × HeldIn w.now a }
     ensures { (a : Area) → HeldIn w.now a → result ≡ listed_of (length w.now) a }

@@ -5,7 +5,7 @@ use Rattle.std.proofs.lemmas.List.{get_or-map, take_all}
 use Rattle.std.proofs.lemmas.List.Edits.{paste_none, paste_more}
 use Rattle.polynomials.specs.declared.Term.{Term as Packed}
 use Rattle.records.specs.Records.{Rec, zero_record, moved}
-use Rattle.stored.specs.Stored.{head, term_record, poly_records, inserted}
+use Rattle.stored.specs.Stored.{head, term_record, poly_records, inserted, removed}
 use Rattle.stored.specs.laws.Stored.{length_poly_records}
 
 -- What a read finds past the end.
@@ -29,10 +29,13 @@ term_written v f at i h k =
     (λ t. set (paste v at (poly_records f) (i + 1)) (to t) (sym (get_or-poly_records f i k) t))
     ∙ paste_more v at (poly_records f) (i + 1) zero_record (omega arith) (omega (arith, length_poly_records f))
 
--- The m records at `at` moved up by the length of b, and b written there.
-pub moved_then_stored : (v b : List Rec) (at m n : ℕ) → length b ≡ n → at + (n + m) ≤ length v
-    → paste (moved v at m (at + n)) at b n ≡ inserted v at m b
-moved_then_stored v b at m n l fits =
+-- The m records at `at` moved up by the records of f, and these written there.
+pub moved_then_stored : (v : List Rec) (f : List Packed) (at m : ℕ) → at + (length f + 1 + m) ≤ length v
+    → paste (moved v at m (at + (length f + 1))) at (poly_records f) (length f + 1) ≡ inserted v at m (poly_records f)
+moved_then_stored v f at m fits =
+    let b : List Rec = poly_records f in
+    let n : ℕ = length f + 1 in
+    let l : length b ≡ n = length_poly_records f in
     let X : List Rec = take (at + n) v in
     let Y : List Rec = take m (drop at v) in
     let Z : List Rec = drop (at + n + m) v in
@@ -43,3 +46,8 @@ moved_then_stored v b at m n l fits =
     ∙ (λ t. front t ++ b ++ drop_at X (Y ++ Z) (at + n) lX t)
     ∙ append_assoc (take at v) b (Y ++ Z)
     ∙ ap (λ (k : ℕ). take at v ++ (b ++ (Y ++ drop k v))) end
+
+-- The records behind n records at `at` moved down over these.
+pub moved_down : (v : List Rec) (at n k m : ℕ) → k ≡ m → moved v (at + n) k at ≡ removed v at n m
+moved_down v at n k m e =
+    ap (λ (m : ℕ). moved v (at + n) m at) e ∙ append_assoc (take at v) (take m (drop (at + n) v)) (drop (at + m) v)

@@ -37,7 +37,7 @@ low_word hi lo l =
     ap (λ (e : List ℕ). word (take 4 e)) (bytes_words hi lo l)
     ∙ ap word (take_at (bytes 4 lo) (bytes 4 hi) 4 (length_bytes 4 lo)) ∙ word_bytes 4 lo l
 
-index_is : {A : Type 0} (l : List A) (i k : ℕ) → (0 < length l → k ≡ i) → (length l ≡ 0 → k ≡ 0) → k ≡ index_of l i
+pub index_is : {A : Type 0} (l : List A) (i k : ℕ) → (0 < length l → k ≡ i) → (length l ≡ 0 → k ≡ 0) → k ≡ index_of l i
 index_is [] i k some none = none refl
 index_is (x ∷ l) i k some none = some (omega arith)
 

@@ -1,9 +1,9 @@
 -- r times b to the k leaves what x to the e leaves.
 use Rattle.std.proofs.Common.{◌≡◌, ◌*◌, ◌%◌, ◌^◌, ◌≤◌, ◌<◌}
-use Rattle.residues.proofs.power.Given as goal
+use Rattle.residues.proofs.Modulus.power.Given as goal
 
 abbrev pub invariant-loop-k : goal.invariant-loop-k
-invariant-loop-k l = (1 ≤ l.k) × (l.r < l.p) × (l.b < l.p) × (l.r * l.b ^ l.k % l.p ≡ l.x ^ l.e % l.p)
+invariant-loop-k l = (1 ≤ l.k) × (l.r < l.self) × (l.b < l.self) × (l.r * l.b ^ l.k % l.self ≡ l.x ^ l.e % l.self)
 
 abbrev pub decreases-loop-k : goal.decreases-loop-k
 decreases-loop-k l = l.k

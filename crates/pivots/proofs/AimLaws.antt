@@ -1,6 +1,5 @@
 -- What the search for another polynomial makes of rules 4 and 5.
 use mathlib.Core.Path.{◌≡◌}
-use mathlib.Core.Bool.{true, false}
 use mathlib.Core.List.{List}
 use Prim.Native.Nat.{ℕ}
 use native.Mathlib.Omega.{arith}
@@ -10,6 +9,7 @@ use Rattle.records.specs.Records.{Rec}
 use Rattle.branches.specs.Area.{Stored, Held, with_open, closed}
 use Rattle.search.specs.Search.{other_place}
 use Rattle.std.proofs.Common.{None, Some}
+use Rattle.members.specs.declared.Dividends.TheVariants.{InP, InQ}
 use Rattle.pivots.specs.declared.Division.{Division}
 use Rattle.pivots.specs.Aimed.{division_of, aimed}
 
@@ -18,13 +18,13 @@ module _ (k d n m i : ℕ) (b : Stored) (bs ss : List Stored) (v : List Rec) (mo
   Aims q o = (q ≡ division_of o k d n m b) × Held v most (with_open (aimed o i b) bs ss)
 
   pub aims_at : (o : Found) (j e : ℕ) → other_place o ≡ Some j → e ≡ d → Held v most (with_open b bs ss)
-      → Aims (record { k = k; degree = e; pivot = n; initial = m; closing = false; place = j; left = 1 }) o
+      → Aims (record { k = k; degree = e; pivot = n; initial = m; dividends = InP j }) o
   aims_at none j e q x h = let z : ◌≡◌ {A = ℕ} 0 1 = cc in absurd (omega arith)
   aims_at (found c) j e q x h =
       let y : j ≡ c.place = cc in
-      ((λ t. record { k = k; degree = x t; pivot = n; initial = m; closing = false; place = y t; left = 1 }), h)
+      ((λ t. record { k = k; degree = x t; pivot = n; initial = m; dividends = InP (y t) }), h)
 
   pub aims_all : (o : Found) (j e : ℕ) → other_place o ≡ None → e ≡ d → j ≡ length b.Q → Held v most (with_open (closed i b) bs ss)
-      → Aims (record { k = k; degree = e; pivot = n; initial = m; closing = true; place = 0; left = j }) o
-  aims_all none j e q x y h = ((λ t. record { k = k; degree = x t; pivot = n; initial = m; closing = true; place = 0; left = y t }), h)
+      → Aims (record { k = k; degree = e; pivot = n; initial = m; dividends = InQ j }) o
+  aims_all none j e q x y h = ((λ t. record { k = k; degree = x t; pivot = n; initial = m; dividends = InQ (y t) }), h)
   aims_all (found c) j e q x y h = let z : ◌≡◌ {A = ℕ} 0 1 = cc in absurd (omega arith)

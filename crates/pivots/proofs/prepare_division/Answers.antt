@@ -1,34 +1,22 @@
--- Another member of P is found, or the pivot is moved to T.
-use Rattle.std.proofs.Common.{refl, sym, ◌∙◌, map}
+use Rattle.std.proofs.Common.{rules, ◌≡◌, false, ◌||◌, [], ℕ, ◌+◌, ◌≤◌, ◌<◌, length, get_or, ◌-◌, ◌*◌, ◌/◌, ◌%◌, Bool, true, nat_eq, nat_lt, List, ◌∷◌, ◌++◌, slice_set, bit_and, bit_or, Fits, w8, w32, w64, Bor, MutBor}
+use Rattle.residues.specs.Prime.{Prime}
+use Rattle.polynomials.specs.Poly.{monic}
 use Rattle.polynomials.specs.Packed.{terms}
+use Rattle.polynomials.specs.Division.{degree, leader, initial, rest}
+use Rattle.records.specs.Records.{view}
+use Rattle.stored.specs.Stored.{Storable, member}
+use Rattle.branches.specs.Words.{is_one}
+use Rattle.branches.specs.Area.{Held, Leaves, Opened, with_open, split_area, unfinished_split, WhenOpen}
 use Rattle.rules.specs.Branch.{other}
-use Rattle.branches.proofs.LengthLaws.{held_by}
-use Rattle.pivots.proofs.AimLaws.{aims_at, aims_all}
+use Rattle.heads.specs.Heads.{AllHold}
+use Rattle.representation.specs.Represent.{Sound, branch_of}
+use Rattle.pivots.specs.Aimed.{rest_terms, behind_rest, division_of, aimed}
 use Rattle.pivots.proofs.prepare_division.Goals as goal
 
-pub returns-in-Some : goal.returns-in-Some
-returns-in-Some c =
-    let a = c.args in
-    record {
-      when_open_3 = λ b bs ss H. aims_at _ _ _ _ a.place b bs ss _ _ (other a.k a.place (map terms b.P)) _ _
-          (sym (c.find_other.ensures b bs ss H) ∙ c.in-Some.is) c.degree-degree.ensures H;
-      outside_stays = refl;
-    }
+-- src/lib.rt:56:28
+pub count_q-requires : goal.count_q-requires
+count_q-requires c = ?
 
-pub count_q-q-requires : goal.count_q-q-requires
-count_q-q-requires c =
-    let o = c.requires.opened.0 in
-    (_, _, _, held_by _ _ c.args.w.now c.close.new.w (sym c.close.auto.w) (c.close.ensures.open_becomes o.0 o.1 o.2 o.3))
-
-pub returns-in-None : goal.returns-in-None
-returns-in-None c =
-    let a = c.args in
-    let w = a.w.now in
-    record {
-      when_open_3 = λ b bs ss H.
-          let moved = c.close.ensures.open_becomes b bs ss H in
-          let there = held_by _ _ w c.close.new.w (sym c.close.auto.w) moved in
-          aims_all _ _ _ _ a.place b bs ss _ _ (other a.k a.place (map terms b.P)) _ _
-          (sym (c.find_other.ensures b bs ss H) ∙ c.in-None.is) c.degree-degree.ensures (c.count_q-q.ensures _ _ _ there) moved;
-      outside_stays = c.close.ensures.outside_stays;
-    }
+-- src/lib.rt:36:1
+pub returns : goal.returns
+returns c = ?

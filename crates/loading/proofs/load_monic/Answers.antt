@@ -18,10 +18,10 @@ pub new-requires-clause-below : goal.new-requires-clause-below
 new-requires-clause-below c = omega (arith, c.from.ensures, (readable_numbers _ _ _ c.args.table.readable).below)
 
 pub monic-requires-clause-prime : goal.monic-requires-clause-prime
-monic-requires-clause-prime c = (readable_numbers _ _ _ c.args.table.readable).prime
+monic-requires-clause-prime c = rw (c.new.ensures, c.from.ensures) (readable_numbers _ _ _ c.args.table.readable).prime
 
 pub monic-requires-clause-canonical : goal.monic-requires-clause-canonical
-monic-requires-clause-canonical c = let h = (c.load_head-m.ensures c.requires.is_read.0 c.requires.is_read.1).1 in h.canonical
+monic-requires-clause-canonical c = rw (c.new.ensures, c.from.ensures) (let h = (c.load_head-m.ensures c.requires.is_read.0 c.requires.is_read.1).1 in h.canonical)
 
 pub returns : goal.returns
 returns c f e =
@@ -29,4 +29,4 @@ returns c f e =
     let m = c.load_head-m in
     let x = m.ensures f e in
     loaded_monic t.words.now t.modulus t.variables c.args.head f t.readable c.requires.inside e m.result m.new.out c.monic.new.f x.0 x.1
-    c.monic.auto.f c.monic.ensures.is c.monic.ensures.in_words
+    c.monic.auto.f (rw (c.new.ensures, c.from.ensures) at c.monic.ensures.is) c.monic.ensures.in_words

@@ -1,5 +1,5 @@
 -- A polynomial is loaded and put in each turn. All is said of the records that there were at entry.
-use Rattle.std.proofs.Common.{sym, [], take, arith}
+use Rattle.std.proofs.Common.{refl, sym, [], take, arith}
 use Rattle.std.proofs.lemmas.Result.{err_from_is_err_and}
 use lib.Seq.{length-take-le}
 use Rattle.tables.specs.laws.Linked.{chain_next, chain_less}
@@ -43,9 +43,12 @@ put-requires-clause-storable c =
     (loaded_next here c.loop-i-test.true m.ensures).sound
 
 pub returns-in_err-put : goal.returns-in_err-put
-returns-in_err-put c fs b e x =
-    let p = err_from_is_err_and c.from_residual.result c.from_residual.ensures.1 in
-    ?
+returns-in_err-put c = record {
+  filled = λ fs b e x.
+      let p = err_from_is_err_and c.from_residual.result c.from_residual.ensures.1 in
+      rw (p.1, p.2)
+      (put_fails (c.loop-i.invariant fs b e x) c.loop-i-test.true c.load_monic-m.ensures (rw c.loop-i.auto.work at c.in_err-put.ensures.when_open) refl);
+}
 
 pub word-i-requires : goal.word-i-requires
 word-i-requires c =
@@ -60,7 +63,7 @@ loop-i-smaller c =
 pub loop-i-preserved : goal.loop-i-preserved
 loop-i-preserved c fs b e x =
     rw c.word-i.ensures
-    (put_next (c.loop-i.invariant fs b e x) c.loop-i-test.true c.load_monic-m.ensures (rw c.loop-i.auto.work at c.put.ensures.when_open) ?)
+    (put_next (c.loop-i.invariant fs b e x) c.loop-i-test.true c.load_monic-m.ensures (rw c.loop-i.auto.work at c.in_ok-put.ensures.when_open) refl)
 
 pub returns : goal.returns
-returns c fs b e x = put_end (c.loop-i.invariant fs b e x) c.loop-i-test.false
+returns c = record { filled = λ fs b e x. put_end (c.loop-i.invariant fs b e x) c.loop-i-test.false }

@@ -1,5 +1,5 @@
 -- Taking the next member out, by the list that it stands in.
-use Rattle.std.proofs.Common.{◌≡◌, refl, sym, subst, List, [], ℕ, ◌-◌, ◌≤◌, length, get_or, take, arith}
+use Rattle.std.proofs.Common.{◌≡◌, sym, subst, List, [], ℕ, ◌-◌, ◌≤◌, length, take, arith}
 use Rattle.residues.specs.laws.Each.{each_member}
 use Rattle.stored.specs.Stored.{Storable}
 use Rattle.records.specs.Records.{Rec}

@@ -15,8 +15,9 @@ use Rattle.division.specs.Lent.{lent_for_round}
 use Rattle.tables.specs.declared.Reason.{Reason}
 use Rattle.tables.specs.declared.Reason.TheVariants.{Degree, Terms, Room}
 use Rattle.rules.specs.Step.{stopped, remainder_by}
-use Rattle.branches.specs.Area.{Opened, capacity, outside}
-use Rattle.steps.specs.declared.Prepared.TheVariants.{Done, Members, Stop}
+use Rattle.branches.specs.Area.{Opened}
+use Rattle.members.specs.Members.{count}
+use Rattle.steps.specs.declared.Prepared.TheVariants.{Done, Members}
 use Rattle.representation.specs.Ready.{limits_in}
 use Rattle.run.specs.declared.Outcome.TheVariants.{Refused}
 use Rattle.run.proofs.Invariants.{AtRun, AtMembers, run_begins, division_begins, round_less, division_goes_on, division_ends, division_passes}
@@ -34,8 +35,7 @@ pub run-init : goal.run-init
 run-init c =
     let a = c.args in
     record {
-      runs = run_begins a.p a.limit a.from a.w.now c.requires.modulus.1 c.requires.modulus.2;
-      outside_w = refl;
+      runs = run_begins a.p a.limit a.from a.w.now c.requires.from_le_limit c.requires.ready;
       crowds = λ e. absurd (false≢true e);
     }
 
@@ -47,7 +47,7 @@ listed_systems-listed-requires c = run_holds_some c.run.invariant.runs
 
 pub prepare-requires-clause-modulus : goal.prepare-requires-clause-modulus
 prepare-requires-clause-modulus c =
-    (c.requires.modulus.0, run_open_some c.run.invariant.runs (λ a H. sym (c.is_open.ensures a H) ∙ c.if-not-is_open.false))
+    (c.requires.prime, run_open_some c.run.invariant.runs (λ a H. sym (c.is_open.ensures a H) ∙ c.if-not-is_open.false))
 
 pub run-smaller : goal.run-smaller
 run-smaller c = omega (arith, c.if-limit-steps.false)
@@ -56,24 +56,21 @@ run-smaller c = omega (arith, c.if-limit-steps.false)
 module _ (c : Joined-prepare) where
   abbrev Came : Type 0
   Came =
-      GoesTo (capacity c.run.w) c.args.p c.run.w c.match-prepare.w
-      × (outside c.match-prepare.w ≡ outside c.prepare.new.w)
+      GoesTo (length c.run.w) c.args.p c.run.w c.match-prepare.w
       × (c.match-prepare.crowded ≡ true → length c.args.x.now < 512)
 
   came : Came
   came = elim c.match-prepare.branch [
     | in-Done w ↦
-        let P : Preparation c.args.p c.run.w Done c.prepare.new.t c.prepare.new.i c.prepare.new.w =
+        let P : Preparation c.args.p c.run.w (Ok Done) c.prepare.new.t c.prepare.new.i c.prepare.new.w =
         record { same = c.prepare.auto.w; answers = w.in-Done.ensures.when_open } in (
-          subst (GoesTo (capacity c.run.w) c.args.p c.run.w) (sym w.w-is) (prepared_done P),
-          ap outside w.w-is,
+          subst (GoesTo (length c.run.w) c.args.p c.run.w) (sym w.w-is) (prepared_done P),
           λ e. c.run.invariant.crowds (sym w.crowded-is ∙ e),
         )
     | in-Members+else-members-test w ↦
-        let P : Preparation c.args.p c.run.w (Members w.in-Members.d) c.prepare.new.t c.prepare.new.i c.prepare.new.w =
+        let P : Preparation c.args.p c.run.w (Ok (Members w.in-Members.d)) c.prepare.new.t c.prepare.new.i c.prepare.new.w =
         record { same = c.prepare.auto.w; answers = w.in-Members.ensures.when_open } in (
-          subst (GoesTo (capacity c.run.w) c.args.p c.run.w) (sym w.w-is) (members_done P w.members.invariant.divides (omega (arith, w.members-test.false))),
-          ap outside w.w-is ∙ w.members.invariant.outside_w,
+          subst (GoesTo (length c.run.w) c.args.p c.run.w) (sym w.w-is) (members_done P w.members.invariant.divides (omega (arith, w.members-test.false))),
           λ e. w.members.invariant.crowds (sym w.crowded-is ∙ e),
         )
   ]
@@ -87,8 +84,7 @@ run-preserved c =
     let runs = run_goes_on c.run.invariant.runs open_all c.if-limit-steps.false c.match-prepare.w kept step.0 in
     record {
       runs = subst (AtRun a.p a.limit a.from a.w.now c.match-prepare.w) (omega arith) runs;
-      outside_w = step.1 ∙ c.prepare.ensures.outside_stays ∙ c.run.invariant.outside_w;
-      crowds = step.2;
+      crowds = step.1;
     }
 
 -- ── the members ──
@@ -102,7 +98,7 @@ module _ (c : In-Members) where
   some_open : SomeOpen c.args.p c.run.w
   some_open = run_open_some c.run.invariant.runs all_open
 
-  prepared : Preparation c.args.p c.run.w (Members c.in-Members.d) c.prepare.new.t c.prepare.new.i c.prepare.new.w
+  prepared : Preparation c.args.p c.run.w (Ok (Members c.in-Members.d)) c.prepare.new.t c.prepare.new.i c.prepare.new.w
   prepared = record { same = c.prepare.auto.w; answers = c.in-Members.ensures.when_open }
 
   pivot_in : PivotIn c.args.p c.in-Members.d c.prepare.new.t c.prepare.new.i
@@ -110,21 +106,21 @@ module _ (c : In-Members) where
 
   -- Where what is left of the step stops, the run is refused.
   left_stops : (why : Reason) (v : List ℕ) → length v ≡ length c.args.w.now → Opened v
-      → (let d = c.in-Members.d in ComesTo c.args.p d.k pivot d.closing d.place d.left c.prepare.new.w (stopped why))
+      → (let d = c.in-Members.d in ComesTo c.args.p d.k pivot d.dividends (count d.dividends) c.prepare.new.w (stopped why))
       → Answers c.args.p c.args.limit c.args.from c.args.w.now (ended c.run.steps (Refused why 0)) v
   left_stops why v same o h = run_stopped c.run.invariant.runs all_open c.if-limit-steps.false why v same o (members_stop prepared why h)
 
 -- The next member is taken.
 module _ (c : After-take-n) where
   member : let d = c.in-Members.d in
-      AtMember c.args.p d.k (terms (take d.pivot c.prepare.new.t)) d.closing d.place d.left c.prepare.new.w c.take-n.new.w c.members.left
+      AtMember c.args.p d.k (terms (take d.pivot c.prepare.new.t)) d.dividends (count d.dividends) c.prepare.new.w c.take-n.new.w c.members.left
       c.take-n.result c.take-n.new.r
   member = member_taken c.members.invariant.divides c.members-test.true _ _ _ c.take-n.auto.w c.take-n.ensures.when_open_2
 
 pub members-init : goal.members-init
 members-init c =
     let z = (goal.at.members-init c).In-Members in
-    record { divides = members_first (prepared z) (some_open z); outside_w = refl; crowds = c.run.invariant.crowds }
+    record { divides = members_first (prepared z) (some_open z); crowds = c.run.invariant.crowds }
 
 pub take-n-requires-clause-opened : goal.take-n-requires-clause-opened
 take-n-requires-clause-opened c = members_open c.members.invariant.divides
@@ -133,7 +129,7 @@ pub take-n-requires-clause-when_open : goal.take-n-requires-clause-when_open
 take-n-requires-clause-when_open c = members_left c.members.invariant.divides c.members-test.true
 
 pub put_back-requires-clause-opened : goal.put_back-requires-clause-opened
-put_back-requires-clause-opened c = (member_open (member (goal.at.put_back-requires-clause-opened c).After-take-n), c.requires.modulus.0)
+put_back-requires-clause-opened c = (member_open (member (goal.at.put_back-requires-clause-opened c).After-take-n), c.requires.prime)
 
 pub put_back-requires-clause-when_open : goal.put_back-requires-clause-when_open
 put_back-requires-clause-when_open c = member_behind (member (goal.at.put_back-requires-clause-when_open c).After-take-n)
@@ -144,9 +140,9 @@ put_back-requires-clause-n_in_bounds c = (c.division.invariant.rounds.inside, c.
 -- The remainder is put back, or there is no room for it.
 module _ (c : After-put_back) (of_pivot : PivotIn c.args.p c.in-Members.d c.prepare.new.t c.prepare.new.i)
     (M : let d = c.in-Members.d in
-    AtMember c.args.p d.k (terms (take d.pivot c.prepare.new.t)) d.closing d.place d.left c.prepare.new.w c.take-n.new.w c.members.left
+    AtMember c.args.p d.k (terms (take d.pivot c.prepare.new.t)) d.dividends (count d.dividends) c.prepare.new.w c.take-n.new.w c.members.left
     c.take-n.result c.take-n.new.r) where
-  back : PutBack c.args.p c.in-Members.d.closing (c.members.left - 1) (take c.division.n c.division.r) (take c.division.n c.put_back.new.r) c.take-n.new.w
+  back : PutBack c.args.p c.in-Members.d.dividends (c.members.left - 1) (take c.division.n c.division.r) (take c.division.n c.put_back.new.r) c.take-n.new.w
       c.put_back.result c.put_back.new.w
   back =
       let e = c.put_back.ensures in
@@ -154,12 +150,12 @@ module _ (c : After-put_back) (of_pivot : PivotIn c.args.p c.in-Members.d c.prep
 
   member_goes : let d = c.in-Members.d in
       (c.put_back.result ≡ true
-      → AtMembers c.args.p d.k (terms (take d.pivot c.prepare.new.t)) d.closing d.place d.left c.prepare.new.w c.put_back.new.w (c.members.left - 1))
+      → AtMembers c.args.p d.k (terms (take d.pivot c.prepare.new.t)) d.dividends (count d.dividends) c.prepare.new.w c.put_back.new.w (c.members.left - 1))
       × (c.put_back.result ≡ false
-      → ComesTo c.args.p d.k (terms (take d.pivot c.prepare.new.t)) d.closing d.place d.left c.prepare.new.w (stopped Room) × Opened c.put_back.new.w)
+      → ComesTo c.args.p d.k (terms (take d.pivot c.prepare.new.t)) d.dividends (count d.dividends) c.prepare.new.w (stopped Room) × Opened c.put_back.new.w)
   member_goes =
       let D = c.division.invariant.rounds in
-      member_put_back M c.requires.modulus.0.prime D.holds
+      member_put_back M c.requires.prime D.holds
       (division_ends of_pivot.pivoted D _ (omega (arith, c.if-e-degree.true, c.degree-e.ensures))) back
 
 pub members-preserved : goal.members-preserved
@@ -167,7 +163,6 @@ members-preserved c =
     let z = goal.at.members-preserved c in
     record {
       divides = (member_goes z.After-put_back (pivot_in z.In-Members) (member z.After-take-n)).0 c.if-not-put_back.false;
-      outside_w = c.put_back.ensures.outside_stays ∙ c.take-n.ensures.outside_stays ∙ c.members.invariant.outside_w;
       crowds = c.division.invariant.crowds;
     }
 
@@ -209,7 +204,7 @@ pub slice_bounds-round_anywhere-end-in-division-3 : goal.slice_bounds-round_anyw
 slice_bounds-round_anywhere-end-in-division-3 c = sym (length-take-le _ _ (pivot_in (goal.at.slice_bounds-round_anywhere-end-in-division-3 c).In-Members).pivot_inside)
 
 pub round_anywhere-requires-clause-modulus : goal.round_anywhere-requires-clause-modulus
-round_anywhere-requires-clause-modulus c = let M = c.requires.modulus.0 in (omega (arith, M.prime.two≤), M.below)
+round_anywhere-requires-clause-modulus c = let M = c.requires.prime in (omega (arith, M.prime.two≤), M.below)
 
 pub round_anywhere-requires-clause-degrees : goal.round_anywhere-requires-clause-degrees
 round_anywhere-requires-clause-degrees c =
@@ -240,7 +235,7 @@ module _ (c : After-round_anywhere) where
   degree_left = omega (arith, c.if-e-degree.false, c.degree-e.ensures)
 
   two : 1 ≤ c.args.p
-  two = omega (arith, c.requires.modulus.0.prime.two≤)
+  two = omega (arith, c.requires.prime.two≤)
 
   -- The run is crowded since now, or as before.
   crowds_now : c.if-not-round_fits.crowded ≡ true → length c.args.x.now < 512
@@ -261,14 +256,14 @@ module _ (c : After-round_anywhere) where
   passed_as e F = formed_passed next_round e (Err e) c.round_anywhere.new.r refl F
 
   passed : PivotIn c.args.p c.in-Members.d c.prepare.new.t c.prepare.new.i → (B : Bounded) → ((g : Poly → Bounded) → and_then B g ≡ B) → next_round ≡ B
-      → remainder_by (limits_in (capacity c.prepare.new.w)) c.args.p c.in-Members.d.k pivot_then (terms (take c.take-n.result c.take-n.new.r)) ≡ B
+      → remainder_by (limits_in (length c.prepare.new.w)) c.args.p c.in-Members.d.k pivot_then (terms (take c.take-n.result c.take-n.new.r)) ≡ B
   passed P B stays e = division_passes P.pivoted c.division.invariant.rounds _ B stays degree_left e
 
 pub division-smaller : goal.division-smaller
 division-smaller c =
     let z = goal.at.division-smaller c in
     let r = z.After-round_anywhere in
-    round_less c.requires.modulus.0.prime (pivot_in z.In-Members).pivoted c.division.invariant.rounds (degree_left r) (formed r c.in-Ok.m c.in-Ok.ensures)
+    round_less c.requires.prime (pivot_in z.In-Members).pivoted c.division.invariant.rounds (degree_left r) (formed r c.in-Ok.m c.in-Ok.ensures)
 
 pub division-preserved : goal.division-preserved
 division-preserved c =
@@ -276,7 +271,7 @@ division-preserved c =
     let r = z.After-round_anywhere in
     let P = (pivot_in z.In-Members).pivoted in
     record {
-      rounds = division_goes_on c.requires.modulus.0.prime P c.division.invariant.rounds (degree_left r) (formed r c.in-Ok.m c.in-Ok.ensures) c.round_anywhere.auto.r;
+      rounds = division_goes_on c.requires.prime P c.division.invariant.rounds (degree_left r) (formed r c.in-Ok.m c.in-Ok.ensures) c.round_anywhere.auto.r;
       crowds = crowds_now r;
     }
 
@@ -285,15 +280,9 @@ pub returns-then-not-is_open-clause-stretches : goal.returns-then-not-is_open-cl
 returns-then-not-is_open-clause-stretches c =
     run_finished c.run.invariant.runs (λ a H. sym (c.is_open.ensures a H) ∙ c.if-not-is_open.true) c.listed_systems-listed.result c.listed_systems-listed.ensures
 
-pub returns-then-not-is_open-clause-outside_stays : goal.returns-then-not-is_open-clause-outside_stays
-returns-then-not-is_open-clause-outside_stays c = c.run.invariant.outside_w
-
 pub returns-then-limit-steps-clause-stretches : goal.returns-then-limit-steps-clause-stretches
 returns-then-limit-steps-clause-stretches c =
     run_no_steps c.run.invariant.runs (λ a H. sym (c.is_open.ensures a H) ∙ c.if-not-is_open.false) c.if-limit-steps.true
-
-pub returns-then-limit-steps-clause-outside_stays : goal.returns-then-limit-steps-clause-outside_stays
-returns-then-limit-steps-clause-outside_stays c = c.run.invariant.outside_w
 
 pub returns-then-crowded-clause-stretches : goal.returns-then-crowded-clause-stretches
 returns-then-crowded-clause-stretches c = run_paused c.run.invariant.runs _ refl
@@ -301,26 +290,17 @@ returns-then-crowded-clause-stretches c = run_paused c.run.invariant.runs _ refl
 pub returns-then-crowded-clause-when_paused : goal.returns-then-crowded-clause-when_paused
 returns-then-crowded-clause-when_paused c e = inr (c.run.invariant.crowds c.if-crowded.true)
 
-pub returns-then-crowded-clause-outside_stays : goal.returns-then-crowded-clause-outside_stays
-returns-then-crowded-clause-outside_stays c = c.run.invariant.outside_w
-
 pub returns-in-Crowded-clause-stretches : goal.returns-in-Crowded-clause-stretches
 returns-in-Crowded-clause-stretches c = run_paused c.run.invariant.runs _ (c.in-Crowded.ensures.when_crowded refl).1
 
-pub returns-in-Crowded-clause-outside_stays : goal.returns-in-Crowded-clause-outside_stays
-returns-in-Crowded-clause-outside_stays c = c.prepare.ensures.outside_stays ∙ c.run.invariant.outside_w
-
-pub returns-in-Stop-clause-stretches : goal.returns-in-Stop-clause-stretches
-returns-in-Stop-clause-stretches c =
+pub returns-in-Err-clause-stretches : goal.returns-in-Err-clause-stretches
+returns-in-Err-clause-stretches c =
     let all : AllOpen c.run.w = λ a H. sym (c.is_open.ensures a H) ∙ c.if-not-is_open.false in
-    let why = c.in-Stop.why in
-    let P : Preparation c.args.p c.run.w (Stop why) c.prepare.new.t c.prepare.new.i c.prepare.new.w =
-    record { same = c.prepare.auto.w; answers = c.in-Stop.ensures.when_open } in
+    let why = c.in-Err.why in
+    let P : Preparation c.args.p c.run.w (Err why) c.prepare.new.t c.prepare.new.i c.prepare.new.w =
+    record { same = c.prepare.auto.w; answers = c.in-Err.ensures.when_open } in
     run_stopped c.run.invariant.runs all c.if-limit-steps.false why c.prepare.new.w (c.prepare.auto.w ∙ c.run.auto.w)
     (prepared_open why P (run_open_some c.run.invariant.runs all)) (prepared_stop why P)
-
-pub returns-in-Stop-clause-outside_stays : goal.returns-in-Stop-clause-outside_stays
-returns-in-Stop-clause-outside_stays c = c.prepare.ensures.outside_stays ∙ c.run.invariant.outside_w
 
 pub returns-in-Err-Degree-clause-stretches : goal.returns-in-Err-Degree-clause-stretches
 returns-in-Err-Degree-clause-stretches c =
@@ -330,10 +310,6 @@ returns-in-Err-Degree-clause-stretches c =
     left_stops z.In-Members Degree c.take-n.new.w (omega (arith, c.take-n.auto.w, c.members.auto.w, c.prepare.auto.w, c.run.auto.w)) (member_open M)
     (member_degree M (passed z.After-round_anywhere (pivot_in z.In-Members) degree_passed (λ g. refl) e))
 
-pub returns-in-Err-Degree-clause-outside_stays : goal.returns-in-Err-Degree-clause-outside_stays
-returns-in-Err-Degree-clause-outside_stays c =
-    c.take-n.ensures.outside_stays ∙ c.members.invariant.outside_w ∙ c.prepare.ensures.outside_stays ∙ c.run.invariant.outside_w
-
 pub returns-in-Err-Terms-clause-stretches : goal.returns-in-Err-Terms-clause-stretches
 returns-in-Err-Terms-clause-stretches c =
     let z = goal.at.returns-in-Err-Terms-clause-stretches c in
@@ -342,10 +318,6 @@ returns-in-Err-Terms-clause-stretches c =
     left_stops z.In-Members Terms c.take-n.new.w (omega (arith, c.take-n.auto.w, c.members.auto.w, c.prepare.auto.w, c.run.auto.w)) (member_open M)
     (member_terms M (passed z.After-round_anywhere (pivot_in z.In-Members) terms_passed (λ g. refl) e))
 
-pub returns-in-Err-Terms-clause-outside_stays : goal.returns-in-Err-Terms-clause-outside_stays
-returns-in-Err-Terms-clause-outside_stays c =
-    c.take-n.ensures.outside_stays ∙ c.members.invariant.outside_w ∙ c.prepare.ensures.outside_stays ∙ c.run.invariant.outside_w
-
 pub returns-then-not-put_back-clause-stretches : goal.returns-then-not-put_back-clause-stretches
 returns-then-not-put_back-clause-stretches c =
     let z = goal.at.returns-then-not-put_back-clause-stretches c in
@@ -353,7 +325,3 @@ returns-then-not-put_back-clause-stretches c =
     left_stops z.In-Members Room c.put_back.new.w
     (omega (arith, c.put_back.auto.w, c.take-n.auto.w, c.members.auto.w, c.prepare.auto.w, c.run.auto.w)) s.1 s.0
 
-pub returns-then-not-put_back-clause-outside_stays : goal.returns-then-not-put_back-clause-outside_stays
-returns-then-not-put_back-clause-outside_stays c =
-    c.put_back.ensures.outside_stays ∙ c.take-n.ensures.outside_stays ∙ c.members.invariant.outside_w ∙ c.prepare.ensures.outside_stays
-    ∙ c.run.invariant.outside_w

@@ -7,6 +7,7 @@ ghost use Rattle.std.specs.Prelude.{◌≡◌, [], ◌≤◌, ◌<◌, length, g
 ghost use Rattle.stored.specs.Stored.{member, Storable};
 ghost use Rattle.branches.specs.Area.{Area, HeldIn, Opened, WhenOpen};
 ghost use Rattle.branches.specs.Listed.{listed_of};
+ghost use Rattle.branches.specs.Members.{HasMember, member_of, members_before, behind};
 ghost use Rattle.branches.specs.Open.{open_of};
 ghost use Rattle.branches.specs.Words.{is_one};
 

@@ -8,8 +8,13 @@ use lib.ListN.{length, take, drop, get_or, length-drop}
 use lib.Seq.{take-suc, get_or-drop}
 use Rattle.std.proofs.Common.{map, add-one}
 use Rattle.std.proofs.lemmas.List.{map-append}
-use Rattle.records.specs.Records.{Rec, zero_record}
+use Rattle.records.specs.Records.{Rec, zero_record, view}
+use Rattle.records.proofs.Rows.{word_0}
 use Rattle.stored.specs.Stored.{term_of, size_at, poly_at, skip_to, polys_at}
+
+-- What a read of a head's first word gives.
+pub size_in : (w : List (List ℕ)) (i : ℕ) → size_at (view w) i ≡ get_or (get_or w i []) 0 0
+size_in w i = sym (word_0 w i)
 
 -- ── loading ──
 -- The term of one record more.

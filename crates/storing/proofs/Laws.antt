@@ -5,7 +5,7 @@ use Rattle.std.proofs.lemmas.List.{get_or-map, take_all}
 use Rattle.std.proofs.lemmas.List.Edits.{paste_none, paste_more}
 use Rattle.polynomials.specs.declared.Term.{Term as Packed}
 use Rattle.records.specs.Records.{Rec, zero_record, moved}
-use Rattle.stored.specs.Stored.{head, term_record, poly_records, inserted}
+use Rattle.stored.specs.Stored.{head, term_record, poly_records, inserted, removed}
 use Rattle.stored.specs.laws.Stored.{length_poly_records}
 
 -- What a read finds past the end.
@@ -43,3 +43,8 @@ moved_then_stored v b at m n l fits =
     ∙ (λ t. front t ++ b ++ drop_at X (Y ++ Z) (at + n) lX t)
     ∙ append_assoc (take at v) b (Y ++ Z)
     ∙ ap (λ (k : ℕ). take at v ++ (b ++ (Y ++ drop k v))) end
+
+-- The records behind n records at `at` moved down over these.
+pub moved_down : (v : List Rec) (at n k m : ℕ) → k ≡ m → moved v (at + n) k at ≡ removed v at n m
+moved_down v at n k m e =
+    ap (λ (m : ℕ). moved v (at + n) m at) e ∙ append_assoc (take at v) (take m (drop (at + n) v)) (drop (at + m) v)

@@ -1,20 +1,14 @@
 -- A turn goes past one polynomial: the one that is f, or one that is not.
-use Rattle.std.proofs.Common.{◌≡◌, sym, ap, ◌∙◌, Bool, ◌||◌, ℕ, ◌+◌, ◌-◌, ◌<◌, arith}
+use Rattle.std.proofs.Common.{◌≡◌, sym, ap, ◌∙◌, Bool, ◌||◌, ℕ, ◌+◌, ◌-◌, ◌<◌, get_or, [], arith}
 use Rattle.records.specs.Records.{view}
 use Rattle.stored.specs.Stored.{size_at, skip_to, polys_at, member}
-use Rattle.stored.proofs.Laws.{skip_turn, skip_in}
+use Rattle.stored.proofs.Laws.{size_in, skip_turn, skip_in}
 use Rattle.finding.proofs.Laws.{member_turn}
 use Rattle.finding.proofs.contains.Goals as goal
 
-pub loop-i-init : goal.loop-i-init
-loop-i-init c =
-    let a = c.args in
-    let all : a.k - 0 ≡ a.k = omega arith in (ap (skip_to (view a.w.now) a.at) all, ap (λ (n : ℕ). member a.f.now (polys_at (view a.w.now) a.at n)) all)
-
-pub equal_at-requires : goal.equal_at-requires
-equal_at-requires c =
-    let within = skip_in (view c.args.w.now) c.loop-i.next (c.args.k - c.loop-i._i) (omega arith) in
-    record { at_bound = (omega arith, omega arith); storable = c.requires.storable }
+pub equal_at-requires-clause-at_bound : goal.equal_at-requires-clause-at_bound
+equal_at-requires-clause-at_bound c =
+    let within = skip_in (view c.args.w.now) c.loop-i.next (c.args.k - c.loop-i._i) (omega arith) in (omega arith, omega arith)
 
 pub returns-then-equal_at : goal.returns-then-equal_at
 returns-then-equal_at c =
@@ -26,11 +20,15 @@ returns-then-equal_at c =
     sym (member_turn a.f.now v next left (omega arith) ∙ ap (λ (t : Bool). t || behind) (sym c.equal_at.ensures ∙ c.if-equal_at.true))
     ∙ c.loop-i.invariant.1
 
-pub get0-requires : goal.get0-requires
-get0-requires c = omega (arith, skip_in (view c.args.w.now) c.loop-i.next (c.args.k - c.loop-i._i) (omega arith))
+pub offset_bounds-w-next : goal.offset_bounds-w-next
+offset_bounds-w-next c = omega (arith, skip_in (view c.args.w.now) c.loop-i.next (c.args.k - c.loop-i._i) (omega arith))
+
+pub bounds-w-next : goal.bounds-w-next
+bounds-w-next c = omega (arith, skip_in (view c.args.w.now) c.loop-i.next (c.args.k - c.loop-i._i) (omega arith))
 
 pub overflow_add-next-in-loop-i : goal.overflow_add-next-in-loop-i
-overflow_add-next-in-loop-i c = omega (arith, skip_in (view c.args.w.now) c.loop-i.next (c.args.k - c.loop-i._i) (omega arith))
+overflow_add-next-in-loop-i c =
+    omega (arith, size_in c.args.w.now c.loop-i.next, skip_in (view c.args.w.now) c.loop-i.next (c.args.k - c.loop-i._i) (omega arith))
 
 pub loop-i-preserved : goal.loop-i-preserved
 loop-i-preserved c =
@@ -40,7 +38,7 @@ loop-i-preserved c =
     let left = a.k - c.loop-i._i in
     let some : 0 < left = omega arith in
     let behind = member a.f.now (polys_at v (next + 1 + size_at v next) (left - 1)) in
-    let to : next + (1 + c.get0.result) ≡ next + 1 + size_at v next = omega (arith, c.get0.ensures) in
+    let to : next + (1 + get_or (get_or a.w.now next []) 0 0) ≡ next + 1 + size_at v next = omega (arith, size_in a.w.now next) in
     let fewer : a.k - (c.loop-i._i + 1) ≡ left - 1 = omega arith in (
       (λ t. skip_to v (to t) (fewer t)) ∙ sym (skip_turn v next left some) ∙ c.loop-i.invariant.0,
       (λ t. member a.f.now (polys_at v (to t) (fewer t)))

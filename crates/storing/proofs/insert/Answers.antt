@@ -1,8 +1,8 @@
--- What `move_up` and then `store` leave is `inserted`.
+-- What a move up and then `store` leave is `inserted`.
 use Rattle.std.proofs.Common.{ap, ◌∙◌, ◌+◌, ◌-◌, List, length, arith}
 use Rattle.std.proofs.Math.Seq.{paste}
 use Rattle.records.specs.Records.{Rec, view}
-use Rattle.records.proofs.Rows.{length_view}
+use Rattle.records.proofs.Rows.{length_view, view_copied}
 use Rattle.stored.specs.Stored.{poly_records}
 use Rattle.stored.specs.laws.Stored.{length_poly_records}
 use Rattle.storing.proofs.Laws.{moved_then_stored}
@@ -13,9 +13,6 @@ returns c =
     let a = c.args in
     let b = poly_records a.f.now in
     let n = length a.f.now + 1 in
-    let up = c.move_up.ensures in
-    let stored = c.store.ensures in (
-      stored.0 ∙ ap (λ (v : List Rec). paste v a.at b n) up.0
-          ∙ moved_then_stored (view a.w.now) b a.at (a.end - a.at) n (length_poly_records a.f.now) (omega (arith, length_view a.w.now)),
-      stored.1 ∙ up.1,
-    )
+    c.store.ensures
+    ∙ ap (λ (v : List Rec). paste v a.at b n) (ap view c.copy_within.ensures.after ∙ view_copied a.w.now a.at a.end (a.at + n))
+    ∙ moved_then_stored (view a.w.now) b a.at (a.end - a.at) n (length_poly_records a.f.now) (omega (arith, length_view a.w.now))

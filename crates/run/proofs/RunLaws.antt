@@ -59,6 +59,11 @@ pub record Preparation (p : ℕ) (w : List (List ℕ)) (q : Result Prepared Reas
       (b : Stored) (bs ss : List Stored) → HeldIn w (with_open b bs ss) → Ready p (with_open b bs ss)
       → Prepares (limits_in (length w)) p (step_in (length w) p b bs ss) q t i (view v) (length w) bs ss
 
+pub prepared_as : {p : ℕ} {w : List (List ℕ)} {q q' : Result Prepared Reason} {t i : List Packed} {v : List (List ℕ)} → length v ≡ length w
+    → ((b : Stored) (bs ss : List Stored) → HeldIn w (with_open b bs ss) → Ready p (with_open b bs ss)
+    → Prepares (limits_in (length w)) p (step_in (length w) p b bs ss) q t i (view v) (length w) bs ss) → q ≡ q' → Preparation p w q' t i v
+prepared_as {p} {w} {t = t} {i} {v} same answers e = subst (λ q. Preparation p w q t i v) e (record { same = same; answers = answers })
+
 -- The pivot of the division d is in t, and its initial in i.
 pub record PivotIn (p : ℕ) (d : Division) (t i : List Packed) : Type 0 where
   pub pivot_inside : d.pivot ≤ length t

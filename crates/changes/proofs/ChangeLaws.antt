@@ -18,7 +18,8 @@ use Rattle.branches.specs.Open.{open_of}
 use Rattle.branches.proofs.MemberLaws.{members_behind, parted_at, parted_without}
 use Rattle.branches.proofs.OpenLaws.{p_is, q_is, end_q}
 use Rattle.places.specs.Places.{More, Counts, PutAt, TakeAt}
-use Rattle.places.proofs.PlaceLaws.{more_size, size_free, counts_are}
+use Rattle.branches.proofs.LeavesLaws.{size_free}
+use Rattle.places.proofs.PlaceLaws.{more_size, counts_are}
 use Rattle.polynomials.specs.declared.Term.{Term as Packed}
 
 -- ── a member taken out ──

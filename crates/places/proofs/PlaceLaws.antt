@@ -1,15 +1,12 @@
 -- What is left when a polynomial is put in or taken out and the branch's counts and its end are written: the records hold the state with the branch so changed.
 use mathlib.Core.Path.{◌≡◌, sym, ap, ◌∙◌, subst}
-use mathlib.Core.Bool.{false≢true}
 use mathlib.Core.List.{List, [], ◌∷◌, ◌++◌}
 use Prim.Native.Nat.{ℕ, ◌+◌, ◌-◌, ◌≤◌, ◌<◌}
 use native.Mathlib.Omega.{arith}
-use borrow.Author.Tests.{le-leb, lt-leb}
 use mir.Syntax.{w32}
 use mir.Val.{Fits}
 use lib.ListN.{length, drop, get_or, set, length-drop}
-use Rattle.std.specs.Prelude.{Result, Ok, Err, is_ok}
-use Rattle.tables.specs.declared.Reason.{Reason}
+use Rattle.std.specs.Prelude.{Ok, Err}
 use Rattle.tables.specs.declared.Reason.TheVariants.{Room}
 use Rattle.residues.specs.Each.{Each}
 use Rattle.residues.specs.laws.Each.{each_append}
@@ -19,10 +16,11 @@ use Rattle.stored.specs.Stored.{poly_records, size_at, inserted, removed, Storab
 use Rattle.stored.specs.laws.Stored.{length_le_polys_records}
 use Rattle.branches.specs.declared.Open.{Open}
 use Rattle.branches.specs.Open.{open_of}
-use Rattle.branches.specs.Area.{Stored, Held, Area, Leaves, fitted, size, with_open, stack, systems_records, StorableBranch}
+use Rattle.branches.specs.Area.{Stored, Held, Area, Leaves, size, with_open, stack, systems_records, StorableBranch}
 use Rattle.branches.proofs.AreaLaws.{Lies, lies, place, place_add, place_one, own_is, first_is, size_of, own_set, first_set, put_in, take_out}
 use Rattle.branches.proofs.AreaLaws.{freed, length_freed, all, at_of, end_of, end_is, own_of, control, room_is, held_again}
 use Rattle.branches.proofs.OpenLaws.{p_is, q_is, t_is}
+use Rattle.branches.proofs.LeavesLaws.{size_free, leaves_held, leaves_none}
 use Rattle.branches.proofs.RowLaws.{ctl_word, own_word, end_row, top_row}
 use Rattle.places.specs.Places.{More, Counts, PutAt, TakeAt, SomeOpen, resized}
 use Rattle.polynomials.specs.declared.Term.{Term as Packed}
@@ -66,24 +64,6 @@ module _ {b c : Stored} {xs : List (List Packed)} {f : List Packed} {ys : List (
   storable_less h =
       let s = (each_append Storable xs (f ∷ ys)).0 (subst (Each Storable) m.more (storable_all c h)) in
       storable_parts b (subst (Each Storable) (sym m.less) ((each_append Storable xs ys).1 (s.0, s.1.1)))
-
--- ── room ──
--- The records that are not in use are free.
-pub size_free : {v : List Rec} {most : ℕ} {a : Area} (H : Held v most a) → size a + length H.free ≡ most
-unfolding size
-size_free H = omega (arith, H.fits)
-
-pub leaves_held : {v : List Rec} {most : ℕ} {a₀ a : Area} → Held v most a → Leaves most a₀ a (Ok tt) v
-leaves_held {v} {most} {a = a} H =
-    record { answer = sym (ap fitted (le-leb (size a) most (omega (arith, size_free H)))); held = λ e. H; otherwise = λ e. absurd (false≢true e) }
-
--- Where the state does not fit, the one before is left.
-pub leaves_none : {v : List Rec} {most : ℕ} {a₀ a : Area} → Held v most a₀ → most < size a → Leaves most a₀ a (Err Room) v
-leaves_none {v} {most} {a = a} H h =
-    record { answer = sym (ap fitted (lt-leb (size a) most h)); held = λ e. absurd (false≢true e); otherwise = λ e. H }
-
-pub held_left : {v : List Rec} {most : ℕ} {a₀ a : Area} {r : Result (Unit {0}) Reason} → Leaves most a₀ a r v → size a ≤ most → Held v most a
-held_left {most = most} {a = a} L h = L.held (ap is_ok (L.answer ∙ ap fitted (le-leb (size a) most h)))
 
 module _ {v : List Rec} {most : ℕ} {b : Stored} {bs ss : List Stored} (H : Held v most (with_open b bs ss)) where
   -- One more than a count of the open branch fits a word.

@@ -16,7 +16,8 @@ use Rattle.branches.specs.Open.{open_of}
 use Rattle.branches.proofs.AreaLaws.{place, at_of, parted_q}
 use Rattle.branches.proofs.OpenLaws.{end_p, q_is, in_q, skip_q, skip_q_inside}
 use Rattle.places.specs.Places.{More, Counts, PutAt}
-use Rattle.places.proofs.PlaceLaws.{leaves_held, counts_are}
+use Rattle.branches.proofs.LeavesLaws.{leaves_held}
+use Rattle.places.proofs.PlaceLaws.{counts_are}
 use Rattle.polynomials.specs.declared.Term.{Term as Packed}
 
 pub leaves_same : {v : List Rec} {most : ℕ} {b : Stored} {bs ss : List Stored} → Held v most (with_open b bs ss) → (c : Stored) → b ≡ c

@@ -1,7 +1,8 @@
 -- The member is taken out of P, and put in before T, where there is room for it then.
 use Rattle.branches.proofs.LengthLaws.{held_by}
 use Rattle.branches.proofs.OpenLaws.{end_p_inside, end_q_inside}
-use Rattle.places.proofs.PlaceLaws.{counts_are, counts_fit, held_left}
+use Rattle.branches.proofs.LeavesLaws.{held_left}
+use Rattle.places.proofs.PlaceLaws.{counts_are, counts_fit}
 use Rattle.changes.proofs.ChangeLaws.{taken, put_t, closed_fits}
 use Rattle.changes.proofs.close.Goals as goal
 

@@ -1,5 +1,5 @@
 // The jobs on two polynomials.
-ghost use Rattle.std.specs.Prelude.{◌≡◌, ◌&&◌, ◌+◌, ◌≤◌, ◌<◌, IfSome, length, take, is_some};
+ghost use Rattle.std.specs.Prelude.{◌≡◌, ◌&&◌, ◌+◌, ◌≤◌, IfSome, length, take, is_some};
 ghost use Rattle.std.proofs.Props.{props};
 ghost use Rattle.residues.specs.Prime.{Prime, is_modulus};
 ghost use Rattle.polynomials.specs.Bounds.{standard, bounded_round, bounded_remainder};

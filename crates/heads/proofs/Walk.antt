@@ -6,8 +6,8 @@ use native.Mathlib.Decide.{ℕ_discrete}
 use Rattle.std.proofs.Math.Seq.{drop-cons}
 use Rattle.records.specs.Records.{Rec, zero_record, view}
 use Rattle.records.proofs.Rows.{length_view}
-use Rattle.stored.proofs.Laws.{size_in, skip_in}
-use Rattle.stored.specs.Stored.{size_at, term_of, poly_at, skip_to, polys_at}
+use Rattle.stored.proofs.Laws.{size_in, skip_in, past, skip_on, polys_on}
+use Rattle.stored.specs.Stored.{size_at, term_of, poly_at, polys_at}
 use Rattle.polynomials.specs.Poly.{Poly}
 use Rattle.polynomials.specs.Division.{degree, degrees, highest, leader}
 use Rattle.polynomials.specs.Packed.{bytes, term, terms}
@@ -23,32 +23,16 @@ use Rattle.heads.specs.Heads.{AllHold}
 abbrev pub all_at : List Rec → ℕ → ℕ → List Poly
 all_at v i k = map terms (polys_at v i k)
 
--- The record behind the polynomial at record i, by its head.
-abbrev pub past : List (List ℕ) → ℕ → ℕ
-past w i = i + (1 + get_or (get_or w i []) 0 0)
-
-past_is : (w : List (List ℕ)) (i : ℕ) → i + 1 + size_at (view w) i ≡ past w i
-past_is w i = omega (arith, size_in w i)
-
 -- A walk over k polynomials has passed j of them and come to record i.
 module _ (w : List (List ℕ)) (i k j : ℕ) (some : j < k) where
-  left : k - j ≡ suc (k - (j + 1))
-  left = omega arith
-
-  pub skip_on : skip_to (view w) (past w i) (k - (j + 1)) ≡ skip_to (view w) i (k - j)
-  skip_on = sym (ap (skip_to (view w) i) left ∙ ap (λ (n : ℕ). skip_to (view w) n (k - (j + 1))) (past_is w i))
-
-  polys_on : polys_at (view w) i (k - j) ≡ poly_at (view w) i ∷ polys_at (view w) (past w i) (k - (j + 1))
-  polys_on = ap (polys_at (view w) i) left ∙ ap (λ (n : ℕ). poly_at (view w) i ∷ polys_at (view w) n (k - (j + 1))) (past_is w i)
-
   pub all_on : all_at (view w) i (k - j) ≡ terms (poly_at (view w) i) ∷ all_at (view w) (past w i) (k - (j + 1))
-  all_on = ap (map terms) polys_on
+  all_on = ap (map terms) (polys_on w i k j some)
 
   pub hold_here : ((p : ℕ) × AllHold p (polys_at (view w) i (k - j))) → (p : ℕ) × Holds p (poly_at (view w) i)
-  hold_here h = (h.0, (subst (AllHold h.0) polys_on h.1).0)
+  hold_here h = (h.0, (subst (AllHold h.0) (polys_on w i k j some) h.1).0)
 
   pub hold_on : ((p : ℕ) × AllHold p (polys_at (view w) i (k - j))) → (p : ℕ) × AllHold p (polys_at (view w) (past w i) (k - (j + 1)))
-  hold_on h = (h.0, (subst (AllHold h.0) polys_on h.1).1)
+  hold_on h = (h.0, (subst (AllHold h.0) (polys_on w i k j some) h.1).1)
 
   pub zero_on : some_zero (all_at (view w) i (k - j)) ≡ (is_zero (terms (poly_at (view w) i)) || some_zero (all_at (view w) (past w i) (k - (j + 1))))
   unfolding some_zero

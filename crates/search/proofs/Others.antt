@@ -15,7 +15,8 @@ use Rattle.rules.specs.Branch.{led_by, Found, none, found, behind, earliest, oth
 use Rattle.polynomials.specs.Packed.{terms}
 use Rattle.records.specs.Records.{Rec, view}
 use Rattle.stored.specs.Stored.{poly_at}
-use Rattle.heads.proofs.Walk.{all_at, past, all_on, hold_here, hold_on, passing}
+use Rattle.stored.proofs.Laws.{past}
+use Rattle.heads.proofs.Walk.{all_at, all_on, hold_here, hold_on, passing}
 use Rattle.search.specs.Search.{other_place}
 
 -- What is found among those from place j on.

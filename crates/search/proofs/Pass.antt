@@ -24,9 +24,9 @@ use Rattle.records.specs.Records.{Rec, view}
 use Rattle.records.proofs.Rows.{length_view}
 use Rattle.stored.specs.Stored.{size_at, poly_at, polys_at}
 use Rattle.stored.specs.laws.Stored.{length_poly_at}
-use Rattle.stored.proofs.Laws.{size_in}
+use Rattle.stored.proofs.Laws.{size_in, past}
 use Rattle.heads.specs.Heads.{AllHold}
-use Rattle.heads.proofs.Walk.{all_at, past, all_on, hold_here, hold_on, first_at, no_leader_at, led_some, degree_at_first, passing}
+use Rattle.heads.proofs.Walk.{all_at, all_on, hold_here, hold_on, first_at, no_leader_at, led_some, degree_at_first, passing}
 use Rattle.search.specs.Search.{pivot_place}
 use Rattle.polynomials.specs.declared.Term.{Term as Packed}
 

@@ -99,6 +99,6 @@ module _ (p k i : ℕ) (prime : Prime p) (b : Stored) (bs ss : List Stored) (R :
     pub split_stop : (why : Reason) → q ≡ Err why → (S ≡ stopped why) × ((c : Stored) × Held v most (with_open c bs ss))
     split_stop why e =
         let o = unfinished_split_opens most i ini rst b bs ss in
-        let x : IsErr q = subst IsErr (sym e) tt in
+        let x : IsErr q = subst IsErr (sym e) refl in
         let z : Room ≡ why = err_same (sym (for_room room u.answer x) ∙ e) in
         (if_room (lacks_room u.answer x) ∙ ap stopped z, (o.0, subst (Held v most) o.1 (u.otherwise x)))

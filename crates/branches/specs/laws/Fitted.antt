@@ -1,5 +1,5 @@
 -- What an answer tells of its room, where it says whether there is room.
-use Rattle.std.specs.Prelude.{◌≡◌, Bool, true, false, Result, Ok, Err, IsOk, IsErr}
+use Rattle.std.specs.Prelude.{◌≡◌, Bool, true, false, Result, Ok, Err, is_ok, IsOk, IsErr}
 use Rattle.std.proofs.Common.{refl, subst, ap, ◌∙◌}
 use Rattle.std.proofs.lemmas.Bool.{false≢true}
 use Rattle.tables.specs.declared.Reason.{Reason}
@@ -20,6 +20,10 @@ has_room {b} e k = fitted_ok b (subst IsOk e k)
 
 pub lacks_room : {b : Bool} {r : Result (Unit {0}) Reason} → r ≡ fitted b → IsErr r → b ≡ false
 lacks_room {b} e k = fitted_err b (subst IsErr e k)
+
+pub reason_is : (b : Bool) {why : Reason} → Err why ≡ fitted b → why ≡ Room
+reason_is true e = absurd (false≢true (ap is_ok e))
+reason_is false e = cc
 
 pub for_room : (b : Bool) {r : Result (Unit {0}) Reason} → r ≡ fitted b → IsErr r → r ≡ Err Room
 for_room b e k = e ∙ ap fitted (lacks_room e k)

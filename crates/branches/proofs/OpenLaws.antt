@@ -1,18 +1,18 @@
 -- What is found by way of the open branch's own record: the polynomials of P from `first` on, and those of Q from where P ends.
 use mathlib.Core.Path.{◌≡◌, sym, ap, ap₂, ◌∙◌}
 use mathlib.Core.List.{List, [], ◌++◌}
-use Prim.Native.Nat.{ℕ, suc, ◌+◌, ◌≤◌, ◌<◌}
+use Prim.Native.Nat.{ℕ, ◌+◌, ◌≤◌}
 use native.Mathlib.Omega.{arith}
 use lib.ListN.{length, take, drop, get_or}
 use lib.Seq.{length-take-le, take_all}
-use Rattle.residues.specs.laws.Each.{each_take, each_member}
+use Rattle.residues.specs.laws.Each.{each_take}
 use Rattle.records.specs.Records.{Rec, zero_record}
 use Rattle.stored.specs.Stored.{polys_records, skip_to, polys_at, Storable}
 use Rattle.branches.specs.declared.Open.{Open}
 use Rattle.branches.specs.Area.{Stored, Held, with_open}
 use Rattle.branches.specs.Open.{open_of}
-use Rattle.branches.proofs.AreaLaws.{lies, place, place_add, at_of, at_is, own_read, skips, finds, found, Found, place_inside}
-use Rattle.branches.proofs.AreaLaws.{parted_p, parted_q, parted_q_behind, parted_at_p, parted_at_q}
+use Rattle.branches.proofs.AreaLaws.{lies, place, place_add, at_of, at_is, own_read, skips, finds, place_inside}
+use Rattle.branches.proofs.AreaLaws.{parted_p, parted_q, parted_q_behind}
 use Rattle.branches.proofs.ControlLaws.{w0_is, w1_is, w2_is}
 use Rattle.polynomials.specs.declared.Term.{Term as Packed}
 
@@ -51,12 +51,6 @@ module _ {v : List Rec} {most : ℕ} {b : Stored} {bs ss : List Stored} (H : Hel
   pub skip_p_inside : (k : ℕ) → k ≤ length b.P → skip_to v o.first k ≤ most
   skip_p_inside k h = place_inside H (take k b.P) (drop k b.P ++ (b.Q ++ b.T)) (parted_p b k) (skip_p k h)
 
-  -- The member at place i, behind those before it.
-  pub found_p : (i : ℕ) → i < length b.P → {r : ℕ} → r ≡ skip_to v o.first i → Found v most r (get_or b.P i [])
-  found_p i h s =
-      found H (take i b.P) (get_or b.P i []) (drop (suc i) b.P ++ (b.Q ++ b.T)) (parted_at_p b i h)
-      (each_member Storable i b.P [] h H.storable.0.0.0) _ (s ∙ skip_p i (omega arith))
-
   pub end_p : skip_to v o.first o.p ≡ place (at_of bs) b.P
   end_p = skip_p o.p (omega (arith, p_is)) ∙ ap (place (at_of bs)) (take_all o.p b.P (omega (arith, p_is)))
 
@@ -80,11 +74,6 @@ module _ {v : List Rec} {most : ℕ} {b : Stored} {bs ss : List Stored} (H : Hel
 
     pub skip_q_inside : (k : ℕ) → k ≤ length b.Q → skip_to v from k ≤ most
     skip_q_inside k h = place_inside H (b.P ++ take k b.Q) (drop k b.Q ++ b.T) (parted_q b k) (skip_q k h)
-
-    pub found_q : (i : ℕ) → i < length b.Q → {r : ℕ} → r ≡ skip_to v from i → Found v most r (get_or b.Q i [])
-    found_q i h t =
-        found H (b.P ++ take i b.Q) (get_or b.Q i []) (drop (suc i) b.Q ++ b.T) (parted_at_q b i h)
-        (each_member Storable i b.Q [] h H.storable.0.0.1) _ (t ∙ skip_q i (omega arith))
 
     pub end_q : skip_to v from o.q ≡ place (at_of bs) (b.P ++ b.Q)
     end_q = skip_q o.q (omega (arith, q_is)) ∙ ap (λ (l : List (List Packed)). place (at_of bs) (b.P ++ l)) (take_all o.q b.Q (omega (arith, q_is)))

@@ -22,6 +22,7 @@ pub struct Listed {
 }
 
 // The listed systems, by the control record.
+#[tactic(auto, using(records::proofs::Rows::word_2, records::proofs::Rows::word_3, crate::proofs::ControlLaws::listed_is))]
 pub fn listed_systems(w: &[Record]) -> Listed
     requires { (a : Area) × HeldIn w.now a }
     ensures { (a : Area) → HeldIn w.now a → result ≡ listed_of (length w.now) a }

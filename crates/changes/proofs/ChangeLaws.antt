@@ -1,47 +1,72 @@
 -- A branch against itself without a member, and with a member of P moved to T; and which places the code finds for them.
-use mathlib.Core.Path.{◌≡◌, sym, ap, subst, ◌∙◌}
+use mathlib.Core.Path.{◌≡◌, sym, subst, ◌∙◌}
 use mathlib.Core.List.{List, [], ◌∷◌, ◌++◌, append_assoc}
-use Prim.Native.Nat.{ℕ, suc, ◌+◌, ◌-◌, ◌≤◌, ◌<◌}
+use Prim.Native.Nat.{ℕ, ◌+◌, ◌-◌, ◌≤◌, ◌<◌}
 use native.Mathlib.Omega.{arith}
-use lib.ListN.{length, take, drop, get_or}
+use lib.ListN.{length, get_or}
 use Rattle.records.specs.Records.{Rec, view}
 use Rattle.stored.specs.Stored.{skip_to}
 use Rattle.branches.specs.Words.{remove}
-use Rattle.branches.specs.laws.Words.{remove_in_parts, length_remove}
-use Rattle.branches.specs.Area.{Stored, Held, HeldIn, size, with_open, without_p, without_q, closed}
+use Rattle.branches.specs.laws.Words.{length_remove}
+use Rattle.branches.specs.Area.{Stored, Held, HeldIn, size, with_open, without_p, without_q, closed, OpenBecomes}
+use Rattle.branches.proofs.LengthLaws.{held_by}
+use Rattle.branches.specs.declared.Member.{Member}
+use Rattle.branches.specs.declared.Member.TheVariants.{P, Q}
+use Rattle.branches.specs.Members.{HasMember, member_of, members_before, without, behind}
 use Rattle.branches.specs.declared.Open.{Open}
 use Rattle.branches.specs.Open.{open_of}
-use Rattle.branches.proofs.AreaLaws.{parted_at_p, parted_at_q}
-use Rattle.branches.proofs.OpenLaws.{skip_p, skip_q, end_q}
+use Rattle.branches.proofs.MemberLaws.{members_behind, parted_at, parted_without}
+use Rattle.branches.proofs.OpenLaws.{p_is, q_is, end_q}
 use Rattle.places.specs.Places.{More, Counts, PutAt, TakeAt}
-use Rattle.places.proofs.PlaceLaws.{more_size, size_free, counts_are}
+use Rattle.branches.proofs.LeavesLaws.{size_free}
+use Rattle.places.proofs.PlaceLaws.{more_size, counts_are}
 use Rattle.polynomials.specs.declared.Term.{Term as Packed}
 
-module _ {b : Stored} {i : ℕ} where
-  -- Without a member of P, or of Q.
-  module _ (h : i < length b.P) where
-    pub more_p : More (without_p i b) b (take i b.P) (get_or b.P i []) (drop (suc i) b.P ++ (b.Q ++ b.T))
-    more_p = record {
-      less = ap (λ (l : List (List Packed)). l ++ (b.Q ++ b.T)) (remove_in_parts i b.P) ∙ append_assoc (take i b.P) (drop (suc i) b.P) (b.Q ++ b.T);
-      more = parted_at_p b i h;
-    }
+-- ── a member taken out ──
+more_member : (m : Member) (b : Stored) → HasMember m b → More (without m b) b (members_before m b) (member_of m b) (members_behind m b)
+more_member m b h = record { less = parted_without m b; more = parted_at m b h }
 
-    pub counts_p : {p q t : ℕ} → Counts p q t b → Counts (p - 1) q t (without_p i b)
-    counts_p n = record { in_p = omega (arith, n.in_p, length_remove i b.P h); in_q = n.in_q; in_t = n.in_t }
+counts_p : (i : ℕ) (b : Stored) {p q t : ℕ} → i < length b.P → Counts p q t b → Counts (p - 1) q t (without_p i b)
+counts_p i b h n = record { in_p = omega (arith, n.in_p, length_remove i b.P h); in_q = n.in_q; in_t = n.in_t }
 
-  module _ (h : i < length b.Q) where
-    pub more_q : More (without_q i b) b (b.P ++ take i b.Q) (get_or b.Q i []) (drop (suc i) b.Q ++ b.T)
-    more_q = record {
-      less = ap (λ (l : List (List Packed)). b.P ++ (l ++ b.T)) (remove_in_parts i b.Q)
-          ∙ ap (λ (l : List (List Packed)). b.P ++ l) (append_assoc (take i b.Q) (drop (suc i) b.Q) b.T)
-          ∙ sym (append_assoc b.P (take i b.Q) (drop (suc i) b.Q ++ b.T));
-      more = parted_at_q b i h;
-    }
+counts_q : (i : ℕ) (b : Stored) {p q t : ℕ} → i < length b.Q → Counts p q t b → Counts p (q - 1) t (without_q i b)
+counts_q i b h n = record { in_p = n.in_p; in_q = omega (arith, n.in_q, length_remove i b.Q h); in_t = n.in_t }
 
-    pub counts_q : {p q t : ℕ} → Counts p q t b → Counts p (q - 1) t (without_q i b)
-    counts_q n = record { in_p = n.in_p; in_q = omega (arith, n.in_q, length_remove i b.Q h); in_t = n.in_t }
+module _ {w : List (List ℕ)} {b : Stored} {bs ss : List Stored} (H : HeldIn w (with_open b bs ss)) {o : Open} (e : o ≡ open_of b bs) where
+  take : {from p q t : ℕ} (m : Member) → HasMember m b → from ≡ behind bs (members_before m b) → Counts p q t (without m b) → TakeAt w from p q t (without m b) bs ss
+  take m h there counts = record {
+    c = b;
+    held = H;
+    xs = members_before m b;
+    f = member_of m b;
+    ys = members_behind m b;
+    takes = more_member m b h;
+    there = there;
+    counts = counts;
+  }
+
+  -- The member m of P, and of Q; there is one.
+  module _ (m : Member) (h : HasMember m b) {from : ℕ} (there : from ≡ behind bs (members_before m b)) {i : ℕ} where
+    pub take_p : m ≡ P i → TakeAt w from (o.p - 1) o.q o.t (without m b) bs ss
+    take_p is = take m h there (subst (λ (m : Member). HasMember m b → Counts (o.p - 1) o.q o.t (without m b)) (sym is) (λ (j : i < length b.P). counts_p i b j (counts_are H e)) h)
+
+    pub take_q : m ≡ Q i → TakeAt w from o.p (o.q - 1) o.t (without m b) bs ss
+    take_q is = take m h there (subst (λ (m : Member). HasMember m b → Counts o.p (o.q - 1) o.t (without m b)) (sym is) (λ (j : i < length b.Q). counts_q i b j (counts_are H e)) h)
+
+module _ {v : List Rec} {most : ℕ} {b : Stored} {bs ss : List Stored} (H : Held v most (with_open b bs ss)) {o : Open} (e : o ≡ open_of b bs) where
+  module _ (m : Member) (h : HasMember m b) {i : ℕ} where
+    pub some_p : m ≡ P i → 1 ≤ o.p
+    some_p is = let j : i < length b.P = subst (λ (m : Member). HasMember m b) is h in omega (arith, p_is H e)
+
+    pub some_q : m ≡ Q i → 1 ≤ o.q
+    some_q is = let j : i < length b.Q = subst (λ (m : Member). HasMember m b) is h in omega (arith, q_is H e)
 
 -- ── a member of P moved to the front of T ──
+-- It is taken out first.
+pub taken : (w w₁ : List (List ℕ)) (same : length w₁ ≡ length w) (i : ℕ) → OpenBecomes (without_p i) w w₁ → {b : Stored} {bs ss : List Stored} → HeldIn w (with_open b bs ss)
+    → HeldIn w₁ (with_open (without_p i b) bs ss)
+taken w w₁ same i become H = held_by _ _ w w₁ (sym same) (become _ _ _ H)
+
 module _ (b : Stored) (i : ℕ) where
   more_t : More (without_p i b) (closed i b) (remove i b.P ++ b.Q) (get_or b.P i []) b.T
   more_t = record {
@@ -53,41 +78,12 @@ module _ (b : Stored) (i : ℕ) where
   counts_t n = record { in_p = n.in_p; in_q = n.in_q; in_t = omega (arith, n.in_t) }
 
   -- It takes the room that it took.
-  pub closed_fits : {v : List Rec} {most : ℕ} {bs ss : List Stored} → i < length b.P → Held v most (with_open b bs ss)
-      → size (with_open (closed i b) bs ss) ≤ most
-  closed_fits {bs = bs} {ss} h H = omega (arith, more_size more_t bs ss, more_size (more_p {b = b} h) bs ss, size_free H)
-
--- ── the places ──
-module _ {w : List ℕ} {b : Stored} {bs ss : List Stored} (H : HeldIn w (with_open b bs ss)) {o : Open} (e : o ≡ open_of b bs) where
-  -- The member of P at place i lies behind those before it.
-  pub take_p : {i from : ℕ} → i < length b.P → from ≡ skip_to (view w) o.first i → TakeAt w from (o.p - 1) o.q o.t (without_p i b) bs ss
-  take_p {i} h there = record {
-    c = b;
-    held = H;
-    xs = take i b.P;
-    f = get_or b.P i [];
-    ys = drop (suc i) b.P ++ (b.Q ++ b.T);
-    takes = more_p h;
-    there = there ∙ skip_p H e i (omega arith);
-    counts = counts_p h (counts_are H e);
-  }
-
-  -- That of Q lies behind P and those before it.
-  pub take_q : {i behind_p from : ℕ} → i < length b.Q → behind_p ≡ skip_to (view w) o.first o.p → from ≡ skip_to (view w) behind_p i
-      → TakeAt w from o.p (o.q - 1) o.t (without_q i b) bs ss
-  take_q {i} h s there = record {
-    c = b;
-    held = H;
-    xs = b.P ++ take i b.Q;
-    f = get_or b.Q i [];
-    ys = drop (suc i) b.Q ++ b.T;
-    takes = more_q h;
-    there = there ∙ skip_q H e s i (omega arith);
-    counts = counts_q h (counts_are H e);
-  }
+  pub closed_fits : (w w₁ : List (List ℕ)) {bs ss : List Stored} → length w₁ ≡ length w → i < length b.P → HeldIn w (with_open b bs ss)
+      → size (with_open (closed i b) bs ss) ≤ length w₁
+  closed_fits w w₁ {bs} {ss} same h H = omega (arith, more_size more_t bs ss, more_size (more_member (P i) b h) bs ss, size_free H)
 
 -- The member of P that was taken out, f, goes in before T, behind Q.
-module _ {w : List ℕ} (b : Stored) (i : ℕ) {bs ss : List Stored} (H : HeldIn w (with_open (without_p i b) bs ss))
+module _ {w : List (List ℕ)} (b : Stored) (i : ℕ) {bs ss : List Stored} (H : HeldIn w (with_open (without_p i b) bs ss))
     {o : Open} (e : o ≡ open_of (without_p i b) bs) where
   pub put_t : (f : List Packed) {behind_p to : ℕ} → get_or b.P i [] ≡ f → behind_p ≡ skip_to (view w) o.first o.p → to ≡ skip_to (view w) behind_p o.q
       → PutAt w to f o.p o.q (o.t + 1) (closed i b) bs ss

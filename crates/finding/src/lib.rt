@@ -9,6 +9,7 @@ use polynomials::Term;
 use records::Record;
 
 // Whether the polynomial at record `at` is f.
+#[tactic(auto, using(stored::proofs::Laws::size_in, records::proofs::Rows::length_view, crate::proofs::Laws::term_at_poly, stored::specs::laws::Stored::length_poly_at, crate::proofs::Laws::equal_terms, crate::proofs::Laws::other_terms, crate::proofs::Laws::not_same, std::proofs::lemmas::List::take_more_same, std::proofs::lemmas::List::take_all, stored::specs::laws::Stored::same_of_equal))]
 fn equal_at(w: &[Record], at: usize, f: &[Term]) -> bool
     requires at_bound { (at < length w.now) × (at + 1 + size_at (view w.now) at ≤ length w.now) }
     requires storable { Storable f.now }
@@ -26,6 +27,7 @@ fn equal_at(w: &[Record], at: usize, f: &[Term]) -> bool
 }
 
 // Whether one of the k polynomials from record `at` on is f.
+#[tactic(auto, using(stored::proofs::Laws::size_in, stored::proofs::Laws::skip_in, stored::proofs::Laws::skip_turn, crate::proofs::Laws::member_turn), unfolding(stored::specs::Stored::member))]
 pub fn contains(w: &[Record], at: usize, k: usize, f: &[Term]) -> bool
     requires k_bound { skip_to (view w.now) at k ≤ length w.now }
     requires storable { Storable f.now }

@@ -1,17 +1,17 @@
 -- What is left when a polynomial is put in or taken out and the branch's counts and its end are written: the records hold the state with the branch so changed.
-use mathlib.Core.Path.{◌≡◌, refl, sym, ap, ◌∙◌, subst}
-use mathlib.Core.Bool.{Bool, true, false, false≢true}
-use mathlib.Core.List.{List, ◌∷◌, ◌++◌}
+use mathlib.Core.Path.{◌≡◌, sym, ap, ◌∙◌, subst}
+use mathlib.Core.List.{List, [], ◌∷◌, ◌++◌}
 use Prim.Native.Nat.{ℕ, ◌+◌, ◌-◌, ◌≤◌, ◌<◌}
 use native.Mathlib.Omega.{arith}
-use borrow.Author.Tests.{le-leb, lt-leb}
 use mir.Syntax.{w32}
 use mir.Val.{Fits}
 use lib.ListN.{length, drop, get_or, set, length-drop}
-use lib.Seq.{drop-set-lt}
+use Rattle.std.specs.Prelude.{Ok, Err}
+use Rattle.tables.specs.declared.Reason.TheVariants.{Room}
 use Rattle.residues.specs.Each.{Each}
 use Rattle.residues.specs.laws.Each.{each_append}
-use Rattle.records.specs.Records.{Rec, record_of, zero_record}
+use Rattle.records.specs.Records.{Rec, record_of, zero_record, record_at, view}
+use Rattle.records.proofs.Rows.{view_at, view_set}
 use Rattle.stored.specs.Stored.{poly_records, size_at, inserted, removed, Storable}
 use Rattle.stored.specs.laws.Stored.{length_le_polys_records}
 use Rattle.branches.specs.declared.Open.{Open}
@@ -20,20 +20,21 @@ use Rattle.branches.specs.Area.{Stored, Held, Area, Leaves, size, with_open, sta
 use Rattle.branches.proofs.AreaLaws.{Lies, lies, place, place_add, place_one, own_is, first_is, size_of, own_set, first_set, put_in, take_out}
 use Rattle.branches.proofs.AreaLaws.{freed, length_freed, all, at_of, end_of, end_is, own_of, control, room_is, held_again}
 use Rattle.branches.proofs.OpenLaws.{p_is, q_is, t_is}
-use Rattle.branches.proofs.OutsideLaws.{drop_lies}
-use Rattle.branches.proofs.ControlLaws.{Read, ends as control-ends, end_le_top, fits_free, over_free}
-use Rattle.places.specs.Places.{More, Counts, behind, resized}
+use Rattle.branches.proofs.LeavesLaws.{size_free, leaves_held, leaves_none}
+use Rattle.branches.proofs.RowLaws.{ctl_word, own_word, end_row, top_row}
+use Rattle.places.specs.Places.{More, Counts, PutAt, TakeAt, SomeOpen, resized}
 use Rattle.polynomials.specs.declared.Term.{Term as Packed}
 
 -- ── both records written anew ──
 -- The words that stay are read before.
-pub rewritten : (v : List Rec) {v₁ v₂ : List Rec} {at top systems under : ℕ} (end p q t : ℕ) → at ≡ (get_or v 0 zero_record).w0 → top ≡ (get_or v 0 zero_record).w2
-    → systems ≡ (get_or v 0 zero_record).w3 → under ≡ (get_or v at zero_record).w3 → v₁ ≡ set v at (record_of p q t under)
-    → v₂ ≡ set v₁ 0 (record_of at end top systems) → v₂ ≡ resized v end p q t
-rewritten v {at = at} end p q t a top systems under e₁ e₂ =
-    e₂ ∙ (λ k. set (e₁ k) 0 (record_of at end (top k) (systems k)))
-    ∙ (λ k. set (set v at (record_of p q t (under k))) 0 (record_of at end (get_or v 0 zero_record).w2 (get_or v 0 zero_record).w3))
-    ∙ ap (λ (n : ℕ). set (set v n (record_of p q t (get_or v n zero_record).w3)) 0 (record_of n end (get_or v 0 zero_record).w2 (get_or v 0 zero_record).w3)) a
+pub rewritten : (w : List (List ℕ)) (end p q t : ℕ)
+    → view (set (set w (ctl_word w 0) (p ∷ q ∷ t ∷ own_word w 3 ∷ [])) 0 (ctl_word w 0 ∷ end ∷ ctl_word w 2 ∷ ctl_word w 3 ∷ [])) ≡ resized (view w) end p q t
+rewritten w end p q t =
+    let first : record_at (get_or w 0 []) ≡ get_or (view w) 0 zero_record = sym (view_at w 0) in
+    let own : record_at (get_or w (ctl_word w 0) []) ≡ get_or (view w) (ctl_word w 0) zero_record = sym (view_at w (ctl_word w 0)) in
+    view_set _ 0 _ _ _ _ ∙ ap (λ (v : List Rec). set v 0 (record_of (ctl_word w 0) end (ctl_word w 2) (ctl_word w 3))) (view_set w (ctl_word w 0) _ _ _ _)
+    ∙ ap (λ (o : Rec). set (set (view w) (ctl_word w 0) (record_of p q t o.w3)) 0 (record_of (ctl_word w 0) end (ctl_word w 2) (ctl_word w 3))) own
+    ∙ ap (λ (c : Rec). set (set (view w) c.w0 (record_of p q t (get_or (view w) c.w0 zero_record).w3)) 0 (record_of c.w0 end c.w2 c.w3)) first
 
 -- ── the polynomials of a branch ──
 storable_all : (b : Stored) → StorableBranch b → Each Storable (all b)
@@ -64,19 +65,6 @@ module _ {b c : Stored} {xs : List (List Packed)} {f : List Packed} {ys : List (
       let s = (each_append Storable xs (f ∷ ys)).0 (subst (Each Storable) m.more (storable_all c h)) in
       storable_parts b (subst (Each Storable) (sym m.less) ((each_append Storable xs ys).1 (s.0, s.1.1)))
 
--- ── room ──
--- The records that are not in use are free.
-pub size_free : {v : List Rec} {most : ℕ} {a : Area} (H : Held v most a) → size a + length H.free ≡ most
-unfolding size
-size_free H = omega (arith, H.fits)
-
-pub leaves_held : {v : List Rec} {most : ℕ} {a₀ a : Area} → Held v most a → Leaves most a₀ a true v
-leaves_held {v} {most} {a = a} H =
-    record { answer = sym (le-leb (size a) most (omega (arith, size_free H))); held = λ e. H; otherwise = λ e. absurd (false≢true (sym e)) }
-
-pub held_left : {v : List Rec} {most : ℕ} {a₀ a : Area} {r : Bool} → Leaves most a₀ a r v → size a ≤ most → Held v most a
-held_left {most = most} {a = a} L h = L.held (L.answer ∙ le-leb (size a) most h)
-
 module _ {v : List Rec} {most : ℕ} {b : Stored} {bs ss : List Stored} (H : Held v most (with_open b bs ss)) where
   -- One more than a count of the open branch fits a word.
   pub counts_fit : {p q t : ℕ} → Counts p q t b → Fits w32 (p + 1) × Fits w32 (q + 1) × Fits w32 (t + 1)
@@ -102,15 +90,6 @@ module _ {v : List Rec} {most : ℕ} {b : Stored} {bs ss : List Stored} (H : Hel
     start_inside : (get_or v₁ 0 zero_record).w0 < most
     start_inside = omega (arith, ap (λ (r : Rec). r.w0) (first_is L), room_is H)
 
-    -- The records beyond stay when both records are written anew.
-    beyond_resized : place (at_of bs) fs + length free ≡ end_of b bs + length H.free → (end p q t : ℕ) → drop most (resized v₁ end p q t) ≡ drop most v
-    beyond_resized room end p q t =
-        let first : Rec = get_or v₁ 0 zero_record in
-        let own : Rec = record_of p q t (get_or v₁ first.w0 zero_record).w3 in
-        let whole : place (at_of bs) fs + length free + length (systems_records ss) ≡ most = omega (arith, room, room_is H) in
-        drop-set-lt most (set v₁ first.w0 own) 0 (record_of first.w0 end first.w2 first.w3) (omega (arith, start_inside))
-        ∙ drop-set-lt most v₁ first.w0 own start_inside ∙ drop_lies (systems_records ss) L whole ∙ sym (drop_lies (systems_records ss) (lies H) (room_is H))
-
     held_resized : {b₁ : Stored} → all b₁ ≡ fs → end_of b₁ bs + length free ≡ end_of b bs + length H.free → StorableBranch b₁
         → {p q t : ℕ} → Counts p q t b₁ → {end : ℕ} → end ≡ end_of b₁ bs → {v₂ : List Rec} → v₂ ≡ resized v₁ end p q t → Held v₂ most (with_open b₁ bs ss)
     held_resized {b₁} s room h {p} {q} {t} n {end} e {v₂} put =
@@ -128,99 +107,69 @@ module _ {v : List Rec} {most : ℕ} {b : Stored} {bs ss : List Stored} (H : Hel
         held_again H v₂ b₁ free
         (subst (λ (l : List (List Packed)). Lies v₂ (control b₁ bs ss free ∷ (stack bs).0) own l free fin (at_of bs)) (sym s) L₂) room h
 
-  module _ {end : ℕ} (e : end ≡ (get_or v 0 zero_record).w1) where
-    read : Read v (get_or v 0 zero_record).w0 end
-    read = record { at_word = refl; end_word = e }
+-- ── f put in ──
+module _ (w : List (List ℕ)) {to : ℕ} {f : List Packed} {p q t : ℕ} {c : Stored} {bs ss : List Stored} (A : PutAt w to f p q t c bs ss) where
+  pub no_room : ctl_word w 2 - ctl_word w 1 < length f + 1 → Leaves (length w) (with_open A.b bs ss) (with_open c bs ss) (Err Room) (view w)
+  no_room h = leaves_none A.held (omega (arith, more_size A.adds bs ss, size_free A.held, end_row w A.held, top_row w A.held))
 
-    ends : end ≡ end_of b bs
-    ends = control-ends H read
+  module _ (room : length f + 1 ≤ ctl_word w 2 - ctl_word w 1) where
+    fits : length f + 1 ≤ length A.held.free
+    fits = omega (arith, room, end_row w A.held, top_row w A.held)
 
-    -- ── f put in ──
-    module _ {top : ℕ} (e' : top ≡ (get_or v 0 zero_record).w2) where
-      pub end_inside : end ≤ top
-      end_inside = end_le_top H read e'
+    module _ (w₁ : List (List ℕ)) (put : view w₁ ≡ inserted (view w) to (ctl_word w 1 - to) (poly_records f)) where
+      into : Changed A.held (view w₁) (A.xs ++ (f ∷ A.ys)) (drop (length f + 1) A.held.free)
+      into =
+          put_in (lies A.held) A.xs A.ys A.adds.less f fits (view w₁) (put ∙ (λ k. inserted (view w) (A.there k) (end_row w A.held k - A.there k) (poly_records f)))
 
-      pub no_room : {c : Stored} {xs : List (List Packed)} {f : List Packed} {ys : List (List Packed)} → More b c xs f ys → top - end < length f + 1
-          → Leaves most (with_open b bs ss) (with_open c bs ss) false v
-      no_room {c} m h =
-          record {
-            answer = sym (lt-leb (size (with_open c bs ss)) most (omega (arith, more_size m bs ss, size_free H, over_free H read e' h)));
-            held = λ e. absurd (false≢true e);
-            otherwise = λ e. H;
-          }
+      pub left_put : Storable f → {a₀ : Area} → (w₂ : List (List ℕ)) → view w₂ ≡ resized (view w₁) (ctl_word w 1 + (length f + 1)) p q t
+          → Leaves (length w) a₀ (with_open c bs ss) (Ok tt) (view w₂)
+      left_put k w₂ e =
+          let grown : end_of c bs ≡ end_of A.b bs + (length f + 1) = more_ends A.adds bs in
+          leaves_held (held_resized A.held into A.adds.more (omega (arith, fits, length-drop (length f + 1) A.held.free))
+          (storable_more A.adds k A.held.storable.0.0) A.counts (omega (arith, end_row w A.held)) e)
 
-    module _ {c : Stored} {xs : List (List Packed)} {f : List Packed} {ys : List (List Packed)} (m : More b c xs f ys) {to : ℕ} (there : to ≡ behind bs xs)
-        {top : ℕ} (e' : top ≡ (get_or v 0 zero_record).w2) (room : length f + 1 ≤ top - end) where
-      fits : length f + 1 ≤ length H.free
-      fits = fits_free H read e' room
+-- ── f taken out ──
+module _ (w : List (List ℕ)) {from p q t : ℕ} {b : Stored} {bs ss : List Stored} (A : TakeAt w from p q t b bs ss) where
+  -- The first record of f says how many are behind it.
+  whole : get_or (get_or w from []) 0 0 + 1 ≡ length A.f + 1
+  whole =
+      ap (λ (r : Rec). r.w0 + 1) (sym (view_at w from)) ∙ ap (λ (n : ℕ). size_at (view w) n + 1) A.there
+      ∙ ap (λ (n : ℕ). n + 1) (size_of (lies A.held) A.xs A.f A.ys A.takes.more)
 
-      pub put_inside : (to ≤ end) × (end + (length f + 1) ≤ most)
-      put_inside = (omega (arith, ends, there, ap (place (at_of bs)) m.less, place_add (at_of bs) xs ys), omega (arith, ends, room_is H, fits))
+  module _ (w₁ : List (List ℕ)) (gone : view w₁ ≡ removed (view w) from (get_or (get_or w from []) 0 0 + 1) (ctl_word w 1 - from - (get_or (get_or w from []) 0 0 + 1))) where
+    out : Changed A.held (view w₁) (A.xs ++ A.ys) (freed (lies A.held) (place (at_of bs) (A.xs ++ A.ys)))
+    out =
+        take_out (lies A.held) A.xs A.f A.ys A.takes.more (view w₁)
+        (gone ∙ (λ k. removed (view w) (A.there k) (whole k) (end_row w A.held k - A.there k - whole k)))
 
-      module _ {v₁ : List Rec} (put : v₁ ≡ inserted v to (end - to) (poly_records f)) where
-        into : Changed v₁ (xs ++ (f ∷ ys)) (drop (length f + 1) H.free)
-        into = put_in (lies H) xs ys m.less f fits v₁ (put ∙ (λ k. inserted v (there k) (ends k - there k) (poly_records f)))
+    pub held_take : (w₂ : List (List ℕ)) → view w₂ ≡ resized (view w₁) (ctl_word w 1 - (get_or (get_or w from []) 0 0 + 1)) p q t
+        → Held (view w₂) (length w) (with_open b bs ss)
+    held_take w₂ e =
+        let shrunk : end_of A.c bs ≡ end_of b bs + (length A.f + 1) = more_ends A.takes bs in
+        held_resized A.held out A.takes.less (omega (arith, length_freed (lies A.held) A.xs A.f A.ys A.takes.more))
+        (storable_less A.takes A.held.storable.0.0) A.counts (omega (arith, end_row w A.held, whole)) e
 
-        pub put_start : (get_or v₁ 0 zero_record).w0 < most
-        put_start = start_inside into
+-- ── where some branch is open ──
+module _ (w : List (List ℕ)) {to : ℕ} {f : List Packed} {p q t : ℕ} (o : SomeOpen (PutAt w to f p q t)) (room : length f + 1 ≤ ctl_word w 2 - ctl_word w 1) where
+  pub put_inside : (to ≤ ctl_word w 1) × (ctl_word w 1 + (length f + 1) ≤ length w)
+  put_inside = (
+    omega (arith, end_row w o.3.held, o.3.there, ap (place (at_of o.1)) o.3.adds.less, place_add (at_of o.1) o.3.xs o.3.ys),
+    omega (arith, end_row w o.3.held, room_is o.3.held, fits w o.3 room),
+  )
 
-        pub held_put : Storable f → {p q t : ℕ} → Counts p q t c → {v₂ : List Rec} → v₂ ≡ resized v₁ (end + (length f + 1)) p q t
-            → Held v₂ most (with_open c bs ss)
-        held_put k n e₂ =
-            let grown : end_of c bs ≡ end_of b bs + (length f + 1) = more_ends m bs in
-            held_resized into m.more (omega (arith, fits, length-drop (length f + 1) H.free)) (storable_more m k H.storable.0.0) n
-            (omega (arith, ends)) e₂
+  pub put_start : (w₁ : List (List ℕ)) → view w₁ ≡ inserted (view w) to (ctl_word w 1 - to) (poly_records f) → (get_or (view w₁) 0 zero_record).w0 < length w
+  put_start w₁ e = start_inside o.3.held (into w o.3 room w₁ e)
 
-        pub beyond_put : (p q t : ℕ) → drop most (resized v₁ (end + (length f + 1)) p q t) ≡ drop most v
-        beyond_put =
-            beyond_resized into
-            (omega (
-              arith,
-              fits,
-              length-drop (length f + 1) H.free,
-              place_one (at_of bs) xs f ys,
-              place_add (at_of bs) xs ys,
-              ap (place (at_of bs)) m.less,
-            ))
-            (end + (length f + 1))
+module _ (w : List (List ℕ)) {from p q t : ℕ} (o : SomeOpen (TakeAt w from p q t)) where
+  pub take_first : (from < length w) × (length w ≤ 65536)
+  take_first = (omega (arith, o.3.there, ap (place (at_of o.1)) o.3.takes.more, place_one (at_of o.1) o.3.xs o.3.f o.3.ys, room_is o.3.held), o.3.held.few)
 
-    -- ── f taken out ──
-    module _ {a : Stored} {xs : List (List Packed)} {f : List Packed} {ys : List (List Packed)} (m : More a b xs f ys) {from : ℕ} (there : from ≡ behind bs xs) where
-      pub take_first : from < most
-      take_first = omega (arith, there, ap (place (at_of bs)) m.more, place_one (at_of bs) xs f ys, room_is H)
+  pub take_inside : (from + (get_or (get_or w from []) 0 0 + 1) ≤ ctl_word w 1) × (ctl_word w 1 ≤ length w)
+  take_inside = (
+    omega (arith, end_row w o.3.held, o.3.there, whole w o.3, ap (place (at_of o.1)) o.3.takes.more, place_one (at_of o.1) o.3.xs o.3.f o.3.ys),
+    omega (arith, end_row w o.3.held, room_is o.3.held),
+  )
 
-      -- The first record of f says how many are behind it.
-      module _ {n : ℕ} (size : n ≡ size_at v from) where
-        whole : n + 1 ≡ length f + 1
-        whole = ap (λ (k : ℕ). k + 1) (size ∙ ap (size_at v) there ∙ size_of (lies H) xs f ys m.more)
-
-        pub take_inside : (from + (n + 1) ≤ end) × (end ≤ most)
-        take_inside = (
-          omega (arith, ends, there, whole, ap (place (at_of bs)) m.more, place_one (at_of bs) xs f ys),
-          omega (arith, ends, room_is H),
-        )
-
-        module _ {v₁ : List Rec} (gone : v₁ ≡ removed v from (n + 1) (end - from - (n + 1))) where
-          out : Changed v₁ (xs ++ ys) (freed (lies H) (place (at_of bs) (xs ++ ys)))
-          out = take_out (lies H) xs f ys m.more v₁ (gone ∙ (λ k. removed v (there k) (whole k) (ends k - there k - whole k)))
-
-          pub take_start : (get_or v₁ 0 zero_record).w0 < most
-          take_start = start_inside out
-
-          pub held_take : {p q t : ℕ} → Counts p q t a → {v₂ : List Rec} → v₂ ≡ resized v₁ (end - (n + 1)) p q t → Held v₂ most (with_open a bs ss)
-          held_take c e₂ =
-              let shrunk : end_of b bs ≡ end_of a bs + (length f + 1) = more_ends m bs in
-              held_resized out m.less (omega (arith, length_freed (lies H) xs f ys m.more)) (storable_less m H.storable.0.0) c
-              (omega (arith, ends, whole)) e₂
-
-          pub beyond_take : (p q t : ℕ) → drop most (resized v₁ (end - (n + 1)) p q t) ≡ drop most v
-          beyond_take =
-              beyond_resized out
-              (omega (
-                arith,
-                length_freed (lies H) xs f ys m.more,
-                place_one (at_of bs) xs f ys,
-                place_add (at_of bs) xs ys,
-                ap (place (at_of bs)) m.more,
-              ))
-              (end - (n + 1))
+  pub take_start : (w₁ : List (List ℕ)) → view w₁ ≡ removed (view w) from (get_or (get_or w from []) 0 0 + 1) (ctl_word w 1 - from - (get_or (get_or w from []) 0 0 + 1))
+      → (get_or (view w₁) 0 zero_record).w0 < length w
+  take_start w₁ e = start_inside o.3.held (out w o.3 w₁ e)

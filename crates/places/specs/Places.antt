@@ -1,5 +1,5 @@
 -- One polynomial more, or one less, among those of the open branch: where it lies, and which state the work area holds then.
-use Rattle.std.specs.Prelude.{◌≡◌, refl, List, [], ◌∷◌, ◌++◌, ℕ, ◌+◌, length, get_or, set}
+use Rattle.std.specs.Prelude.{◌≡◌, refl, List, [], ◌∷◌, ◌++◌, ℕ, length, get_or, set}
 use Rattle.records.specs.Records.{Rec, record_of, zero_record}
 use Rattle.branches.specs.Area.{Stored, HeldIn, with_open}
 use Rattle.branches.specs.Members.{behind}

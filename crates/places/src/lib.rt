@@ -1,7 +1,7 @@
 // A polynomial put in among those of the open branch, or taken out, at a record that is known.
 #![tactic(auto)]
 
-ghost use Rattle.std.specs.Prelude.{◌≡◌, List, ◌<◌, get_or};
+ghost use Rattle.std.specs.Prelude.{◌≡◌, List, ◌<◌, length, get_or};
 ghost use Rattle.records.specs.Records.{view, zero_record};
 ghost use Rattle.stored.specs.Stored.{Storable};
 ghost use Rattle.branches.specs.Area.{Stored, Held, Leaves, with_open};
@@ -12,6 +12,7 @@ use records::Record;
 use tables::Reason;
 
 // Puts f in at record `to`, so that P, Q and T have p, q and t members; refused if there is no room.
+#[tactic(auto, using(crate::proofs::PlaceLaws::put_start))]
 pub fn put_at(w: &mut [Record], to: usize, f: &[Term], p: u32, q: u32, t: u32) -> Result<(), Reason>
     requires storable { Storable f.now }
     requires some_open { SomeOpen (PutAt w.old to f.now p q t) }
@@ -29,6 +30,7 @@ pub fn put_at(w: &mut [Record], to: usize, f: &[Term], p: u32, q: u32, t: u32) -
 }
 
 // Takes the polynomial at record `from` out, so that P, Q and T have p, q and t members.
+#[tactic(auto, using(crate::proofs::PlaceLaws::take_start))]
 pub fn take_at(w: &mut [Record], from: usize, p: u32, q: u32, t: u32)
     requires { SomeOpen (TakeAt w.old from p q t) }
     ensures held { (b : Stored) (bs ss : List Stored) → TakeAt w.old from p q t b bs ss
@@ -41,6 +43,7 @@ pub fn take_at(w: &mut [Record], from: usize, p: u32, q: u32, t: u32)
 }
 
 // Writes where the open branch ends, and how many members P, Q and T have.
+#[tactic(auto, using(crate::proofs::PlaceLaws::rewritten))]
 fn resize(w: &mut [Record], end: u32, p: u32, q: u32, t: u32)
     requires { (get_or (view w.old) 0 zero_record).w0 < length w.old }
     ensures { view w.new ≡ resized (view w.old) end p q t }

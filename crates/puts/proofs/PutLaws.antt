@@ -6,6 +6,7 @@ use mathlib.Core.List.{List, [], ◌∷◌, ◌++◌, append_assoc}
 use Prim.Native.Nat.{ℕ, ◌+◌, ◌-◌, ◌≤◌}
 use native.Mathlib.Omega.{arith}
 use lib.ListN.{length, take, drop, length-append, take-append-drop}
+use Rattle.std.specs.Prelude.{Ok}
 use Rattle.records.specs.Records.{Rec, view}
 use Rattle.stored.specs.Stored.{member, skip_to, polys_at}
 use Rattle.branches.specs.Words.{put_p, put_q, put_q_before, is_zero, is_one, unless}
@@ -15,11 +16,12 @@ use Rattle.branches.specs.Open.{open_of}
 use Rattle.branches.proofs.AreaLaws.{place, at_of, parted_q}
 use Rattle.branches.proofs.OpenLaws.{end_p, q_is, in_q, skip_q, skip_q_inside}
 use Rattle.places.specs.Places.{More, Counts, PutAt}
-use Rattle.places.proofs.PlaceLaws.{leaves_held, counts_are}
+use Rattle.branches.proofs.LeavesLaws.{leaves_held}
+use Rattle.places.proofs.PlaceLaws.{counts_are}
 use Rattle.polynomials.specs.declared.Term.{Term as Packed}
 
 pub leaves_same : {v : List Rec} {most : ℕ} {b : Stored} {bs ss : List Stored} → Held v most (with_open b bs ss) → (c : Stored) → b ≡ c
-    → Leaves most (with_open b bs ss) (with_open c bs ss) true v
+    → Leaves most (with_open b bs ss) (with_open c bs ss) (Ok tt) v
 leaves_same {v} {most} {bs = bs} {ss} H c e = leaves_held (subst (λ (x : Stored). Held v most (with_open x bs ss)) e H)
 
 -- ── P ──
@@ -50,7 +52,7 @@ module _ (f : List Packed) (b : Stored) where
     counts_p n = record { in_p = omega (arith, n.in_p, ap length e, length-append b.P (f ∷ [])); in_q = n.in_q; in_t = n.in_t }
 
 -- What is new goes in behind P.
-module _ {w : List ℕ} {b : Stored} {bs ss : List Stored} (H : HeldIn w (with_open b bs ss)) {o : Open} (e : o ≡ open_of b bs) {to : ℕ} (f : List Packed) where
+module _ {w : List (List ℕ)} {b : Stored} {bs ss : List Stored} (H : HeldIn w (with_open b bs ss)) {o : Open} (e : o ≡ open_of b bs) {to : ℕ} (f : List Packed) where
   unfoldable pub put_in_p : length f ≢ 0 → member f b.P ≡ false → to ≡ skip_to (view w) o.first o.p
       → PutAt w to f (o.p + 1) o.q o.t (put_into_p f b) bs ss
   put_in_p some found there =
@@ -124,7 +126,7 @@ module _ (left : ℕ) (f : List Packed) (b : Stored) where
         record { in_p = n.in_p; in_q = omega (arith, n.in_q); in_t = n.in_t }
 
 -- What is new goes in behind the members of Q that are looked at.
-module _ {w : List ℕ} {b : Stored} {bs ss : List Stored} (H : HeldIn w (with_open b bs ss)) {o : Open} (e : o ≡ open_of b bs)
+module _ {w : List (List ℕ)} {b : Stored} {bs ss : List Stored} (H : HeldIn w (with_open b bs ss)) {o : Open} (e : o ≡ open_of b bs)
     {from to : ℕ} (s : from ≡ skip_to (view w) o.first o.p) (left : ℕ) (f : List Packed) where
   unfoldable pub put_in_q : is_one f ≡ false → member f (take (seen left b) b.Q) ≡ false → to ≡ skip_to (view w) from (o.q - left)
       → PutAt w to f o.p (o.q + 1) o.t (put_into_q left f b) bs ss

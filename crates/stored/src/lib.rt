@@ -21,6 +21,7 @@ pub fn term(w: &[Record], i: usize) -> Term
 }
 
 // Loads the polynomial at record `at` into the first terms of `out`; how many.
+#[tactic(auto, using(crate::proofs::Laws::size_in), unfolding(crate::specs::Stored::poly_at))]
 pub fn load(w: &[Record], at: usize, out: &mut [Term]) -> usize
     requires at_bound { (at < length w.now) × (at + 1 + size_at (view w.now) at ≤ length w.now) }
     requires at_in_bounds { size_at (view w.now) at ≤ length out.old }
@@ -35,6 +36,7 @@ pub fn load(w: &[Record], at: usize, out: &mut [Term]) -> usize
 }
 
 // Where the k polynomials from record `at` on end.
+#[tactic(auto, using(crate::proofs::Laws::size_in, crate::proofs::Laws::walk_more, crate::proofs::Laws::walk_in))]
 pub fn skip(w: &[Record], at: usize, k: usize) -> usize
     requires { skip_to (view w.now) at k ≤ length w.now }
     ensures { result ≡ skip_to (view w.now) at k }

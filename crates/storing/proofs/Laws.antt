@@ -29,10 +29,13 @@ term_written v f at i h k =
     (λ t. set (paste v at (poly_records f) (i + 1)) (to t) (sym (get_or-poly_records f i k) t))
     ∙ paste_more v at (poly_records f) (i + 1) zero_record (omega arith) (omega (arith, length_poly_records f))
 
--- The m records at `at` moved up by the length of b, and b written there.
-pub moved_then_stored : (v b : List Rec) (at m n : ℕ) → length b ≡ n → at + (n + m) ≤ length v
-    → paste (moved v at m (at + n)) at b n ≡ inserted v at m b
-moved_then_stored v b at m n l fits =
+-- The m records at `at` moved up by the records of f, and these written there.
+pub moved_then_stored : (v : List Rec) (f : List Packed) (at m : ℕ) → at + (length f + 1 + m) ≤ length v
+    → paste (moved v at m (at + (length f + 1))) at (poly_records f) (length f + 1) ≡ inserted v at m (poly_records f)
+moved_then_stored v f at m fits =
+    let b : List Rec = poly_records f in
+    let n : ℕ = length f + 1 in
+    let l : length b ≡ n = length_poly_records f in
     let X : List Rec = take (at + n) v in
     let Y : List Rec = take m (drop at v) in
     let Z : List Rec = drop (at + n + m) v in

@@ -10,6 +10,7 @@ use polynomials::Term;
 use records::Record;
 
 // Stores f from record `at` on.
+#[tactic(auto, using(records::proofs::Rows::view_set, records::proofs::Rows::length_view, crate::proofs::Laws::head_written, crate::proofs::Laws::term_written))]
 fn store(w: &mut [Record], at: usize, f: &[Term])
     requires storable { Storable f.now }
     requires f_bound { at + (length f.now + 1) ≤ length w.old }
@@ -35,6 +36,7 @@ pub fn append(w: &mut [Record], to: usize, f: &[Term]) -> usize
 }
 
 // Copies the n records from `from` on to those from `to` on; where they end.
+#[tactic(auto, using(records::proofs::Rows::view_copied))]
 pub fn append_block(w: &mut [Record], from: usize, n: usize, to: usize) -> usize
     requires { (from ≤ to) × (to + n ≤ length w.old) }
     ensures { (result ≡ to + n) × (view w.new ≡ moved (view w.old) from n to) }
@@ -44,6 +46,7 @@ pub fn append_block(w: &mut [Record], from: usize, n: usize, to: usize) -> usize
 }
 
 // Stores f at record `at`, with the records there up to `end` moved up behind it.
+#[tactic(auto, using(records::proofs::Rows::view_copied, records::proofs::Rows::length_view, crate::proofs::Laws::moved_then_stored))]
 pub fn insert(w: &mut [Record], at: usize, end: usize, f: &[Term])
     requires storable { Storable f.now }
     requires at_le_end { (at ≤ end) × (end + (length f.now + 1) ≤ length w.old) }
@@ -54,6 +57,7 @@ pub fn insert(w: &mut [Record], at: usize, end: usize, f: &[Term])
 }
 
 // Takes n records out at `at`, with the records behind them up to `end` moved down.
+#[tactic(auto, using(records::proofs::Rows::view_copied, crate::proofs::Laws::moved_down))]
 pub fn remove(w: &mut [Record], at: usize, n: usize, end: usize)
     requires { (at + n ≤ end) × (end ≤ length w.old) }
     ensures { view w.new ≡ removed (view w.old) at n (end - at - n) }

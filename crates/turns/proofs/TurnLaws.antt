@@ -1,29 +1,23 @@
 -- What is held once the open branch is dropped or listed, and at the beginning of a run.
 use mathlib.Core.Path.{◌≡◌, sym, ap, ◌∙◌}
-use mathlib.Core.Bool.{true, false, not}
-use mathlib.Core.List.{List, [], ◌∷◌, ◌++◌, append_assoc}
+use mathlib.Core.List.{List, [], ◌∷◌, ◌++◌, append_assoc, append-nil}
 use Prim.Native.Nat.{ℕ, ◌+◌, ◌-◌, ◌≤◌, ◌<◌}
 use native.Mathlib.Omega.{arith}
-use borrow.Author.Tests.{ne_eqb}
-use lib.Dec.{eqb}
-use lib.ListN.{length, take, drop, get_or, set, length-append, take-append-drop}
+use lib.ListN.{length, take, drop, set, length-append}
 use lib.Seq.{set_at, take_at, drop_at, take-append-le, take-append-add, length-take-le}
-use Rattle.records.specs.Records.{Rec, record_of, zero_record, room, view, moved}
+use Rattle.std.specs.List.{copy_within}
+use Rattle.records.specs.Records.{Rec, record_of, view, moved}
+use Rattle.records.proofs.Rows.{length_view, view_set, view_copied}
 use Rattle.stored.specs.Stored.{polys_records}
-use Rattle.branches.specs.Area.{Stored, Held, Opened, capacity, stack, branch_records, systems_records, with_open, empty}
+use Rattle.branches.specs.Area.{Stored, Held, HeldIn, Opened, stack, branch_records, systems_records, with_open, empty}
 use Rattle.branches.proofs.AreaLaws.{at_of, own_of, end_of, end_is}
-use Rattle.branches.proofs.ControlLaws.{Read, start_is, ends, free_is, bounds_inside}
+use Rattle.branches.proofs.RowLaws.{ctl_word, own_word, control_row, own_row, start_row, end_row, top_row, systems_row, rows_inside}
 
 -- A system takes a record or more.
 length_le_systems_records : (ss : List Stored) → length ss ≤ length (systems_records ss)
 unfolding systems_records
 length_le_systems_records [] = omega arith
 length_le_systems_records (s ∷ ss) = omega (arith, length-append (branch_records 0 s) (systems_records ss), length_le_systems_records ss)
-
--- A branch is left where the control record does not say 0.
-pub open_test : (bs : List Stored) (x : ℕ) → x ≡ (stack bs).1 → not (eqb x 0) ≡ elim bs [ [] ↦ false | b ∷ bs ↦ true ]
-open_test [] x h = ap (λ (n : ℕ). not (eqb n 0)) h
-open_test (b ∷ bs) x h = ap not (ne_eqb x 0 (λ e. absurd (omega arith)))
 
 module _ {v : List Rec} {most : ℕ} {b : Stored} {bs ss : List Stored} (H : Held v most (with_open b bs ss)) where
   behind : List Rec
@@ -39,24 +33,8 @@ module _ {v : List Rec} {most : ℕ} {b : Stored} {bs ss : List Stored} (H : Hel
   length_open : end_of b bs ≡ at_of bs + length (branch_records (stack bs).1 b)
   length_open = omega (arith, end_is b bs, length-append (stack bs).0 (branch_records (stack bs).1 b))
 
-  pub few_systems : length ss < 65536
+  few_systems : length ss < 65536
   few_systems = omega (arith, length_le_systems_records ss, H.fits, H.few)
-
-  pub dropped : (v' : List Rec) (x y z k : ℕ) → x ≡ (stack bs).1 → y ≡ at_of bs → z ≡ end_of b bs + length H.free → k ≡ length ss
-      → v' ≡ set v 0 (record_of x y z k) → Held v' most (record { branches = bs; systems = ss })
-  unfolding behind
-  dropped v' x y z k ex ey ez ek e =
-      let B : List Rec = branch_records (stack bs).1 b in
-      let len : length (B ++ H.free) ≡ length B + length H.free = length-append B H.free in
-      let top : z ≡ at_of bs + length (B ++ H.free) = omega (arith, length_open) in
-      record {
-        free = B ++ H.free;
-        beyond = H.beyond;
-        is = e ∙ (λ t. set (in_parts t) 0 (record_of (ex t) (ey t) (top t) (ek t))) ∙ simp append_assoc;
-        fits = omega (arith, H.fits, length_open, end_is b bs);
-        few = H.few;
-        storable = (H.storable.0.1, H.storable.1);
-      }
 
   moved_up : (v₁ v₂ v₃ : List Rec) (at n to p q t x k : ℕ) → at ≡ at_of bs → at + n ≡ end_of b bs → to + n ≡ end_of b bs + length H.free
       → p ≡ length b.P → q ≡ length b.Q → t ≡ length b.T → x ≡ (stack bs).1 → k ≡ length ss + 1
@@ -99,38 +77,53 @@ module _ {v : List Rec} {most : ℕ} {b : Stored} {bs ss : List Stored} (H : Hel
         storable = (H.storable.0.1, (H.storable.0.0, H.storable.1));
       }
 
-  -- The branch's records moved up to the end of the free ones, and its own record made a system's.
-  pub listed : {at end top : ℕ} → Read v at end → top ≡ (get_or v 0 zero_record).w2 → {v₁ v₂ v₃ : List Rec} {p q t x k : ℕ} → record_of p q t x ≡ own_of b bs → k ≡ length ss
-      → v₁ ≡ moved v at (end - at) (top - (end - at)) → v₂ ≡ set v₁ (top - (end - at)) (record_of p q t 0)
-      → v₃ ≡ set v₂ 0 (record_of x at (top - (end - at)) (k + 1)) → Held v₃ most (record { branches = bs; systems = b ∷ ss })
-  listed {at} {end} {top} R tw {p = p} {q = q} {t = t} {x = x} {k = k} o e e₁ e₂ e₃ =
-      let h = bounds_inside H R tw in
-      moved_up _ _ _ at (end - at) (top - (end - at)) p q t x (k + 1) (start_is H R) (omega (arith, ends H R)) (omega (arith, ends H R, free_is H R top tw))
-      (ap (λ (r : Rec). r.w0) o) (ap (λ (r : Rec). r.w1) o) (ap (λ (r : Rec). r.w2) o) (ap (λ (r : Rec). r.w3) o) (ap (λ (n : ℕ). n + 1) e) e₁ e₂ e₃
+module _ (w : List (List ℕ)) {b : Stored} {bs ss : List Stored} (H : HeldIn w (with_open b bs ss)) where
+  pub dropped : Held (view (set w 0 (own_word w 3 ∷ ctl_word w 0 ∷ ctl_word w 2 ∷ ctl_word w 3 ∷ []))) (length w) (record { branches = bs; systems = ss })
+  unfolding behind
+  dropped =
+      let B : List Rec = branch_records (stack bs).1 b in
+      let len : length (B ++ H.free) ≡ length B + length H.free = length-append B H.free in
+      let top : end_of b bs + length H.free ≡ at_of bs + length (B ++ H.free) = omega (arith, length_open H) in
+      record {
+        free = B ++ H.free;
+        beyond = H.beyond;
+        is = view_set w 0 _ _ _ _
+            ∙ (λ t. set (in_parts H t) 0 (record_of (own_row w H t).w3 (control_row w H t).w0 (control_row w H t).w2 (control_row w H t).w3))
+            ∙ (λ t. record_of (stack bs).1 (at_of bs) (top t) (length ss) ∷ ((stack bs).0 ++ (B ++ (H.free ++ behind H)))) ∙ simp append_assoc;
+        fits = omega (arith, H.fits, length_open H, end_is b bs);
+        few = H.few;
+        storable = (H.storable.0.1, H.storable.1);
+      }
 
--- The open branch and the free records lie inside, as the control record says.
-module _ (w : List ℕ) (o : Opened w) {at end top : ℕ} (start : at ≡ (get_or (view w) 0 zero_record).w0) (last : end ≡ (get_or (view w) 0 zero_record).w1)
-    (free : top ≡ (get_or (view w) 0 zero_record).w2) where
-  pub inside : (at < end) × (end ≤ top) × (top ≤ capacity w)
-  inside = bounds_inside o.3 (record { at_word = start; end_word = last }) free
+  -- The branch's records copied up to the end of the free ones, and its own record made a system's.
+  pub listed : (w₁ : List (List ℕ)) (to : ℕ) → to ≡ ctl_word w 2 - (ctl_word w 1 - ctl_word w 0) → w₁ ≡ copy_within w (ctl_word w 0) (ctl_word w 1) to
+      → Held (view (set (set w₁ to (own_word w 0 ∷ own_word w 1 ∷ own_word w 2 ∷ 0 ∷ [])) 0 (own_word w 3 ∷ ctl_word w 0 ∷ to ∷ (ctl_word w 3 + 1) ∷ []))) (length w)
+      (record { branches = bs; systems = b ∷ ss })
+  listed w₁ to is e =
+      let own = own_row w H in
+      let h = rows_inside w H in
+      let ends = end_row w H in
+      moved_up H (view w₁) _ _ (ctl_word w 0) (ctl_word w 1 - ctl_word w 0) to _ _ _ _ _ (start_row w H) (omega arith) (omega (arith, top_row w H))
+      (ap (λ (r : Rec). r.w0) own) (ap (λ (r : Rec). r.w1) own) (ap (λ (r : Rec). r.w2) own) (ap (λ (r : Rec). r.w3) own)
+      (ap (λ (n : ℕ). n + 1) (systems_row w H)) (ap view e ∙ view_copied w (ctl_word w 0) (ctl_word w 1) to) (view_set w₁ to _ _ _ _) (view_set _ 0 _ _ _ _)
 
-  pub own_inside : at < room w
-  own_inside = omega (arith, inside)
+-- One system more can be counted.
+pub counted : (w : List (List ℕ)) → Opened w → ctl_word w 3 + 1 < 4294967296
+counted w o = omega (arith, systems_row w o.3, few_systems o.3)
 
 -- An empty first branch.
-pub begun : (v v₁ v₂ : List Rec) (most : ℕ) → 2 ≤ most → most ≤ length v → most ≤ 65536 → v₁ ≡ set v 0 (record_of 1 2 most 0) → v₂ ≡ set v₁ 1 (record_of 0 0 0 0)
-    → Held v₂ most (with_open empty [] [])
+pub begun : (w : List (List ℕ)) → 2 ≤ length w → length w ≤ 65536
+    → Held (view (set (set w 0 (1 ∷ 2 ∷ length w ∷ 0 ∷ [])) 1 (0 ∷ 0 ∷ 0 ∷ 0 ∷ []))) (length w) (with_open empty [] [])
 unfolding systems_records polys_records
-begun [] v₁ v₂ most h l f e₁ e₂ = absurd (omega arith)
-begun (r ∷ []) v₁ v₂ most h l f e₁ e₂ = absurd (omega arith)
-begun (r ∷ (s ∷ v)) v₁ v₂ most h l f e₁ e₂ =
-    let free : List Rec = take (most - 2) v in
-    let lf : length free ≡ most - 2 = length-take-le (most - 2) v (omega arith) in
-    let top : most ≡ 2 + length free = omega arith in
+begun [] h f = absurd (omega arith)
+begun (r ∷ []) h f = absurd (omega arith)
+begun (r ∷ (s ∷ w)) h f =
+    let n = length_view w in
+    let top : length (r ∷ (s ∷ w)) ≡ 2 + length (view w) = omega arith in
     record {
-      free = free;
-      beyond = drop (most - 2) v;
-      is = e₂ ∙ ap (λ (u : List Rec). set u 1 (record_of 0 0 0 0)) e₁ ∙ (λ i. record_of 1 2 (top i) 0 ∷ (record_of 0 0 0 0 ∷ sym (take-append-drop (most - 2) v) i));
+      free = view w;
+      beyond = [];
+      is = λ i. record_of 1 2 (top i) 0 ∷ (record_of 0 0 0 0 ∷ sym (append-nil (view w)) i);
       fits = omega arith;
       few = f;
       storable = (((tt, tt, tt), tt), tt);

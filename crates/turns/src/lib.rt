@@ -1,13 +1,14 @@
 // The first branch, and what becomes of an open branch at its end: it is dropped, or listed as a system.
 #![tactic(auto)]
 
-ghost use Rattle.std.specs.Prelude.{◌≡◌, [], ◌∷◌, ◌≤◌};
+ghost use Rattle.std.specs.Prelude.{◌≡◌, [], ◌∷◌, ◌≤◌, length};
 ghost use Rattle.records.specs.Records.{view};
 ghost use Rattle.branches.specs.Area.{Area, Held, Opened, with_open, empty, has_branch, HeldIn, WhenOpen};
 
 use records::Record;
 
 // An empty first branch, whatever the words were.
+#[tactic(auto, using(crate::proofs::TurnLaws::begun))]
 pub fn begin(w: &mut [Record])
     requires { (2 ≤ length w.old) × (length w.old ≤ 65536) }
     ensures held { Held (view w.new) (length w.old) (with_open empty [] []) }
@@ -25,6 +26,7 @@ pub fn is_open(w: &[Record]) -> bool
 }
 
 // Drops the open branch.
+#[tactic(auto, using(crate::proofs::TurnLaws::dropped))]
 pub fn drop(w: &mut [Record])
     requires { Opened w.old }
     ensures when_open { WhenOpen w.old (λ b bs ss.
@@ -36,6 +38,7 @@ pub fn drop(w: &mut [Record])
 }
 
 // Lists the open branch as a system, with its P, which is empty at rule 2.
+#[tactic(auto, using(crate::proofs::TurnLaws::counted, crate::proofs::TurnLaws::listed))]
 pub fn list(w: &mut [Record])
     requires { Opened w.old }
     ensures when_open { WhenOpen w.old (λ b bs ss.

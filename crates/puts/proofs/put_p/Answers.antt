@@ -1,27 +1,30 @@
 -- f is dropped if it is zero or found in P, and else put in behind P where there is room.
 use Rattle.std.proofs.Common.{rules, ◌≡◌, ◌≢◌, ◌∙◌, sym, ap, length}
 use Rattle.stored.specs.Stored.{member}
-use Rattle.branches.proofs.LengthLaws.{inside_room}
 use Rattle.branches.proofs.OpenLaws.{end_p_inside, all_p}
 use Rattle.places.proofs.PlaceLaws.{counts_are, counts_fit}
 use Rattle.puts.proofs.PutLaws.{leaves_same, put_p_zero, put_p_found, kept_p, put_in_p}
 use Rattle.puts.proofs.put_p.Goals as goal
 
-pub returns-then-zero-clause-when_open : goal.returns-then-zero-clause-when_open
-returns-then-zero-clause-when_open c b bs ss H =
-    let none : length c.args.f.now ≡ 0 = search rules in leaves_same H _ (kept_p c.args.f.now b (put_p_zero c.args.f.now b.P none))
+pub returns-then-zero : goal.returns-then-zero
+returns-then-zero c = record {
+  when_open = λ b bs ss H.
+      let none : length c.args.f.now ≡ 0 = search rules in leaves_same H _ (kept_p c.args.f.now b (put_p_zero c.args.f.now b.P none));
+}
 
 pub contains-requires-clause-k_bound : goal.contains-requires-clause-k_bound
-contains-requires-clause-k_bound c = let o = c.requires.opened in inside_room c.args.w.now (end_p_inside o.3 (c.open_branch-b.ensures o.0 o.1 o.2 o.3))
+contains-requires-clause-k_bound c = let o = c.requires.opened in end_p_inside o.3 (c.open_branch-b.ensures o.0 o.1 o.2 o.3)
 
-pub returns-then-contains-clause-when_open : goal.returns-then-contains-clause-when_open
-returns-then-contains-clause-when_open c b bs ss H =
-    let is = c.open_branch-b.ensures b bs ss H in
-    let found = ap (member c.args.f.now) (sym (all_p H is)) ∙ sym c.contains.ensures ∙ c.if-contains.true in
-    leaves_same H _ (kept_p c.args.f.now b (put_p_found c.args.f.now _ found))
+pub returns-then-contains : goal.returns-then-contains
+returns-then-contains c = record {
+  when_open = λ b bs ss H.
+      let is = c.open_branch-b.ensures b bs ss H in
+      let found = ap (member c.args.f.now) (sym (all_p H is)) ∙ sym c.contains.ensures ∙ c.if-contains.true in
+      leaves_same H _ (kept_p c.args.f.now b (put_p_found c.args.f.now _ found));
+}
 
 pub skip-to-requires : goal.skip-to-requires
-skip-to-requires c = let o = c.requires.opened in inside_room c.args.w.now (end_p_inside o.3 (c.open_branch-b.ensures o.0 o.1 o.2 o.3))
+skip-to-requires c = let o = c.requires.opened in end_p_inside o.3 (c.open_branch-b.ensures o.0 o.1 o.2 o.3)
 
 pub overflow_add-b : goal.overflow_add-b
 overflow_add-b c =
@@ -35,10 +38,12 @@ put_at-requires-clause-some_open c =
     let found = c.contains.ensures ∙ ap (member c.args.f.now) (all_p o.3 is) in
     (_, _, _, put_in_p o.3 is c.args.f.now some (sym found ∙ c.if-contains.false) c.skip-to.ensures)
 
-pub returns-clause-when_open : goal.returns-clause-when_open
+pub returns : goal.returns
 unfolding put_in_p
-returns-clause-when_open c b bs ss H =
-    let is = c.open_branch-b.ensures b bs ss H in
-    let some : length c.args.f.now ≢ 0 = search rules in
-    let found = c.contains.ensures ∙ ap (member c.args.f.now) (all_p H is) in
-    c.put_at.ensures.leaves _ _ _ (put_in_p H is c.args.f.now some (sym found ∙ c.if-contains.false) c.skip-to.ensures)
+returns c = record {
+  when_open = λ b bs ss H.
+      let is = c.open_branch-b.ensures b bs ss H in
+      let some : length c.args.f.now ≢ 0 = search rules in
+      let found = c.contains.ensures ∙ ap (member c.args.f.now) (all_p H is) in
+      c.put_at.ensures.leaves _ _ _ (put_in_p H is c.args.f.now some (sym found ∙ c.if-contains.false) c.skip-to.ensures);
+}

@@ -1,6 +1,6 @@
 -- The words of the control record and of the open branch's own, as the work area has them.
-use Rattle.std.proofs.Common.{◌≡◌, sym, ap, ◌∙◌, ℕ, ◌+◌, ◌<◌, ◌≤◌, ◌∷◌, List, [], length, get_or, arith}
-use Rattle.records.specs.Records.{Rec, record_of, view}
+use Rattle.std.proofs.Common.{◌≡◌, sym, ap, ◌∙◌, ℕ, ◌+◌, ◌<◌, ◌≤◌, List, [], length, get_or, arith}
+use Rattle.records.specs.Records.{Rec, record_of}
 use Rattle.records.proofs.Rows.{view_at}
 use Rattle.branches.specs.Area.{Stored, HeldIn, with_open}
 use Rattle.branches.specs.declared.Open.{Open}

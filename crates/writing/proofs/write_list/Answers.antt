@@ -1,5 +1,5 @@
 -- In a turn a system lies at i; that of the contract's own systems bounds what is read and written.
-use Rattle.std.proofs.Common.{rules, ◌-◌, arith, map, reverse}
+use Rattle.std.proofs.Common.{rules, arith, map, reverse}
 use Rattle.representation.specs.Represent.{system_of}
 use Rattle.branches.proofs.ControlLaws.{top_inside, count_is}
 use Rattle.writing.proofs.Systems.{found}

@@ -1,5 +1,5 @@
 -- Elimination whole: a table refused in reading, a start that finds no room, and the run of a start that finds it.
-use Rattle.std.specs.Prelude.{◌≡◌, refl, List, ℕ, ◌≤◌, length, Result, Ok, Err, is_ok, is_err, IsOk, IsErr}
+use Rattle.std.specs.Prelude.{◌≡◌, refl, List, ℕ, ◌≤◌, length, Result, Ok, Err, is_ok, IsOk, IsErr}
 use Rattle.std.proofs.Common.{sym, ap, subst, ◌∙◌, arith}
 use Rattle.std.proofs.lemmas.Bool.{false≢true}
 use Rattle.records.specs.Records.{Rec, capacity}
@@ -29,17 +29,17 @@ module _ (t : Input) where
   not_started : (s : Stepped) (k : State → Ended) (most : ℕ) {r : Result (Unit {0}) Reason} (v : List Rec) (room : ℕ) (out : List ℕ) → Started t s most r v
       → (why : Reason) → r ≡ Err why
       → Delivered (delivered room t (after_step k 0 s)) (record { steps = 0; outcome = Refused why 0 }) out out
-  not_started (next s) k most v room out x why e = absurd (false≢true (sym (ap is_ok x.0) ∙ ap is_ok e))
+  not_started (next s) k most v room out x why e = absurd (false≢true (sym (ap is_ok e) ∙ ap is_ok x.0))
   not_started (stopped reason) k most v room out x why e =
       let same : reason ≡ why = err_same (sym x.0 ∙ e) in
       record { answer = ap (λ (w : Reason). record { steps = 0; outcome = Refused w 0 }) (sym same); output = refl }
 
-  held_first : (s : Stepped) {most : ℕ} {r : Result (Unit {0}) Reason} {v : List Rec} → Started t s most r v → IsOk r
+  held_first : (s : Stepped) {most : ℕ} (r : Result (Unit {0}) Reason) {v : List Rec} → Started t s most r v → IsOk r
       → (2 ≤ most) × ((a : Area) × Held v most a × Ready t.modulus a × (s ≡ next (state_of a)))
-  held_first (next s) x e = let a = x.2 in (x.1, (a.0, a.1, a.2, ap next (sym a.3)))
-  held_first (stopped why) x e = absurd (false≢true (sym (ap is_ok x.0) ∙ e))
+  held_first (next s) r x e = let a = x.2 in (x.1, (a.0, a.1, a.2, ap next (sym a.3)))
+  held_first (stopped why) r x e = absurd (false≢true (sym (ap is_ok x.0) ∙ e))
 
-module _ (t : Input) (most limit : ℕ) {r : Result (Unit {0}) Reason} (v : List Rec) (x : Started t (start (limits_in most) t) most r v) where
+module _ (t : Input) (most limit : ℕ) (r : Result (Unit {0}) Reason) (v : List Rec) (x : Started t (start (limits_in most) t) most r v) where
   pub no_room : (room : ℕ) (out : List ℕ) (why : Reason) → r ≡ Err why
       → Delivered (delivered room t (run_of (limits_in most) limit t)) (record { steps = 0; outcome = Refused why 0 }) out out
   unfolding run_of
@@ -61,12 +61,12 @@ module _ (t : Input) (most limit : ℕ) {r : Result (Unit {0}) Reason} (v : List
   }
 
   pub started_in_two : IsOk r → 2 ≤ most
-  started_in_two e = (held_first t (start (limits_in most) t) x e).0
+  started_in_two e = (held_first t (start (limits_in most) t) r x e).0
 
   -- The state that the run begins with, said of the room and the modulus that it is given.
   pub begins : {p most₁ : ℕ} → IsOk r → t.modulus ≡ p → most₁ ≡ most → (a : Area) × Held v most₁ a × Ready p a
   begins e q m =
-      let a = (held_first t (start (limits_in most) t) x e).1 in
+      let a = (held_first t (start (limits_in most) t) r x e).1 in
       (a.0, subst (λ (n : ℕ). Held v n a.0) (sym m) a.1, subst (λ (n : ℕ). Ready n a.0) q a.2)
 
   pub run_is : {p most₁ most₂ : ℕ} {q : Answer} {u : List Rec} → IsOk r → t.modulus ≡ p → most₁ ≡ most → most₂ ≡ most
@@ -74,7 +74,7 @@ module _ (t : Input) (most limit : ℕ) {r : Result (Unit {0}) Reason} (v : List
       → Ran (run_of (limits_in most) limit t) t.modulus q.steps q.outcome u most₂
   unfolding run_of
   run_is {p = p} {q = q} {u = u} e same m m₂ k =
-      let a = (held_first t (start (limits_in most) t) x e).1 in
+      let a = (held_first t (start (limits_in most) t) r x e).1 in
       let there = subst (λ (n : ℕ). (a : Area) → Held v n a → Ready p a → Ran (run (limits_in n) p limit 0 (state_of a)) p q.steps q.outcome u n) m k in
       let here = subst (λ (n : ℕ). (a : Area) → Held v most a → Ready n a → Ran (run (limits_in most) n limit 0 (state_of a)) n q.steps q.outcome u most) (sym same) there in
       subst (λ (n : ℕ). Ran (after_step (run (limits_in most) t.modulus limit 0) 0 (start (limits_in most) t)) t.modulus q.steps q.outcome u n) (sym m₂)

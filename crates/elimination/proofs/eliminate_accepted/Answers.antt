@@ -10,13 +10,13 @@ use Rattle.elimination.proofs.eliminate_accepted.Goals as goal
 pub returns-in-Err-clause-delivered : goal.returns-in-Err-clause-delivered
 returns-in-Err-clause-delivered c t e =
     let a = c.args in
-    no_room t (length a.work.now) a.limit (view c.start.new.work) (c.start.ensures.started t e) (length a.output.now / 4) a.output.now c.in-Err.why c.in-Err.is
+    no_room t (length a.work.now) a.limit c.start.result (view c.start.new.work) (c.start.ensures.started t e) (length a.output.now / 4) a.output.now c.in-Err.why c.in-Err.is
 
 pub run_started-ran-requires-clause-ready : goal.run_started-ran-requires-clause-ready
 run_started-ran-requires-clause-ready c =
     let s = c.start in
     let q = c.requires.accepted in
-    begins q.0 (length c.args.work.now) c.args.limit (view s.new.work) (c.in_default.ensures.started q.0 q.1) refl (chains_read c.requires.header q.1).modulus
+    begins q.0 (length c.args.work.now) c.args.limit _ (view s.new.work) (c.in_default.ensures.started q.0 q.1) refl (chains_read c.requires.header q.1).modulus
     s.auto.work
 
 pub deliver-requires : goal.deliver-requires
@@ -28,7 +28,7 @@ deliver-requires c =
       q.0,
       run_of (limits_in most) c.args.limit q.0,
       q.1,
-      run_is q.0 most c.args.limit (view s.new.work) (c.in_default.ensures.started q.0 q.1) refl (chains_read c.requires.header q.1).modulus s.auto.work
+      run_is q.0 most c.args.limit _ (view s.new.work) (c.in_default.ensures.started q.0 q.1) refl (chains_read c.requires.header q.1).modulus s.auto.work
           (r.auto.work ∙ s.auto.work) r.ensures.ran,
     )
 
@@ -38,7 +38,7 @@ returns-clause-delivered c t e =
     let s = c.start in
     let r = c.run_started-ran in
     c.deliver.ensures t (run_of (limits_in most) c.args.limit t) e
-    (run_is t most c.args.limit (view s.new.work) (c.in_default.ensures.started t e) refl (chains_read c.requires.header e).modulus s.auto.work
+    (run_is t most c.args.limit _ (view s.new.work) (c.in_default.ensures.started t e) refl (chains_read c.requires.header e).modulus s.auto.work
     (r.auto.work ∙ s.auto.work) r.ensures.ran)
 
 pub returns-clause-worked : goal.returns-clause-worked
@@ -46,11 +46,11 @@ returns-clause-worked c t e =
     let most = length c.args.work.now in
     let s = c.start in
     let run =
-    run_is t most c.args.limit (view s.new.work) (c.in_default.ensures.started t e) refl (chains_read c.requires.header e).modulus s.auto.work refl
+    run_is t most c.args.limit _ (view s.new.work) (c.in_default.ensures.started t e) refl (chains_read c.requires.header e).modulus s.auto.work refl
     c.run_started-ran.ensures.ran in
-    run_leaves t most c.args.limit (view s.new.work) (c.in_default.ensures.started t e) refl run.left
+    run_leaves t most c.args.limit _ (view s.new.work) (c.in_default.ensures.started t e) refl run.left
 
 pub returns-clause-too_small : goal.returns-clause-too_small
 returns-clause-too_small c h =
     let q = c.requires.accepted in
-    absurd (omega (arith, h, started_in_two q.0 (length c.args.work.now) c.args.limit (view c.start.new.work) (c.in_default.ensures.started q.0 q.1) refl))
+    absurd (omega (arith, h, started_in_two q.0 (length c.args.work.now) c.args.limit _ (view c.start.new.work) (c.in_default.ensures.started q.0 q.1) refl))

@@ -44,6 +44,7 @@ use Rattle.polynomials.specs.laws.Bounded.{at_most_over, product_within, product
 use Rattle.polynomials.specs.laws.Answers.{Answered, then_formed, then_passed, written_count}
 use Rattle.sums.proofs.MergeLaws.{within_terms_formed, over_terms_refused}
 use Rattle.division.specs.Lent.{lent_for_difference, lent_for_round}
+use Rattle.division.specs.declared.Pivot.{Pivot}
 
 byte_zero : (n k : ℕ) → get_or (bytes n 0) k 0 ≡ 0
 unfolding bytes
@@ -211,20 +212,22 @@ module _ (p : ℕ) (r t : List Packed) (room : 1 ≤ length r) (K : Holds p (tak
     pub row_too_long : 256 < n → Forms (subtracted p (terms (take 1 r)) (terms t) (terms a)) (Err Terms) s
     row_too_long many = subst (λ B. Forms B (Err Terms) s) same (over_terms_refused _ s (omega (arith, written_count _ n s W)))
 
--- ── a round, from what its calls answered: I is the initial and L the factor ──
-module _ (p k d : ℕ) (G R I : Poly) (initial : I ≡ coefficient k d G) (s : List Packed) where
+-- ── a round, from what its calls answered ──
+module _ (v : Pivot) (R : Poly) (s : List Packed) where
   abbrev after : Poly → Bounded
-  after x = subtracted p (factor k d R) G x
+  after x = subtracted v.p (factor v.k v.d R) (terms v.divisor.now) x
 
-  round_is : and_then (bounded_product standard p I R) after ≡ bounded_round standard p k d G R
+  round_is : and_then (bounded_product standard v.p (terms v.initial.now) R) after ≡ bounded_round standard v.p v.k v.d (terms v.divisor.now) R
   unfolding bounded_round
-  round_is = ap (λ I. and_then (bounded_product standard p I R) after) initial
+  round_is = ap (λ I. and_then (bounded_product standard v.p I R) after) v.of_initial
 
-  pub round_formed : (n : ℕ) (x : List Packed) (r : Result ℕ Passed) (L : Poly) → Answered p (bounded_product standard p I R) n x → L ≡ factor k d R →
-      Forms (subtracted p L G (terms (take n x))) r s → Forms (bounded_round standard p k d G R) r s
+  pub round_formed : (n : ℕ) (x : List Packed) (r : Result ℕ Passed) (L : Poly) → Answered v.p (bounded_product standard v.p (terms v.initial.now) R) n x
+      → L ≡ factor v.k v.d R → Forms (subtracted v.p L (terms v.divisor.now) (terms (take n x))) r s
+      → Forms (bounded_round standard v.p v.k v.d (terms v.divisor.now) R) r s
   round_formed n x r L A q F =
       subst (λ B. Forms B r s) round_is
-      (then_formed (bounded_product standard p I R) after s p n x r A (subst (λ L. Forms (subtracted p L G (terms (take n x))) r s) q F))
+      (then_formed (bounded_product standard v.p (terms v.initial.now) R) after s v.p n x r A (subst (λ L. Forms (subtracted v.p L (terms v.divisor.now) (terms (take n x))) r s) q F))
 
-  pub round_passed : (e : Passed) (r : Result ℕ Passed) (x : List Packed) → r ≡ Err e → Forms (bounded_product standard p I R) r x → Forms (bounded_round standard p k d G R) (Err e) s
-  round_passed e r x q F = subst (λ B. Forms B (Err e) s) round_is (then_passed (bounded_product standard p I R) after s e r x q F)
+  pub round_passed : (e : Passed) (r : Result ℕ Passed) (x : List Packed) → r ≡ Err e → Forms (bounded_product standard v.p (terms v.initial.now) R) r x
+      → Forms (bounded_round standard v.p v.k v.d (terms v.divisor.now) R) (Err e) s
+  round_passed e r x q F = subst (λ B. Forms B (Err e) s) round_is (then_passed (bounded_product standard v.p (terms v.initial.now) R) after s e r x q F)

@@ -26,10 +26,10 @@ use Rattle.polynomials.specs.Bounds.{
   bounded_difference,
   bounded_round,
 }
-use Rattle.polynomials.specs.Working.{Holds, Written, Forms}
+use Rattle.polynomials.specs.Working.{Holds, Forms}
 use Rattle.polynomials.specs.declared.Term.{Term as Packed}
 use Rattle.polynomials.specs.declared.Passed.{Passed}
-use Rattle.polynomials.specs.declared.Passed.TheVariants.{Degree, Terms}
+use Rattle.polynomials.specs.declared.Passed.TheVariants.{Degree}
 use Rattle.polynomials.specs.laws.Order.{order_join}
 use Rattle.polynomials.specs.laws.Weigh.{weigh_add_multiple, weigh_difference}
 use Rattle.polynomials.specs.laws.Canonical.{canonical_add_multiple, canonical_difference, canonical_coefficient, canonical_ext}
@@ -41,8 +41,7 @@ use Rattle.polynomials.specs.laws.Places.{Places, places_terms, places_coefficie
 use Rattle.polynomials.specs.laws.Bounds.{no_degrees_over, degree_small}
 use Rattle.polynomials.specs.laws.Product.{product_length, row_fits}
 use Rattle.polynomials.specs.laws.Bounded.{at_most_over, product_within, product_formed}
-use Rattle.polynomials.specs.laws.Answers.{Answered, then_formed, then_passed, written_count}
-use Rattle.sums.proofs.MergeLaws.{within_terms_formed, over_terms_refused}
+use Rattle.polynomials.specs.laws.Answers.{Answered, then_formed, then_passed}
 use Rattle.division.specs.Lent.{lent_for_difference, lent_for_round}
 use Rattle.division.specs.declared.Pivot.{Pivot}
 
@@ -199,18 +198,16 @@ module _ (p : ℕ) (r t : List Packed) (room : 1 ≤ length r) (K : Holds p (tak
   row_refused s k d = subst (λ f. Forms (and_then (bounded_product standard p (terms f) (terms t)) k) (Err Degree) s) (sym (first_taken r room))
       (subst (λ x. Forms (and_then x k) (Err Degree) s) (sym (row_passed p positive (first r).coefficient (first r).monomial t (tested_first true d))) refl)
 
-  module _ (a : List Packed) (H : Holds p t) (A : Holds p a) (d : degrees_over (at_most 255) (terms (take 1 r)) (terms t) ≡ false)
-      (n : ℕ) (s : List Packed) (W : Written (add_multiple p (p - (first r).coefficient) (bytes 8 (first r).monomial) (terms t) (terms a)) n s) where
+  module _ (a : List Packed) (H : Holds p t) (A : Holds p a) (d : degrees_over (at_most 255) (terms (take 1 r)) (terms t) ≡ false) where
     same : tested standard (add_multiple p (p - (first r).coefficient) (bytes 8 (first r).monomial) (terms t) (terms a)) ≡ subtracted p (terms (take 1 r)) (terms t) (terms a)
     unfolding terms
     same = sym (ap (λ f. subtracted p (terms f) (terms t) (terms a)) (first_taken r room)
         ∙ row_tested p positive (first r).coefficient (first r).monomial t a factor_coefficient.1 H A.canonical (tested_first false d))
 
-    pub row_formed : n ≤ 256 → Forms (subtracted p (terms (take 1 r)) (terms t) (terms a)) (Ok n) s
-    row_formed few = subst (λ B. Forms B (Ok n) s) same (within_terms_formed _ n s W few)
-
-    pub row_too_long : 256 < n → Forms (subtracted p (terms (take 1 r)) (terms t) (terms a)) (Err Terms) s
-    row_too_long many = subst (λ B. Forms B (Err Terms) s) same (over_terms_refused _ s (omega (arith, written_count _ n s W)))
+    pub row_formed : (q : Result ℕ Passed) (s : List Packed)
+        → Forms (tested standard (add_multiple p (p - (first r).coefficient) (bytes 8 (first r).monomial) (terms t) (terms a))) q s
+        → Forms (subtracted p (terms (take 1 r)) (terms t) (terms a)) q s
+    row_formed q s = subst (λ B. Forms B q s) same
 
 -- ── a round, from what its calls answered ──
 module _ (v : Pivot) (R : Poly) (s : List Packed) where

@@ -1,4 +1,4 @@
-// One round of the division of R by T in v(k+1): R becomes I×R minus L×v(k+1)^(e−d)×T, with T of degree d and initial I,
+// One round of the division of R by T in v(k+1): R becomes I×R minus L×v(k+1)^(e−d)×T, with T of degree d and initial I (a `Pivot`),
 // R of degree e ≥ d, and L the coefficient of the highest power in R.
 #![tactic(auto)]
 
@@ -21,7 +21,7 @@ const ONE: Term = Term {
     monomial: 0,
 };
 
-// What divides: a polynomial modulo p of degree d ≥ 1 in v(k+1), with its initial.
+// What divides: T, a polynomial modulo p of degree d ≥ 1 in v(k+1), with its initial.
 #[derive(Clone, Copy)]
 pub struct Pivot<'a> {
     pub p: Modulus,
@@ -124,6 +124,5 @@ fn subtract_row(p: Modulus, t: &[Term], r: &mut [Term], a: &[Term]) -> Result<us
     if degrees::degrees_over(&r[..1], t) {
         return Err(Passed::Degree);
     }
-    let n = sums::add_multiple(p, p.get() - row.coefficient, row.monomial, t, a, r);
-    if n <= 256 { Ok(n) } else { Err(Passed::Terms) }
+    sums::within(sums::add_multiple(p, p.get() - row.coefficient, row.monomial, t, a, r))
 }

@@ -1,9 +1,11 @@
 -- A block written over a part of a list, and two blocks side by side.
 use mathlib.Core.Path.{◌≡◌, refl, sym, ap, ◌∙◌}
 use mathlib.Core.List.{List, [], ◌∷◌, ◌++◌, append_assoc}
-use Prim.Native.Nat.{ℕ, ◌+◌, ◌*◌, ◌≤◌}
+use Prim.Native.Nat.{ℕ, ◌+◌, ◌-◌, ◌*◌, ◌≤◌}
 use native.Mathlib.Omega.{arith}
-use lib.ListN.{length, take, drop, length-append, take-append-drop}
+use Rattle.std.proofs.lemmas.List.{get_or-append_right}
+use Rattle.std.proofs.lemmas.List.Edits.{paste_all}
+use lib.ListN.{length, get_or, take, drop, length-append, take-append-drop}
 use lib.Seq.{paste, take_all, length-take-le, take_at, drop_at, drop-append-add, drop-drop, take-append-le, take-take}
 
 -- d with s in the places from `at` on.
@@ -57,8 +59,17 @@ unfolding over
 over_front d s = let same : 0 + length s ≡ length s = omega arith in ap (λ (k : ℕ). s ++ drop k d) same
 
 -- What is written right behind a record that was written.
-pub record_behind : (out out' : List ℕ) (p p' a b x y : ℕ) (t : List ℕ) → out' ≡ paste out (4 * p) (a ∷ b ∷ x ∷ y ∷ []) 4 → p' ≡ p + 1
-    → 4 * p + 4 ≤ length out → over out' (4 * p') t ≡ over out (4 * p) (a ∷ b ∷ x ∷ y ∷ t)
-record_behind out out' p p' a b x y t e to h =
-    ap (λ (l : List ℕ). over l (4 * p') t) (e ∙ paste_over out (4 * p) (a ∷ b ∷ x ∷ y ∷ []) 4 refl)
+pub record_behind : (out : List ℕ) (p p' a b x y : ℕ) (t : List ℕ) → p' ≡ p + 1 → 4 * p + 4 ≤ length out
+    → over (paste out (4 * p) (a ∷ b ∷ x ∷ y ∷ []) 4) (4 * p') t ≡ over out (4 * p) (a ∷ b ∷ x ∷ y ∷ t)
+record_behind out p p' a b x y t to h =
+    ap (λ (l : List ℕ). over l (4 * p') t) (paste_over out (4 * p) (a ∷ b ∷ x ∷ y ∷ []) 4 refl)
     ∙ over_behind out (4 * p) (a ∷ b ∷ x ∷ y ∷ []) (4 * p') t (omega arith) (omega arith)
+
+-- A word of a record that was written.
+pub record_word : (out : List ℕ) (at a b x y k : ℕ) → at + 4 ≤ length out
+    → get_or (paste out at (a ∷ b ∷ x ∷ y ∷ []) 4) (at + k) 0 ≡ get_or (a ∷ b ∷ x ∷ y ∷ drop (at + 4) out) k 0
+record_word out at a b x y k h =
+    let to : at + k - at ≡ k = omega arith in
+    ap (λ (l : List ℕ). get_or l (at + k) 0) (paste_all out at (a ∷ b ∷ x ∷ y ∷ []) 4 refl)
+    ∙ get_or-append_right (take at out) (a ∷ b ∷ x ∷ y ∷ drop (at + 4) out) at (at + k) 0 (length-take-le at out (omega arith)) (omega arith)
+    ∙ ap (λ (n : ℕ). get_or (a ∷ b ∷ x ∷ y ∷ drop (at + 4) out) n 0) to

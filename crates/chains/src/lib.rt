@@ -11,6 +11,7 @@ ghost use Rattle.stored.specs.Stored.{size_at, poly_at, skip_to, polys_at};
 use records::Record;
 
 // Writes the terms of the polynomial at record `from` of the work area to the records from `to` on.
+#[tactic(auto, using(crate::proofs::Laws::rows))]
 fn write_terms(w: &[Record], from: usize, out: &mut [u32], to: usize)
     requires from_bound { (from < length w.now) × (from + 1 + size_at (view w.now) from ≤ length w.now) }
     requires from_in_bounds { (4 * (to + size_at (view w.now) from) ≤ length out.old) × (to + size_at (view w.now) from ≤ 65536) }
@@ -25,7 +26,7 @@ fn write_terms(w: &[Record], from: usize, out: &mut [u32], to: usize)
 }
 
 // Writes the k polynomials from record `from` of the work area on as a chain of heads from record `to` on, each followed by its terms.
-#[tactic(auto, using(crate::proofs::Laws::turn_inside, stored::proofs::Laws::skip_le))]
+#[tactic(auto, using(crate::proofs::Laws::chain))]
 pub fn write_heads(w: &[Record], from: usize, k: usize, out: &mut [u32], to: usize)
     requires k_bound { skip_to (view w.now) from k ≤ length w.now }
     requires from_in_bounds { (4 * (to + (skip_to (view w.now) from k - from)) ≤ length out.old) × (to + (skip_to (view w.now) from k - from) ≤ 65536) }

@@ -6,11 +6,11 @@ ghost use Rattle.polynomials.specs.Bounds.{at_most, degrees_over};
 ghost use Rattle.polynomials.specs.Division.{degree};
 ghost use Rattle.polynomials.specs.Packed.{terms, bytes};
 
+use monomials::Variable;
 use polynomials::Term;
 
 // The degree in v(k+1).
-pub fn degree(f: &[Term], k: u32) -> u64
-    requires k_bound { k < 8 }
+pub fn degree(f: &[Term], k: Variable) -> u64
     ensures { result ≡ degree k (terms f.now) }
 {
     f.iter()
@@ -28,8 +28,7 @@ fn union(f: &[Term]) -> u64
 
 // Whether the degrees in v(k+1) sum to over 255. No exponent of u is below a degree of f, and none of v below one of g: mostly these tell.
 #[tactic(auto, using(polynomials::specs::laws::Packed::byte_small, polynomials::specs::laws::Bounds::degree_small))]
-fn sum_over(f: &[Term], g: &[Term], u: u64, v: u64, k: u32) -> bool
-    requires k_bound { k < 8 }
+fn sum_over(f: &[Term], g: &[Term], u: u64, v: u64, k: Variable) -> bool
     requires f_bound { degree k (terms f.now) ≤ get_or (bytes 8 u) k 0 }
     requires g_bound { degree k (terms g.now) ≤ get_or (bytes 8 v) k 0 }
     ensures { result ≡ ltb 255 (degree k (terms f.now) + degree k (terms g.now)) }
@@ -46,5 +45,5 @@ pub fn degrees_over(f: &[Term], g: &[Term]) -> bool
 {
     let u = union(f);
     let v = union(g);
-    monomials::passes(u, v) && (0..8).any(|k| sum_over(f, g, u, v, k))
+    monomials::passes(u, v) && (0..8).any(|k| sum_over(f, g, u, v, Variable::new(k)))
 }

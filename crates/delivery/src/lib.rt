@@ -33,8 +33,7 @@ pub fn deliver(table: &[u32], work: &[Record], output: &mut [u32], ran: Answer) 
         → Ran e t.modulus ran.steps ran.outcome (view work.now) (length work.now)
         → Delivered (delivered (length output.old / 4) t e) result output.old output.new }
 {
-    let outcome = ran.outcome;
-    let Outcome::Systems(_) = outcome else {
+    let Outcome::Systems(_) = ran.outcome else {
         return ran;
     };
     if output.len() / 4 < list_size(work) {

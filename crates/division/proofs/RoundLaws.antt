@@ -177,10 +177,13 @@ first_taken : (r : List Packed) → 1 ≤ length r → take 1 r ≡ first r ∷ 
 first_taken [] h = absurd (omega arith)
 first_taken (c ∷ r) h = refl
 
-module _ (p : ℕ) (h : 1 ≤ p) (r t : List Packed) (room : 1 ≤ length r) (K : Holds p (take 1 r)) where
+module _ (p : ℕ) (r t : List Packed) (room : 1 ≤ length r) (K : Holds p (take 1 r)) where
   pub factor_coefficient : (1 ≤ (first r).coefficient) × ((first r).coefficient < p)
   unfolding terms
   factor_coefficient = let k : Holds p (first r ∷ []) = subst (Holds p) (first_taken r room) K in (k.canonical.0, k.canonical.1)
+
+  positive : 1 ≤ p
+  positive = omega (arith, factor_coefficient)
 
   -- The test of the degrees, of that term.
   tested_first : (b : Bool) → degrees_over (at_most 255) (terms (take 1 r)) (terms t) ≡ b → degrees_over (at_most 255) (terms (first r ∷ [])) (terms t) ≡ b
@@ -193,14 +196,14 @@ module _ (p : ℕ) (h : 1 ≤ p) (r t : List Packed) (room : 1 ≤ length r) (K 
       → Forms (and_then (bounded_product standard p (terms (take 1 r)) (terms t)) k) (Err Degree) s
   unfolding terms
   row_refused s k d = subst (λ f. Forms (and_then (bounded_product standard p (terms f) (terms t)) k) (Err Degree) s) (sym (first_taken r room))
-      (subst (λ x. Forms (and_then x k) (Err Degree) s) (sym (row_passed p h (first r).coefficient (first r).monomial t (tested_first true d))) refl)
+      (subst (λ x. Forms (and_then x k) (Err Degree) s) (sym (row_passed p positive (first r).coefficient (first r).monomial t (tested_first true d))) refl)
 
   module _ (a : List Packed) (H : Holds p t) (A : Holds p a) (d : degrees_over (at_most 255) (terms (take 1 r)) (terms t) ≡ false)
       (n : ℕ) (s : List Packed) (W : Written (add_multiple p (p - (first r).coefficient) (bytes 8 (first r).monomial) (terms t) (terms a)) n s) where
     same : tested standard (add_multiple p (p - (first r).coefficient) (bytes 8 (first r).monomial) (terms t) (terms a)) ≡ subtracted p (terms (take 1 r)) (terms t) (terms a)
     unfolding terms
     same = sym (ap (λ f. subtracted p (terms f) (terms t) (terms a)) (first_taken r room)
-        ∙ row_tested p h (first r).coefficient (first r).monomial t a factor_coefficient.1 H A.canonical (tested_first false d))
+        ∙ row_tested p positive (first r).coefficient (first r).monomial t a factor_coefficient.1 H A.canonical (tested_first false d))
 
     pub row_formed : n ≤ 256 → Forms (subtracted p (terms (take 1 r)) (terms t) (terms a)) (Ok n) s
     row_formed few = subst (λ B. Forms B (Ok n) s) same (within_terms_formed _ n s W few)

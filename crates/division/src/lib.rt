@@ -10,7 +10,9 @@ ghost use Rattle.polynomials.specs.Working.{Holds, Forms};
 ghost use Rattle.products.specs.Lent.{lent_for_product};
 ghost use Rattle.division.specs.Lent.{lent_for_difference, lent_for_round};
 
+use monomials::Variable;
 use polynomials::{Passed, Term};
+use residues::Modulus;
 
 const ONE: Term = Term {
     coefficient: 1,
@@ -20,8 +22,8 @@ const ONE: Term = Term {
 // R, the first n terms of r, becomes what one round leaves. i is T's initial, t is T; x, y and z are lent besides. Stack: that of `product`,
 // so none to speak of in buffers below 512 terms.
 pub fn round(
-    p: u64,
-    k: u32,
+    p: Modulus,
+    k: Variable,
     d: u64,
     e: u64,
     i: &[Term],
@@ -32,8 +34,7 @@ pub fn round(
     y: &mut [Term],
     z: &mut [Term],
 ) -> Result<usize, Passed>
-    requires modulus { (1 ≤ p) × (p < 2147483648) }
-    requires degrees { (k < 8) × (1 ≤ d) × (d ≤ e) }
+    requires degrees { (1 ≤ d) × (d ≤ e) }
     requires pivot { Holds p t.now × (degree k (terms t.now) ≡ d) }
     requires initial { Holds p i.now × (terms i.now ≡ coefficient k d (terms t.now)) }
     requires n_within { n ≤ length r.old }
@@ -51,13 +52,12 @@ pub fn round(
 
 // i times f, in the first terms of x. The initial is 1 in many divisions: then f is copied.
 fn times_initial(
-    p: u64,
+    p: Modulus,
     i: &[Term],
     f: &[Term],
     x: &mut [Term],
     z: &mut [Term],
 ) -> Result<usize, Passed>
-    requires modulus { (1 ≤ p) × (p < 2147483648) }
     requires i_holds { Holds p i.now }
     requires f_holds { Holds p f.now }
     requires x_lent { lent_for_product (length i.now) (length f.now) ≤ length x.old }
@@ -74,7 +74,7 @@ fn times_initial(
 
 // a minus the product of the first l terms of r and t: in the first terms of r.
 fn subtract_product(
-    p: u64,
+    p: Modulus,
     t: &[Term],
     r: &mut [Term],
     l: usize,
@@ -82,7 +82,6 @@ fn subtract_product(
     y: &mut [Term],
     z: &mut [Term],
 ) -> Result<usize, Passed>
-    requires modulus { (1 ≤ p) × (p < 2147483648) }
     requires t_holds { Holds p t.now }
     requires l_within { l ≤ length r.old }
     requires factor { Holds p (take l r.old) }
@@ -101,8 +100,7 @@ fn subtract_product(
 }
 
 // `subtract_product` where the first term of r is the factor: by one merge.
-fn subtract_row(p: u64, t: &[Term], r: &mut [Term], a: &[Term]) -> Result<usize, Passed>
-    requires modulus { (1 ≤ p) × (p < 2147483648) }
+fn subtract_row(p: Modulus, t: &[Term], r: &mut [Term], a: &[Term]) -> Result<usize, Passed>
     requires t_holds { Holds p t.now }
     requires r_nonempty { 1 ≤ length r.old }
     requires factor { Holds p (take 1 r.old) }
@@ -115,6 +113,6 @@ fn subtract_row(p: u64, t: &[Term], r: &mut [Term], a: &[Term]) -> Result<usize,
     if degrees::degrees_over(&r[..1], t) {
         return Err(Passed::Degree);
     }
-    let n = sums::add_multiple(p, p - row.coefficient, row.monomial, t, a, r);
+    let n = sums::add_multiple(p, p.get() - row.coefficient, row.monomial, t, a, r);
     if n <= 256 { Ok(n) } else { Err(Passed::Terms) }
 }

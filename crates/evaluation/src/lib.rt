@@ -10,6 +10,7 @@ ghost use Rattle.evaluation.specs.Walks.{IsPolynomialAt, ArePolynomialsFrom, Tes
 
 use polynomials::Term;
 use readers::Reader;
+use residues::Modulus;
 use words::Table;
 
 // v plus the value at the point of the term in record i.
@@ -20,12 +21,12 @@ fn add_term(table: Table<'_>, i: usize, v: u64, point: &[u32]) -> u64
     requires point { Point table.modulus point.now }
     ensures { result ≡ plus_term table.entry.words.now table.entry.modulus point.now i v }
 {
-    let p = u64::from(table.modulus);
+    let p = Modulus::new(u64::from(table.modulus));
     let term = Term {
         coefficient: u64::from(table.word(i, 0)),
         monomial: monomials::packed(table.word(i, 1), table.word(i, 2)),
     };
-    residues::add(p, v, values::term_value(p, term, point))
+    p.add(v, values::term_value(p, term, point))
 }
 
 // The value at a point of the polynomial with its head in record `head`.

@@ -51,9 +51,9 @@ pub record Divided (k d e : ℕ) (s r : List Packed) (i l : ℕ) : Type 0 where
 pub divided_as : {k d e : ℕ} {s r r' : List Packed} {i l l' : ℕ} → r ≡ r' → l ≡ l' → Divided k d e s r' i l' → Divided k d e s r i l
 divided_as {k} {d} {e} {s} {r} {r'} {i} {l} {l'} q z D = subst (λ x. Divided k d e s x i l) (sym q) (subst (λ x. Divided k d e s r' i x) (sym z) D)
 
--- The divisor's power, shifted to its place.
-pub power_shifted : (k d e : ℕ) (s : List Packed) → k < 8 → d ≤ e → degree k (terms s) ≡ e → d * 2 ^ (8 * k) % 18446744073709551616 ≡ d * 256 ^ k
-power_shifted k d e s h l q = shifted k d h (omega (arith, degree_small k s))
+-- The divisor's power, shifted to its place, which is read as j.
+pub power_shifted : (k j d e : ℕ) (s : List Packed) → j ≡ k → k < 8 → d ≤ e → degree k (terms s) ≡ e → d * 2 ^ (8 * j) % 18446744073709551616 ≡ d * 256 ^ k
+power_shifted k j d e s u h l q = shifted j d (omega arith) (omega (arith, degree_small k s)) ∙ ap (λ i. d * 256 ^ i) u
 
 module _ (k d e : ℕ) (s : List Packed) where
   pub divided_none : Divided k d e s s 0 0

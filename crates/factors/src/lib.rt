@@ -6,18 +6,18 @@ ghost use Rattle.polynomials.specs.Division.{degree, factor};
 ghost use Rattle.polynomials.specs.Packed.{terms};
 ghost use Rattle.polynomials.specs.Working.{Written};
 
+use monomials::Variable;
 use polynomials::Term;
 
 // The terms of R, the first n terms of r, that have v(k+1)^e, divided by v(k+1)^d: in the first terms of r, which gives up R.
-pub fn factor(r: &mut [Term], n: usize, k: u32, d: u64, e: u64) -> usize
-    requires place { k < 8 }
+pub fn factor(r: &mut [Term], n: usize, k: Variable, d: u64, e: u64) -> usize
     requires divisor { (1 ≤ d) × (d ≤ e) }
     requires n_bound { n ≤ length r.old }
     requires highest { degree k (terms (take n r.old)) ≡ e }
     ensures written { Written (factor k d (terms (take n r.old))) result r.new }
     ensures count { result ≤ n }
 {
-    let top = d << (8 * k);
+    let top = d << (8 * k.get());
     let mut count = 0;
     for i in 0..n {
         let term = r[i];

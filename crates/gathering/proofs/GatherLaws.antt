@@ -32,13 +32,13 @@ pub record RowsFrom (p : ℕ) (f g : List Packed) (i n : ℕ) (x : List Packed) 
 -- What `gather` asks of the factors.
 pub record Factors (p : ℕ) (f g : List Packed) : Type 0 where
   pub positive : 1 ≤ p
-  pub small : p < 2147483648
   pub left : Holds p f
   pub right : Holds p g
   pub within : degrees_over (at_most 255) (terms f) (terms g) ≡ false
 
-pub factors : (p : ℕ) (f g : List Packed) → (1 ≤ p) × (p < 2147483648) → Holds p f × (0 < length f) → Holds p g × (degrees_over (at_most 255) (terms f) (terms g) ≡ false) → Factors p f g
-factors p f g a b c = record { positive = a.0; small = a.1; left = b.0; right = c.0; within = c.1 }
+-- A residue other than 0 stands in f, so that p is not 0.
+pub factors : {p : ℕ} {f g : List Packed} → Holds p f × (0 < length f) → Holds p g × (degrees_over (at_most 255) (terms f) (terms g) ≡ false) → Factors p f g
+factors {p} {f} b c = record { positive = omega (arith, coefficient_below f 0 (record { coefficient = 0; monomial = 0 }) b.1 p b.0.canonical); left = b.0; right = c.0; within = c.1 }
 
 module _ {p : ℕ} {f g : List Packed} (F : Factors p f g) where
   pub rows_none : (x : List Packed) → RowsFrom p f g (length f) 0 x
@@ -90,7 +90,7 @@ module _ {p : ℕ} {f g : List Packed} (F : Factors p f g) where
 pub record Gathering (p : ℕ) (f g rows : List Packed) (n : ℕ) (x : List Packed) : Type 0 where
   pub factors : Factors p f g
   pub left : rows ≡ take (length rows) f
-  pub pairs : length rows % 2 ≡ 0
+  pub even : length rows % 2 ≡ 0
   pub inside : length rows ≤ length f
   pub gathered : RowsFrom p f g (length rows) n x
   pub few : n ≤ 256 + length rows * length g
@@ -100,7 +100,7 @@ module _ {p : ℕ} {f g : List Packed} (F : Factors p f g) where
   none_gathering x e = record {
     factors = F;
     left = sym (take_all (length f) f (omega arith));
-    pairs = e;
+    even = e;
     inside = omega arith;
     gathered = rows_none F x;
     few = omega arith;
@@ -118,7 +118,7 @@ module _ {p : ℕ} {f g : List Packed} (F : Factors p f g) where
     first_gathering n x w = record {
       factors = F;
       left = is ∙ ap (λ (k : ℕ). take k f) (sym count);
-      pairs = omega (arith, count);
+      even = omega (arith, count);
       inside = omega (arith, count);
       gathered = subst (λ (i : ℕ). RowsFrom p f g i n x) (sym count) (row_gathered F (length f - 1) d last (omega arith) refl none w);
       few = omega (arith, row_terms F (length f - 1) d last (omega arith) refl none w, F.right.few);
@@ -197,7 +197,7 @@ module _ {p : ℕ} {f g rows : List Packed} {n : ℕ} {x : List Packed} (G : Gat
         again few = record {
           factors = F;
           left = is ∙ ap (take (length rows - 2)) G.left ∙ take-take (length rows - 2) (length rows) f (omega arith) ∙ ap (λ (k : ℕ). take k f) (sym count);
-          pairs = omega (arith, count, G.pairs);
+          even = omega (arith, count, G.even);
           inside = omega (arith, count, G.inside);
           gathered = subst (λ (i : ℕ). RowsFrom p f g i n' x') (sym count) lower_gathered;
           few = few;
@@ -221,7 +221,7 @@ pub all_gathered : {p : ℕ} {f g rows : List Packed} {n : ℕ} {x : List Packed
 all_gathered {p} {f} {g} {rows} {n} {x} G end = within_terms_formed (product p (terms f) (terms g)) n x whole (omega (arith, G.few, ap (λ (k : ℕ). k * length g) none))
   where
     none : length rows ≡ 0
-    none = omega (arith, G.pairs)
+    none = omega (arith, G.even)
 
     whole : Written (product p (terms f) (terms g)) n x
     whole = subst (λ (i : ℕ). Written (product p (terms (drop i f)) (terms g)) n x) none G.gathered.written

@@ -13,6 +13,7 @@ ghost use Rattle.polynomials.specs.Working.{Holds};
 ghost use Rattle.gathering.specs.Gathers.{Gathers, room_for};
 
 use polynomials::Term;
+use residues::Modulus;
 
 // Why nothing is gathered: more than 256 terms are certain, or a lent buffer is too short.
 #[derive(Clone, Copy, Debug, PartialEq, Eq)]
@@ -24,13 +25,12 @@ pub enum Ungathered {
 // The rows of f added up, from the last on, in x and z by turns: at the end so many terms in x. It ends early where a row finds no room;
 // x has room for one.
 pub fn gather(
-    p: u64,
+    p: Modulus,
     f: &[Term],
     g: &[Term],
     x: &mut [Term],
     z: &mut [Term],
 ) -> Result<usize, Ungathered>
-    requires le_p { (1 ≤ p) × (p < 2147483648) }
     requires holds { Holds p f.now × (0 < length f.now) }
     requires holds_2 { Holds p g.now × (degrees_over (at_most 255) (terms f.now) (terms g.now) ≡ false) }
     requires g_in_bounds { length g.now ≤ length x.old }

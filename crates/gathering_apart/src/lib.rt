@@ -10,16 +10,16 @@ ghost use Rattle.gathering.specs.Gathers.{Gathers, room_for};
 
 use gathering::Ungathered;
 use polynomials::{Passed, Term};
+use residues::Modulus;
 
 // `gathering::gather` in buffers of its own, of N terms each. What is formed is copied into x, which has room for any result.
 // Stack: 32 bytes for each of the N, cleared at each call.
 pub fn gather_apart<const N: usize>(
-    p: u64,
+    p: Modulus,
     f: &[Term],
     g: &[Term],
     x: &mut [Term],
 ) -> Result<usize, Ungathered>
-    requires le_p { (1 ≤ p) × (p < 2147483648) }
     requires holds { Holds p f.now × (0 < length f.now) }
     requires holds_2 { Holds p g.now × (degrees_over (at_most 255) (terms f.now) (terms g.now) ≡ false) }
     requires in_bounds { 256 ≤ length x.old }
@@ -40,8 +40,7 @@ pub fn gather_apart<const N: usize>(
 }
 
 // The same in buffers that hold whatever is gathered: they are never too short. Stack: 1.0 MiB, cleared at each call.
-pub fn gather_large(p: u64, f: &[Term], g: &[Term], x: &mut [Term]) -> Result<usize, Passed>
-    requires le_p { (1 ≤ p) × (p < 2147483648) }
+pub fn gather_large(p: Modulus, f: &[Term], g: &[Term], x: &mut [Term]) -> Result<usize, Passed>
     requires holds { Holds p f.now × (0 < length f.now) }
     requires holds_2 { Holds p g.now × (degrees_over (at_most 255) (terms f.now) (terms g.now) ≡ false) }
     requires in_bounds { 256 ≤ length x.old }

@@ -6,6 +6,8 @@ use Rattle.polynomials.specs.Packed.{terms}
 use Rattle.polynomials.specs.laws.Terms.{length_terms}
 use Rattle.polynomials.specs.declared.Term.{Term as Packed}
 use Rattle.records.specs.Records.{Rec}
+use Rattle.records.proofs.Rows.{length_view}
+use Rattle.stored.proofs.Laws.{size_in}
 use Rattle.stored.specs.Stored.{size_at, poly_at}
 use Rattle.stored.specs.laws.Stored.{length_poly_at}
 use Rattle.rules.specs.Branch.{is_one}
@@ -35,3 +37,6 @@ module _ (v : List Rec) (i : ℕ) (fits : i + 1 + size_at v i ≤ length v) wher
       let first = poly_first v i (omega arith) fits in
       ap (λ (s : List Packed). is_one (terms s)) first
       ∙ single_one (first_at v i) (behind_first v i) (sym (ap length first) ∙ length_poly_at v i fits ∙ h) small
+
+-- What the test of a polynomial by its head takes.
+pub ruleset one_tests = (length_view, size_in, not_one_at, one_at_first)

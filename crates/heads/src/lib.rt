@@ -1,7 +1,7 @@
 // What the heads and first terms of stored polynomials tell: whether one is zero or 1, and what leads.
 #![tactic(auto)]
 
-ghost use Rattle.std.specs.Prelude.{◌≡◌, map, ℕ, ◌+◌, ◌≤◌, ◌<◌};
+ghost use Rattle.std.specs.Prelude.{◌≡◌, map, ℕ, ◌+◌, ◌≤◌, ◌<◌, length};
 ghost use Rattle.polynomials.specs.Packed.{terms};
 ghost use Rattle.rules.specs.Branch.{is_one, some_one, some_zero, highest_leader};
 ghost use Rattle.records.specs.Records.{view};
@@ -14,6 +14,7 @@ use polynomials::Term;
 use records::Record;
 
 // Whether one of the k polynomials from record `at` on is zero.
+#[tactic(auto, using(crate::proofs::Walk::zeros))]
 pub fn has_zero(w: &[Record], at: usize, k: usize) -> bool
     requires { skip_to (view w.now) at k ≤ length w.now }
     ensures { result ≡ some_zero (map terms (polys_at (view w.now) at k)) }
@@ -30,6 +31,7 @@ pub fn has_zero(w: &[Record], at: usize, k: usize) -> bool
 }
 
 // Whether the polynomial at record i is 1.
+#[tactic(auto, using(crate::proofs::One::one_tests))]
 fn one_at(w: &[Record], i: usize) -> bool
     requires { (i < length w.now) × (i + 1 + size_at (view w.now) i ≤ length w.now) }
     ensures { result ≡ is_one (terms (poly_at (view w.now) i)) }
@@ -42,6 +44,7 @@ fn one_at(w: &[Record], i: usize) -> bool
 }
 
 // Whether one of the k polynomials from record `at` on is 1.
+#[tactic(auto, using(crate::proofs::Walk::ones))]
 pub fn has_one(w: &[Record], at: usize, k: usize) -> bool
     requires { skip_to (view w.now) at k ≤ length w.now }
     ensures { result ≡ some_one (map terms (polys_at (view w.now) at k)) }
@@ -57,6 +60,7 @@ pub fn has_one(w: &[Record], at: usize, k: usize) -> bool
 }
 
 // The leading variable of the polynomial at record i: that of its first term, or 0.
+#[tactic(auto, using(crate::proofs::Walk::leader_tests))]
 pub fn leader_at(w: &[Record], i: usize) -> u32
     requires i_bound { (i < length w.now) × (i + 1 + size_at (view w.now) i ≤ length w.now) }
     requires holds { (p : ℕ) × Holds p (poly_at (view w.now) i) }
@@ -69,6 +73,7 @@ pub fn leader_at(w: &[Record], i: usize) -> u32
 }
 
 // The highest leading variable among the k polynomials from record `at` on.
+#[tactic(auto, using(crate::proofs::Walk::leaders))]
 pub fn highest_leader(w: &[Record], at: usize, k: usize) -> u32
     requires k_bound { skip_to (view w.now) at k ≤ length w.now }
     requires all_hold { (p : ℕ) × AllHold p (polys_at (view w.now) at k) }

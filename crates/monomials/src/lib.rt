@@ -8,12 +8,48 @@ ghost use Rattle.polynomials.specs.Bounds.{at_most, some_over};
 ghost use Rattle.polynomials.specs.Division.{highest};
 ghost use Rattle.polynomials.specs.Poly.{join, order};
 
+use std::marker::Model;
+
+// A variable by its position: k for v(k+1).
+#[derive(Clone, Copy, PartialEq, Eq)]
+pub struct Variable {
+    position: u32,
+}
+
+impl Model for Variable {
+    ghost use Rattle.std.specs.Prelude.{ℕ, ◌<◌};
+
+    ghost Value = { ℕ };
+
+    ghost view = { λ v. v.position };
+
+    ghost inverse = { λ k. record { position = k } };
+
+    ghost invariant = { λ v. v.position < 8 };
+}
+
+impl Variable {
+    pub fn new(position: u32) -> Variable
+        requires { position < 8 }
+        ensures { result ≡ position }
+    {
+        Variable { position }
+    }
+
+    // The position.
+    pub fn get(self) -> u32
+        ensures is { result ≡ self }
+        ensures below { self < 8 }
+    {
+        self.position
+    }
+}
+
 // The exponent of v(k+1).
-pub fn exponent(m: u64, k: u32) -> u64
-    requires { k < 8 }
+pub fn exponent(m: u64, k: Variable) -> u64
     ensures { result ≡ get_or (bytes 8 m) k 0 }
 {
-    (m >> (8 * k)) % 256
+    (m >> (8 * k.position)) % 256
 }
 
 // The monomial of a table's two exponent words.
@@ -46,8 +82,7 @@ pub fn highest(m: u64) -> u32
 
 // Whether the exponents of v(k+1) sum to over 255.
 #[tactic(auto, using(polynomials::specs::laws::Packed::byte_small))]
-fn passes_at(a: u64, b: u64, k: u32) -> bool
-    requires { k < 8 }
+fn passes_at(a: u64, b: u64, k: Variable) -> bool
     ensures { result ≡ ltb 255 (get_or (bytes 8 a) k 0 + get_or (bytes 8 b) k 0) }
 {
     255 < exponent(a, k) + exponent(b, k)
@@ -57,5 +92,5 @@ fn passes_at(a: u64, b: u64, k: u32) -> bool
 pub fn passes(a: u64, b: u64) -> bool
     ensures { result ≡ some_over (at_most 255) (join (bytes 8 a) (bytes 8 b)) }
 {
-    (0..8).any(|k| passes_at(a, b, k))
+    (0..8).any(|k| passes_at(a, b, Variable::new(k)))
 }

@@ -1,6 +1,8 @@
 // Random numbers, from a small linear congruential generator.
 ghost use Rattle.std.specs.Prelude.{◌≤◌, ◌<◌, All, slice_index};
 
+use residues::Modulus;
+
 // The state stays below 2^31, so that no product wraps.
 #[derive(Drop)]
 pub struct Generator {
@@ -46,13 +48,12 @@ impl Generator {
     }
 
     // A point of eight residues modulo p.
-    pub fn point(&mut self, p: u64) -> [u32; 8]
-        requires { (1 ≤ p) × (p < 2147483648) }
+    pub fn point(&mut self, p: Modulus) -> [u32; 8]
         ensures { Point p result }
     {
         let mut x = [0u32; 8];
         for residue in x.iter_mut() {
-            *residue = self.draw(p) as u32;
+            *residue = self.draw(p.get()) as u32;
         }
         x
     }

@@ -12,7 +12,9 @@ use crate::generator::Generator;
 use crate::operands::ZERO;
 use crate::print;
 use crate::print::Polynomial;
+use monomials::Variable;
 use polynomials::{Passed, Term};
+use residues::Modulus;
 use std::io;
 use std::io::Write;
 
@@ -28,11 +30,10 @@ pub fn run(out: &mut impl Write, p: u32, f: &[Term], g: &[Term]) -> io::Result<(
 // Two polynomials modulo a prime below 2^31.
 #[derive(Clone, Copy)]
 struct Operands<'a> {
-    p: u64,
+    p: Modulus,
     f: &'a [Term],
     g: &'a [Term],
     ghost prime: { Prime p } by { Prim.hlevel props },
-    ghost small: { p < 2147483648 },
     ghost f_holds: { Holds p f.now } by { Prim.hlevel (props, Canonical-prop) },
     ghost g_holds: { Holds p g.now } by { Prim.hlevel (props, Canonical-prop) },
 }
@@ -42,12 +43,12 @@ impl<'a> Operands<'a> {
         ensures tested { is_some result ≡ (is_modulus p && (is_held p f.now && is_held p g.now)) }
         ensures same { IfSome result (λ o. (o.p ≡ p) × (o.f.now ≡ f.now) × (o.g.now ≡ g.now)) }
     {
-        let modulus = u64::from(p);
         if primes::is_prime(p)
-            && forms::is_polynomial(modulus, f)
-            && forms::is_polynomial(modulus, g)
+            && forms::is_polynomial(u64::from(p), f)
+            && forms::is_polynomial(u64::from(p), g)
         {
-            return Some(Operands { p: modulus, f, g });
+            let p = Modulus::new(u64::from(p));
+            return Some(Operands { p, f, g });
         }
         None
     }
@@ -103,10 +104,11 @@ impl<'a> Operands<'a> {
         if lead == 0 {
             return Ok(());
         }
+        let k = Variable::new(lead - 1);
         let mut x = [ZERO; 256];
-        let n = terms::initial(self.f, lead - 1, &mut x);
+        let n = terms::initial(self.f, k, &mut x);
         writeln!(out, "initial {}", Polynomial(&x[..n]))?;
-        writeln!(out, "rest {}", Polynomial(terms::rest(self.f, lead - 1)))
+        writeln!(out, "rest {}", Polynomial(terms::rest(self.f, k)))
     }
 
     // The division of f by g in the leading variable of g.
@@ -115,12 +117,13 @@ impl<'a> Operands<'a> {
         if lead == 0 {
             return writeln!(out, "no divisor");
         }
+        let k = Variable::new(lead - 1);
         let mut i = [ZERO; 256];
-        let m = terms::initial(self.g, lead - 1, &mut i);
+        let m = terms::initial(self.g, k, &mut i);
         let mut r = [ZERO; 512];
         let n = self.f.len();
         r[..n].copy_from_slice(self.f);
-        let answer = remainder(self.p, lead - 1, &i[..m], self.g, &mut r, n);
+        let answer = remainder(self.p, k, &i[..m], self.g, &mut r, n);
         print::formed(out, "remainder", answer, &r)
     }
 
@@ -135,14 +138,13 @@ impl<'a> Operands<'a> {
 
 // Rounds on the first m terms of r, until the degree is below that of t: each lowers it, so that there are at most 255.
 fn remainder(
-    p: u64,
-    k: u32,
+    p: Modulus,
+    k: Variable,
     i: &[Term],
     t: &[Term],
     r: &mut [Term],
     m: usize,
 ) -> Result<usize, Passed>
-    requires le_p { (1 ≤ p) × (p < 2147483648) }
     requires holds { Holds p t.now × (leader (terms t.now) ≡ k + 1) }
     requires holds_2 { Holds p i.now × (terms i.now ≡ initial k (terms t.now)) }
     requires m_in_bounds { (m ≤ length r.old) × (512 ≤ length r.old) × Holds p (take m r.old) }
@@ -161,15 +163,15 @@ fn remainder(
 
 // One round on the first n terms of r, with buffers of its own.
 fn round(
-    p: u64,
-    k: u32,
+    p: Modulus,
+    k: Variable,
     d: u64,
     i: &[Term],
     t: &[Term],
     r: &mut [Term],
     n: usize,
 ) -> Result<usize, Passed>
-    requires le_p { (1 ≤ p) × (p < 2147483648) × (k < 8) × (1 ≤ d) }
+    requires d_positive { 1 ≤ d }
     requires holds { Holds p t.now × (degree k (terms t.now) ≡ d) }
     requires holds_2 { Holds p i.now × (terms i.now ≡ coefficient k d (terms t.now)) }
     requires n_in_bounds { (n ≤ length r.old) × (512 ≤ length r.old) × Holds p (take n r.old) × (d ≤ degree k (terms (take n r.old))) }

@@ -10,17 +10,17 @@ ghost use Rattle.products.specs.Lent.{lent_for_product};
 
 use gathering::Ungathered;
 use polynomials::{Passed, Term};
+use residues::Modulus;
 
 // f times g, in the first terms of x; z is lent besides. Stack: none to speak of where x and z hold what is gathered, as they do wherever
 // all term products fit; else 128 KiB, and 1.0 MiB where 4,096 terms don't hold it either.
 pub fn product(
-    p: u64,
+    p: Modulus,
     f: &[Term],
     g: &[Term],
     x: &mut [Term],
     z: &mut [Term],
 ) -> Result<usize, Passed>
-    requires le_p { (1 ≤ p) × (p < 2147483648) }
     requires holds { Holds p f.now }
     requires holds_2 { Holds p g.now }
     requires g_in_bounds { (lent_for_product (length f.now) (length g.now) ≤ length x.old) × (lent_for_product (length f.now) (length g.now) ≤ length z.old) }
@@ -37,8 +37,7 @@ pub fn product(
 
 // The product by the rows of the shorter factor, where no degree passes 255. Since it calls itself, LLVM inlines no large frame here:
 // each call would pay for it. So it calls both gatherings apart; one called by the other would be inlined there.
-fn rows(p: u64, f: &[Term], g: &[Term], x: &mut [Term], z: &mut [Term]) -> Result<usize, Passed>
-    requires le_p { (1 ≤ p) × (p < 2147483648) }
+fn rows(p: Modulus, f: &[Term], g: &[Term], x: &mut [Term], z: &mut [Term]) -> Result<usize, Passed>
     requires holds { Holds p f.now × (0 < length f.now) }
     requires holds_2 { Holds p g.now × (degrees_over (at_most 255) (terms f.now) (terms g.now) ≡ false) }
     requires g_nonzero { 0 < length g.now }

@@ -1,7 +1,6 @@
 -- What holds of the state in the work area between two steps of the run.
-use Rattle.std.specs.Prelude.{◌≢◌, List, [], ℕ, ◌-◌, ◌<◌}
+use Rattle.std.specs.Prelude.{◌≢◌, List, [], ℕ, ◌-◌}
 use Rattle.residues.specs.Each.{Each}
-use Rattle.residues.specs.Prime.{Prime}
 use Rattle.polynomials.specs.Bounds.{standard, at_most}
 use Rattle.rules.specs.Room.{Limits}
 use Rattle.branches.specs.Area.{Stored, Area}

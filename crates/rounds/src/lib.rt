@@ -8,7 +8,9 @@ ghost use Rattle.polynomials.specs.Packed.{terms};
 ghost use Rattle.polynomials.specs.Working.{Holds, Forms};
 ghost use Rattle.division.specs.Lent.{lent_for_round};
 
+use monomials::Variable;
 use polynomials::{Passed, Term};
+use residues::Modulus;
 
 const ZERO: Term = Term {
     coefficient: 0,
@@ -29,8 +31,8 @@ pub fn round_fits(n: usize, c: usize, m: usize, room: usize) -> bool
 // `division::round` in buffers of its own, for one that doesn't fit those at hand (`round_fits`): r need only hold the result. Stack: 32 KiB, cleared at
 // each call, besides that of `product`.
 fn round_apart(
-    p: u64,
-    k: u32,
+    p: Modulus,
+    k: Variable,
     d: u64,
     e: u64,
     i: &[Term],
@@ -38,8 +40,7 @@ fn round_apart(
     r: &mut [Term],
     n: usize,
 ) -> Result<usize, Passed>
-    requires modulus { (1 ≤ p) × (p < 2147483648) }
-    requires degrees { (k < 8) × (1 ≤ d) × (d ≤ e) }
+    requires degrees { (1 ≤ d) × (d ≤ e) }
     requires pivot { Holds p t.now × (degree k (terms t.now) ≡ d) }
     requires initial { Holds p i.now × (terms i.now ≡ coefficient k d (terms t.now)) }
     requires n_within { n ≤ length r.old }
@@ -59,8 +60,8 @@ fn round_apart(
 
 // `division::round` in the lent buffers if it fits them, and else in buffers of its own; r need only hold the result.
 pub fn round_anywhere(
-    p: u64,
-    k: u32,
+    p: Modulus,
+    k: Variable,
     d: u64,
     e: u64,
     i: &[Term],
@@ -71,8 +72,7 @@ pub fn round_anywhere(
     y: &mut [Term],
     z: &mut [Term],
 ) -> Result<usize, Passed>
-    requires modulus { (1 ≤ p) × (p < 2147483648) }
-    requires degrees { (k < 8) × (1 ≤ d) × (d ≤ e) }
+    requires degrees { (1 ≤ d) × (d ≤ e) }
     requires pivot { Holds p t.now × (degree k (terms t.now) ≡ d) }
     requires initial { Holds p i.now × (terms i.now ≡ coefficient k d (terms t.now)) }
     requires n_within { n ≤ length r.old }

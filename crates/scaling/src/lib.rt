@@ -10,22 +10,23 @@ ghost use Rattle.polynomials.specs.Canonical.{Canonical};
 ghost use Rattle.polynomials.specs.Packed.{terms};
 
 use polynomials::Term;
+use residues::Modulus;
 
 // The term t times c.
-fn scaled(p: u64, c: u64, t: Term) -> Term
-    requires { (c < p) × (t.coefficient < p) × (p < 2147483648) }
+fn scaled(p: Modulus, c: u64, t: Term) -> Term
+    requires { (c < p) × (t.coefficient < p) }
     ensures coefficient { result.coefficient ≡ product p c t.coefficient }
     ensures monomial { (result.monomial ≡ t.monomial) × (result.monomial < 2 ^ 64) }
 {
     Term {
-        coefficient: residues::multiply(p, c, t.coefficient),
+        coefficient: p.multiply(c, t.coefficient),
         monomial: t.monomial,
     }
 }
 
 // Makes f monic. Each monomial is a word still.
-pub fn monic(p: u64, f: &mut [Term])
-    requires prime { Prime p × (p < 2147483648) }
+pub fn monic(p: Modulus, f: &mut [Term])
+    requires prime { Prime p }
     requires canonical { Canonical p (terms f.old) }
     ensures is { terms f.new ≡ monic p (terms f.old) }
     ensures in_words { Each (λ t. t.monomial < 2 ^ 64) f.new }
@@ -33,7 +34,7 @@ pub fn monic(p: u64, f: &mut [Term])
     let Some(&first) = f.first() else {
         return;
     };
-    let c = residues::invert(p, first.coefficient);
+    let c = p.invert(first.coefficient);
     for t in f.iter_mut() {
         *t = scaled(p, c, *t);
     }

@@ -3,7 +3,7 @@ use mathlib.Core.Path.{◌≡◌, refl, sym, ap, ap₂, ◌∙◌}
 use mathlib.Core.Logic.{◌≢◌}
 use mathlib.Core.Bool.{Bool, true, false, not, ◌&&◌, ◌||◌}
 use mathlib.Core.List.{List, [], ◌∷◌, map}
-use Prim.Native.Nat.{ℕ, suc, ◌+◌, ◌*◌, ◌≤◌, ◌<◌}
+use Prim.Native.Nat.{ℕ, suc, ◌+◌, ◌-◌, ◌*◌, ◌≤◌, ◌<◌}
 use native.Mathlib.Decide.{ℕ_discrete, dec_lt}
 use native.Mathlib.Omega.{arith}
 use borrow.Author.Tests.{lt-ltb, le-ltb, ltb-true, ltb-false, eq-eqb, ne_eqb}
@@ -13,14 +13,20 @@ use Rattle.residues.specs.Each.{Each}
 use Rattle.polynomials.specs.Poly.{Poly}
 use Rattle.polynomials.specs.Canonical.{All}
 use Rattle.polynomials.specs.Division.{degree, leader}
-use Rattle.polynomials.specs.Packed.{terms}
+use Rattle.polynomials.specs.Packed.{bytes, terms}
 use Rattle.polynomials.specs.Working.{Holds}
 use Rattle.polynomials.specs.laws.Packed.{byte_small}
 use Rattle.polynomials.specs.laws.Degree.{degree_at_most}
 use Rattle.polynomials.specs.laws.Terms.{length_terms}
 use Rattle.rules.specs.Branch.{led_by, Chosen, better, prefer, pivot}
 use Rattle.search.specs.Rank.{rank}
+use Rattle.records.specs.Records.{Rec, view}
+use Rattle.records.proofs.Rows.{length_view}
+use Rattle.stored.specs.Stored.{size_at, poly_at, polys_at}
+use Rattle.stored.specs.laws.Stored.{length_poly_at}
+use Rattle.stored.proofs.Laws.{size_in, past}
 use Rattle.heads.specs.Heads.{AllHold}
+use Rattle.heads.proofs.Walk.{all_at, all_on, hold_here, hold_on, first_at, no_leader_at, led_some, degree_at_first, passing}
 use Rattle.search.specs.Search.{pivot_place}
 use Rattle.polynomials.specs.declared.Term.{Term as Packed}
 
@@ -30,11 +36,11 @@ abbrev pub Bounded : ℕ → Poly → Type 0
 Bounded k f = (degree k f < 256) × (length f < 512)
 
 module _ (k : ℕ) where
-  pub rank_led : (f : Poly) → leader f ≡ suc k → rank k f ≡ 512 * degree k f + length f
+  rank_led : (f : Poly) → leader f ≡ suc k → rank k f ≡ 512 * degree k f + length f
   unfolding rank led_by
   rank_led f e = ap (λ (b : Bool). elim b as (λ b. ℕ) [ true ↦ 512 * degree k f + length f | false ↦ 131072 ]) (eq-eqb (leader f) (suc k) e)
 
-  pub rank_unled : (f : Poly) → leader f ≢ suc k → rank k f ≡ 131072
+  rank_unled : (f : Poly) → leader f ≢ suc k → rank k f ≡ 131072
   unfolding rank led_by
   rank_unled f n = ap (λ (b : Bool). elim b as (λ b. ℕ) [ true ↦ 512 * degree k f + length f | false ↦ 131072 ]) (ne_eqb (leader f) (suc k) n)
 
@@ -95,19 +101,6 @@ module _ (k : ℕ) where
   unfolding passed
   passed_by place least j f fs h =
       ap (λ (b : Bool). elim b as (λ b. ℕ) [ true ↦ passed j (rank k f) (j + 1) fs | false ↦ passed place least (j + 1) fs ]) (le-ltb (rank k f) least h)
-
-  -- A turn: the one at place j, of rank r, takes the place of the best so far where its rank is lower.
-  pub passed_turn : (place least j : ℕ) (f : Poly) (fs : List Poly) (r place₁ least₁ : ℕ) → r ≡ rank k f
-      → (r < least → place₁ ≡ j) → (r < least → least₁ ≡ r) → (least ≤ r → place₁ ≡ place) → (least ≤ r → least₁ ≡ least)
-      → passed place₁ least₁ (j + 1) fs ≡ passed place least j (f ∷ fs)
-  passed_turn place least j f fs r place₁ least₁ e to new kept old = go (dec_lt r least)
-    where
-      go : Dec (r < least) → passed place₁ least₁ (j + 1) fs ≡ passed place least j (f ∷ fs)
-      go (yes h) = (λ t. passed (to h t) ((new h ∙ e) t) (j + 1) fs) ∙ sym (passed_lower place least j f fs (omega (arith, h)))
-      go (no h) =
-          let h' : ¬ (r < least) = h in
-          let up : least ≤ r = omega arith in
-          (λ t. passed (kept up t) (old up t) (j + 1) fs) ∙ sym (passed_by place least j f fs (omega arith))
 
   -- What the pass finds: the pivot of those to come where its rank is lower, and the best so far otherwise.
   abbrev Finds : ℕ → ℕ → ℕ → List Poly → Chosen → Type 0
@@ -171,7 +164,7 @@ module _ (k : ℕ) where
       go false c e l = refl
 
   -- The pass over all, with nothing found before.
-  pub passed_all : (fs : List Poly) → Each (Bounded k) fs → passed 0 131072 0 fs ≡ pivot_place k fs
+  passed_all : (fs : List Poly) → Each (Bounded k) fs → passed 0 131072 0 fs ≡ pivot_place k fs
   unfolding passed
   passed_all [] u = refl
   passed_all (f ∷ fs) u = go (dec_lt (rank k (pivot k f fs).poly) 131072)
@@ -195,6 +188,45 @@ module _ (k : ℕ) where
   holds_bounded : (p : ℕ) (s : List Packed) → Holds p s → Bounded k (terms s)
   holds_bounded p s h = (omega (arith, degree_at_most k 255 (terms s) (small_exponents s)), omega (arith, length_terms s, h.few))
 
-  pub all_hold_bounded : (p : ℕ) (ss : List (List Packed)) → AllHold p ss → Each (Bounded k) (map terms ss)
+  all_hold_bounded : (p : ℕ) (ss : List (List Packed)) → AllHold p ss → Each (Bounded k) (map terms ss)
   all_hold_bounded p [] h = tt
   all_hold_bounded p (s ∷ ss) h = (holds_bounded p s h.0, all_hold_bounded p ss h.1)
+
+  pub passed_polys : (v : List Rec) (i n : ℕ) → ((p : ℕ) × AllHold p (polys_at v i n)) → passed 0 131072 0 (all_at v i n) ≡ pivot_place k (all_at v i n)
+  passed_polys v i n h = passed_all (all_at v i n) (all_hold_bounded h.0 (polys_at v i n) h.1)
+
+  pub passed_end : (place least j : ℕ) (v : List Rec) (i n : ℕ) → n ≡ 0 → passed place least j (all_at v i n) ≡ place
+  unfolding passed
+  passed_end place least j v i n e = ap (λ (m : ℕ). passed place least j (all_at v i m)) e
+
+  -- A turn at record i, after j of n: the polynomial there takes the place of the best so far where its rank is lower.
+  module _ (place least : ℕ) (w : List (List ℕ)) (i n j : ℕ) (some : j < n) where
+    pub passed_lower_on : rank k (terms (poly_at (view w) i)) < least
+        → passed place least j (all_at (view w) i (n - j)) ≡ passed j (rank k (terms (poly_at (view w) i))) (j + 1) (all_at (view w) (past w i) (n - (j + 1)))
+    passed_lower_on h =
+        ap (passed place least j) (all_on w i n j some)
+        ∙ passed_lower place least j (terms (poly_at (view w) i)) (all_at (view w) (past w i) (n - (j + 1))) h
+
+    pub passed_by_on : least ≤ rank k (terms (poly_at (view w) i))
+        → passed place least j (all_at (view w) i (n - j)) ≡ passed place least (j + 1) (all_at (view w) (past w i) (n - (j + 1)))
+    passed_by_on h =
+        ap (passed place least j) (all_on w i n j some)
+        ∙ passed_by place least j (terms (poly_at (view w) i)) (all_at (view w) (past w i) (n - (j + 1))) h
+
+-- The rank by the head and the first term.
+module _ (k : ℕ) (v : List Rec) (i : ℕ) where
+  pub rank_at_unled : leader (terms (poly_at v i)) ≢ k + 1 → rank k (terms (poly_at v i)) ≡ 131072
+  rank_at_unled n = rank_unled k (terms (poly_at v i)) (λ (e : leader (terms (poly_at v i)) ≡ suc k). n (omega arith))
+
+  pub rank_at_led : ((p : ℕ) × Holds p (poly_at v i)) → i + 1 + size_at v i ≤ length v → leader (terms (poly_at v i)) ≡ k + 1
+      → rank k (terms (poly_at v i)) ≡ 512 * get_or (bytes 8 (first_at v i).monomial) k 0 + size_at v i
+  rank_at_led h fits e =
+      let led : leader (terms (poly_at v i)) ≡ suc k = omega arith in
+      let power = degree_at_first v i h (led_some v i k led) fits k led in
+      let count : length (terms (poly_at v i)) ≡ size_at v i = omega (arith, length_terms (poly_at v i), length_poly_at v i fits) in
+      rank_led k (terms (poly_at v i)) led ∙ (λ t. 512 * power t + count t)
+
+-- ── what each function's proof takes ──
+pub ruleset ranks = (length_view, size_in, no_leader_at, byte_small, rank_at_unled, rank_at_led)
+
+pub ruleset passes = (passing, hold_here, hold_on, passed_lower_on, passed_by_on, passed_end, passed_polys)

@@ -1,7 +1,7 @@
 // The search among stored polynomials led by one variable: the pivot, and the other polynomial of rule 4.
 #![tactic(auto)]
 
-ghost use Rattle.std.specs.Prelude.{◌≡◌, map, ℕ, ◌+◌, ◌≤◌, ◌<◌};
+ghost use Rattle.std.specs.Prelude.{◌≡◌, map, ℕ, ◌+◌, ◌≤◌, ◌<◌, length};
 ghost use Rattle.polynomials.specs.Packed.{terms};
 ghost use Rattle.rules.specs.Branch.{other};
 ghost use Rattle.records.specs.Records.{view};
@@ -15,6 +15,7 @@ use monomials::Variable;
 use records::Record;
 
 // The rank of the polynomial at record i as a pivot in the variable at position v.
+#[tactic(auto, using(crate::proofs::Pass::ranks))]
 fn rank_at(w: &[Record], i: usize, v: Variable) -> u64
     requires i_bound { (i < length w.now) × (i + 1 + size_at (view w.now) i ≤ length w.now) }
     requires holds { (p : ℕ) × Holds p (poly_at (view w.now) i) }
@@ -28,6 +29,7 @@ fn rank_at(w: &[Record], i: usize, v: Variable) -> u64
 }
 
 // The place of the pivot in the variable at position v among the k polynomials from record `at` on.
+#[tactic(auto, using(crate::proofs::Pass::passes))]
 pub fn pivot_place(w: &[Record], at: usize, k: usize, v: Variable) -> usize
     requires k_bound { (skip_to (view w.now) at k ≤ length w.now) }
     requires all_hold { (p : ℕ) × AllHold p (polys_at (view w.now) at k) }
@@ -48,6 +50,7 @@ pub fn pivot_place(w: &[Record], at: usize, k: usize, v: Variable) -> usize
 }
 
 // The place of the earliest polynomial led by the variable at position v other than the one at `place`, among the k from record `at` on.
+#[tactic(auto, using(crate::proofs::Others::scans))]
 pub fn other_from(w: &[Record], at: usize, k: usize, v: Variable, place: usize) -> Option<usize>
     requires k_bound { (skip_to (view w.now) at k ≤ length w.now) }
     requires all_hold { (p : ℕ) × AllHold p (polys_at (view w.now) at k) }

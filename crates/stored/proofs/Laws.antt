@@ -75,3 +75,22 @@ skip_le v i (suc k) = omega (arith, skip_le v (i + 1 + size_at v i) k)
 -- With a polynomial left, the one at i ends where the walk ends, or before.
 pub skip_in : (v : List Rec) (i left : ℕ) → 0 < left → i + 1 + size_at v i ≤ skip_to v i left
 skip_in v i left h = omega (arith, skip_turn v i left h, skip_le v (i + 1 + size_at v i) (left - 1))
+
+-- ── a walk by the heads as they are read ──
+-- The record behind the polynomial at record i.
+abbrev pub past : List (List ℕ) → ℕ → ℕ
+past w i = i + (1 + get_or (get_or w i []) 0 0)
+
+past_is : (w : List (List ℕ)) (i : ℕ) → i + 1 + size_at (view w) i ≡ past w i
+past_is w i = omega (arith, size_in w i)
+
+-- A walk over k polynomials has passed j of them and come to record i.
+module _ (w : List (List ℕ)) (i k j : ℕ) (some : j < k) where
+  left : k - j ≡ suc (k - (j + 1))
+  left = omega arith
+
+  pub skip_on : skip_to (view w) (past w i) (k - (j + 1)) ≡ skip_to (view w) i (k - j)
+  skip_on = sym (ap (skip_to (view w) i) left ∙ ap (λ (n : ℕ). skip_to (view w) n (k - (j + 1))) (past_is w i))
+
+  pub polys_on : polys_at (view w) i (k - j) ≡ poly_at (view w) i ∷ polys_at (view w) (past w i) (k - (j + 1))
+  polys_on = ap (polys_at (view w) i) left ∙ ap (λ (n : ℕ). poly_at (view w) i ∷ polys_at (view w) n (k - (j + 1))) (past_is w i)

@@ -9,10 +9,11 @@ ghost use Rattle.polynomials.specs.Packed.{terms, bytes, AllFit};
 ghost use Rattle.polynomials.specs.Working.{Holds, Written, Forms};
 
 use polynomials::{Passed, Term};
+use residues::Modulus;
 
 // f plus c·m times g, into the first terms of `out`; how many. g's exponents, with those of m, stay below 256.
-pub fn add_multiple(p: u64, c: u64, m: u64, g: &[Term], f: &[Term], out: &mut [Term]) -> usize
-    requires c_lt_p { (c < p) × (p < 2147483648) }
+pub fn add_multiple(p: Modulus, c: u64, m: u64, g: &[Term], f: &[Term], out: &mut [Term]) -> usize
+    requires c_lt_p { c < p }
     requires g_canonical { Canonical p (terms g.now) × AllFit m g.now }
     requires f_canonical { Canonical p (terms f.now) }
     requires g_in_bounds { length f.now + length g.now ≤ length out.old }
@@ -28,9 +29,9 @@ pub fn add_multiple(p: u64, c: u64, m: u64, g: &[Term], f: &[Term], out: &mut [T
             k += 1;
             i += 1;
         } else {
-            let mut s = residues::multiply(p, c, g[j].coefficient);
+            let mut s = p.multiply(c, g[j].coefficient);
             if i < f.len() && f[i].monomial == e {
-                s = residues::add(p, s, f[i].coefficient);
+                s = p.add(s, f[i].coefficient);
                 i += 1;
             }
             if s != 0 {
@@ -50,13 +51,12 @@ pub fn add_multiple(p: u64, c: u64, m: u64, g: &[Term], f: &[Term], out: &mut [T
 }
 
 // f minus g, into the first terms of `out`.
-pub fn difference(p: u64, f: &[Term], g: &[Term], out: &mut [Term]) -> Result<usize, Passed>
-    requires le_p { (1 ≤ p) × (p < 2147483648) }
+pub fn difference(p: Modulus, f: &[Term], g: &[Term], out: &mut [Term]) -> Result<usize, Passed>
     requires holds { Holds p f.now }
     requires holds_2 { Holds p g.now }
     requires g_in_bounds { length f.now + length g.now ≤ length out.old }
     ensures { Forms (bounded_difference standard p (terms f.now) (terms g.now)) result out.new }
 {
-    let n = add_multiple(p, p - 1, 0, g, f, out);
+    let n = add_multiple(p, p.get() - 1, 0, g, f, out);
     if n <= 256 { Ok(n) } else { Err(Passed::Terms) }
 }

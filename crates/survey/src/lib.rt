@@ -1,7 +1,7 @@
 // The survey of the open branch by the heads and first terms of its polynomials: rule 1, rule 2 or the pivot, and the other polynomial of rule 4.
 #![tactic(auto)]
 
-ghost use Rattle.std.specs.Prelude.{◌≡◌, ℕ, ◌<◌};
+ghost use Rattle.std.specs.Prelude.{◌≡◌, ℕ};
 ghost use Rattle.rules.specs.Branch.{other};
 ghost use Rattle.branches.specs.Area.{Opened, WhenOpen};
 ghost use Rattle.representation.specs.Represent.{branch_of};
@@ -21,6 +21,7 @@ pub enum Choice {
 }
 
 // Which of rules 1 and 2 fits the open branch, or its pivot.
+#[tactic(auto, using(crate::proofs::Choices::opened))]
 pub fn choose(w: &[Record]) -> Choice
     requires opened { Opened w.now }
     requires when_open { WhenOpen w.now (λ b bs ss. (p : ℕ) × AllHold p b.P × AllHold p b.Q) }
@@ -43,6 +44,7 @@ pub fn choose(w: &[Record]) -> Choice
 }
 
 // The other polynomial of P that v(k+1) leads, the pivot standing at `place`.
+#[tactic(auto, using(crate::proofs::Choices::opened))]
 pub fn find_other(w: &[Record], k: Variable, place: usize) -> Option<usize>
     requires opened { Opened w.now }
     requires when_open { WhenOpen w.now (λ b bs ss. (p : ℕ) × AllHold p b.P) }

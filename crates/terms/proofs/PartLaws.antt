@@ -97,7 +97,7 @@ some_term k (t ∷ s) e = omega arith
 pub led_some : (k : ℕ) (s : List Packed) → Led k s → 0 < length s
 led_some k s L = some_term k s L.1
 
-pub led_place : (k : ℕ) (s : List Packed) → Led k s → k < 8
+led_place : (k : ℕ) (s : List Packed) → Led k s → k < 8
 led_place k s L = omega (arith, L.1, leader_places 8 (terms s) (places_terms s))
 
 pub leader_none : (s : List Packed) → length s ≡ 0 → leader (terms s) ≡ 0

@@ -7,10 +7,11 @@ ghost use Rattle.polynomials.specs.Packed.{terms, bytes};
 ghost use Rattle.polynomials.specs.Canonical.{Canonical};
 
 use polynomials::Term;
+use residues::Modulus;
 
 // The value of a term.
-pub fn term_value(p: u64, term: Term, point: &[u32]) -> u64
-    requires le_p { (2 ≤ p) × (p < 2147483648) × (term.coefficient < p) }
+pub fn term_value(p: Modulus, term: Term, point: &[u32]) -> u64
+    requires le_p { (2 ≤ p) × (term.coefficient < p) }
     requires point { Point p point.now }
     ensures { result ≡ term.coefficient * monomial_valueℕ point.now (bytes 8 term.monomial) % p }
 {
@@ -20,22 +21,22 @@ pub fn term_value(p: u64, term: Term, point: &[u32]) -> u64
         if exponents == 0 {
             break;
         }
-        value = residues::multiply(p, value, residues::power(p, u64::from(*x), exponents % 256));
+        value = p.multiply(value, p.power(u64::from(*x), exponents % 256));
         exponents /= 256;
     }
     value
 }
 
 // The value of f.
-pub fn value(p: u64, f: &[Term], point: &[u32]) -> u64
-    requires le_p { (2 ≤ p) × (p < 2147483648) }
+pub fn value(p: Modulus, f: &[Term], point: &[u32]) -> u64
+    requires le_p { 2 ≤ p }
     requires canonical { Canonical p (terms f.now) }
     requires point { Point p point.now }
     ensures { result ≡ value_modulo p (terms f.now) point.now }
 {
     let mut value = 0;
     for term in f {
-        value = residues::add(p, value, term_value(p, *term, point));
+        value = p.add(value, term_value(p, *term, point));
     }
     value
 }

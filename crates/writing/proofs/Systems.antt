@@ -1,16 +1,19 @@
 -- Where the parts of a stored system lie, and what writing it leaves.
 use mathlib.Core.Path.{◌≡◌, refl, sym, ap, ◌∙◌}
+use mathlib.Core.Logic.{◌≢◌}
 use mathlib.Core.List.{List, [], ◌∷◌, ◌++◌, map, append_assoc}
-use Prim.Native.Nat.{ℕ, suc, ◌+◌, ◌*◌, ◌≤◌, ◌<◌}
+use Prim.Native.Nat.{ℕ, suc, ◌+◌, ◌-◌, ◌*◌, ◌≤◌}
 use native.Mathlib.Omega.{arith}
 use lib.ListN.{length, get_or, length-append, length-map}
 use lib.Seq.{paste, get_or_at}
+use Rattle.std.proofs.lemmas.List.Edits.{length-paste}
 use Rattle.polynomials.specs.Poly.{Poly}
 use Rattle.polynomials.specs.Packed.{terms}
 use Rattle.rules.specs.Room.{polynomials_size, systems_size}
 use Rattle.rules.specs.Written.{index_of, heads_words, system_words}
 use Rattle.rules.proofs.laws.Lengths.{length_heads, length_system}
-use Rattle.records.specs.Records.{Rec, record_of, zero_record}
+use Rattle.records.specs.Records.{Rec, record_of, zero_record, view}
+use Rattle.records.proofs.Rows.{length_view, word_1, word_2}
 use Rattle.stored.specs.Stored.{polys_records, skip_to, polys_at}
 use Rattle.stored.specs.laws.Stored.{polys_records_append, skip_to_polys_records, polys_at_polys_records}
 use Rattle.branches.specs.Area.{Stored, branch_records}
@@ -45,20 +48,28 @@ length_branch_records s e =
       ap length (no_records s.P e),
     )
 
--- What the readers by position find.
-pub record Found (v : List Rec) (i : ℕ) (s : Stored) : Type 0 where
-  pub inside : i + size_of s ≤ length v
-  pub size : size_of s ≡ 1 + (polynomials_size (map terms s.T) + polynomials_size (map terms s.Q))
-  pub count_u : (get_or v i zero_record).w1 ≡ length s.Q
-  pub count_t : (get_or v i zero_record).w2 ≡ length s.T
-  pub end_u : skip_to v (i + 1) (length s.Q) ≡ i + 1 + polynomials_size (map terms s.Q)
-  pub end_t : skip_to v (i + 1 + polynomials_size (map terms s.Q)) (length s.T) ≡ i + size_of s
-  pub end : skip_to v (i + 1) (length s.Q + length s.T) ≡ i + size_of s
-  pub polys_u : polys_at v (i + 1) (length s.Q) ≡ s.Q
-  pub polys_t : polys_at v (i + 1 + polynomials_size (map terms s.Q)) (length s.T) ≡ s.T
+-- How many polynomials its U and its T have, as they are read.
+abbrev pub u_in : List (List ℕ) → ℕ → ℕ
+u_in w i = get_or (get_or w i []) 1 0
 
-pub found : (v : List Rec) (i : ℕ) (s : Stored) → StoredAt v i s → Found v i s
-found v i s h =
+abbrev pub t_in : List (List ℕ) → ℕ → ℕ
+t_in w i = get_or (get_or w i []) 2 0
+
+-- What is found by way of them: the U heads, and the T heads behind those.
+pub record Found (w : List (List ℕ)) (i : ℕ) (s : Stored) : Type 0 where
+  pub inside : i + size_of s ≤ length w
+  pub size : size_of s ≡ 1 + (polynomials_size (map terms s.T) + polynomials_size (map terms s.Q))
+  pub u_is : u_in w i ≡ length s.Q
+  pub t_is : t_in w i ≡ length s.T
+  pub end_u : skip_to (view w) (i + 1) (u_in w i) ≡ i + 1 + polynomials_size (map terms s.Q)
+  pub end_t : skip_to (view w) (skip_to (view w) (i + 1) (u_in w i)) (t_in w i) ≡ i + size_of s
+  pub end : skip_to (view w) (i + 1) (u_in w i + t_in w i) ≡ i + size_of s
+  pub polys_u : polys_at (view w) (i + 1) (u_in w i) ≡ s.Q
+  pub polys_t : polys_at (view w) (skip_to (view w) (i + 1) (u_in w i)) (t_in w i) ≡ s.T
+
+pub found : (w : List (List ℕ)) (i : ℕ) (s : Stored) → StoredAt (view w) i s → Found w i s
+found w i s h =
+    let v : List Rec = view w in
     let U : List Rec = polys_records s.Q in
     let T : List Rec = polys_records s.T in
     let r : Rec = record_of (length s.P) (length s.Q) (length s.T) 0 in
@@ -78,76 +89,67 @@ found v i s h =
     let lfU : length (front ++ U) ≡ i + 1 + polynomials_size (map terms s.Q) = omega (arith, length-append front U) in
     let here : get_or v i zero_record ≡ r =
     ap (λ (l : List Rec). get_or l i zero_record) all ∙ get_or_at h.before r (U ++ T ++ h.behind) zero_record i h.starts in
+    let u : u_in w i ≡ length s.Q = word_1 w i ∙ ap (λ (x : Rec). x.w1) here in
+    let t : t_in w i ≡ length s.T = word_2 w i ∙ ap (λ (x : Rec). x.w2) here in
+    let from_t : skip_to v (i + 1) (u_in w i) ≡ i + 1 + polynomials_size (map terms s.Q) =
+    ap (skip_to v (i + 1)) u ∙ skip_to_polys_records v front (i + 1) s.Q (T ++ h.behind) lf first ∙ omega arith in
     record {
-      inside = omega (arith, ap length both, length-append front (U ++ T ++ h.behind), length-append (U ++ T) h.behind);
+      inside = omega (arith, length_view w, ap length both, length-append front (U ++ T ++ h.behind), length-append (U ++ T) h.behind);
       size = is;
-      count_u = ap (λ (x : Rec). x.w1) here;
-      count_t = ap (λ (x : Rec). x.w2) here;
-      end_u = skip_to_polys_records v front (i + 1) s.Q (T ++ h.behind) lf first ∙ omega arith;
-      end_t = skip_to_polys_records v (front ++ U) (i + 1 + polynomials_size (map terms s.Q)) s.T h.behind lfU second ∙ omega arith;
+      u_is = u;
+      t_is = t;
+      end_u = from_t;
+      end_t = (λ k. skip_to v (from_t k) (t k))
+          ∙ skip_to_polys_records v (front ++ U) (i + 1 + polynomials_size (map terms s.Q)) s.T h.behind lfU second ∙ omega arith;
       end =
-          ap (skip_to v (i + 1)) (sym (length-append s.Q s.T))
+          ap (skip_to v (i + 1)) ((λ k. u k + t k) ∙ sym (length-append s.Q s.T))
           ∙ skip_to_polys_records v front (i + 1) (s.Q ++ s.T) h.behind lf joined
           ∙ omega (arith, ap length (polys_records_append s.Q s.T));
-      polys_u = polys_at_polys_records v front (i + 1) s.Q (T ++ h.behind) lf first h.storable_u;
+      polys_u = ap (polys_at v (i + 1)) u ∙ polys_at_polys_records v front (i + 1) s.Q (T ++ h.behind) lf first h.storable_u;
       polys_t =
-          polys_at_polys_records v (front ++ U) (i + 1 + polynomials_size (map terms s.Q)) s.T h.behind lfU second
+          (λ k. polys_at v (from_t k) (t k))
+          ∙ polys_at_polys_records v (front ++ U) (i + 1 + polynomials_size (map terms s.Q)) s.T h.behind lfU second
           h.storable_t;
     }
 
--- What the counts read, and the ends found from them, are.
-pub record Ends (v : List Rec) (i u t from_t end : ℕ) (s : Stored) : Type 0 where
-  pub u_is : u ≡ length s.Q
-  pub t_is : t ≡ length s.T
-  pub from_t_is : from_t ≡ i + 1 + polynomials_size (map terms s.Q)
-  pub end_is : end ≡ i + size_of s
-  pub size : size_of s ≡ 1 + (polynomials_size (map terms s.T) + polynomials_size (map terms s.Q))
-  pub inside : i + size_of s ≤ length v
-  pub polys_u : polys_at v (i + 1) u ≡ s.Q
-  pub polys_t : polys_at v from_t t ≡ s.T
-
-pub ends : (v : List Rec) (i u t from_t end : ℕ) (s : Stored) → Found v i s → u ≡ (get_or v i zero_record).w1 → t ≡ (get_or v i zero_record).w2
-    → from_t ≡ skip_to v (i + 1) u → end ≡ skip_to v from_t t → Ends v i u t from_t end s
-ends v i u t from_t end s f eu et ei ee =
-    let u_is : u ≡ length s.Q = eu ∙ f.count_u in
-    let t_is : t ≡ length s.T = et ∙ f.count_t in
-    let from_t_is : from_t ≡ i + 1 + polynomials_size (map terms s.Q) = ei ∙ ap (skip_to v (i + 1)) u_is ∙ f.end_u in
-    record {
-      u_is = u_is;
-      t_is = t_is;
-      from_t_is = from_t_is;
-      end_is = ee ∙ (λ k. skip_to v (from_t_is k) (t_is k)) ∙ f.end_t;
-      size = f.size;
-      inside = f.inside;
-      polys_u = ap (polys_at v (i + 1)) u_is ∙ f.polys_u;
-      polys_t = (λ k. polys_at v (from_t_is k) (t_is k)) ∙ f.polys_t;
-    }
-
 -- A system's record written, then its T heads, then its U heads.
-pub system_written : (s : Stored) (out o₁ o₂ o₃ : List ℕ) (at to next ft fu : ℕ)
-    → o₁ ≡ paste out (4 * at) (ft ∷ fu ∷ 0 ∷ next ∷ []) 4
-    → o₂ ≡ over o₁ (4 * (at + 1)) (heads_words (at + 1) (map terms s.T))
-    → o₃ ≡ over o₂ (4 * to) (heads_words to (map terms s.Q))
-    → length o₁ ≡ length out → to ≡ at + 1 + polynomials_size (map terms s.T) → 4 * (at + size_of s) ≤ length out
-    → (0 < length s.T → ft ≡ at + 1) → (length s.T ≡ 0 → ft ≡ 0) → (0 < length s.Q → fu ≡ to) → (length s.Q ≡ 0 → fu ≡ 0)
-    → o₃ ≡ paste out (4 * at) (system_words at next (system_of s)) (4 * size_of s)
-system_written s out o₁ o₂ o₃ at to next ft fu e₁ e₂ e₃ same et fits someT noT someU noU =
-    let T : List Poly = map terms s.T in
-    let U : List Poly = map terms s.Q in
-    let HT : List ℕ = heads_words (at + 1) T in
-    let HU : List ℕ = heads_words to U in
-    let is = size_is s in
-    let lT = length-map s.T terms in
-    let lU = length-map s.Q terms in
-    let lHT : length HT ≡ 4 * polynomials_size T = length_heads (at + 1) T in
-    let sa : at + 1 ≡ suc at = omega arith in
-    let st : to ≡ suc at + polynomials_size T = omega arith in
-    let it : ft ≡ index_of T (suc at) = index_is T (suc at) ft (λ h. someT (omega arith) ∙ sa) (λ h. noT (omega arith)) in
-    let iu : fu ≡ index_of U (suc at + polynomials_size T) =
-    index_is U (suc at + polynomials_size T) fu (λ h. someU (omega arith) ∙ st) (λ h. noU (omega arith)) in
-    let S : List ℕ = system_words at next (system_of s) in
-    e₃ ∙ ap (λ (l : List ℕ). over l (4 * to) HU) e₂
-    ∙ over_behind o₁ (4 * (at + 1)) HT (4 * to) HU (omega arith) (omega arith)
-    ∙ record_behind out o₁ at (at + 1) ft fu 0 next (HT ++ HU) e₁ refl (omega arith)
-    ∙ (λ t. over out (4 * at) (it t ∷ iu t ∷ 0 ∷ next ∷ (heads_words (sa t) T ++ heads_words (st t) U)))
-    ∙ sym (paste_over out (4 * at) S (4 * size_of s) (length_system at next (system_of s)))
+module _ (s : Stored) (w : List (List ℕ)) (i : ℕ) (f : Found w i s) (out o₁ o₂ o₃ : List ℕ) (at to next ft fu from_t : ℕ)
+    (from : from_t ≡ skip_to (view w) (i + 1) (u_in w i)) (behind : to ≡ at + 1 + (skip_to (view w) from_t (t_in w i) - from_t))
+    (e₁ : o₁ ≡ paste out (4 * at) (ft ∷ fu ∷ 0 ∷ next ∷ []) 4)
+    (e₂ : o₂ ≡ paste o₁ (4 * (at + 1)) (heads_words (at + 1) (map terms (polys_at (view w) from_t (t_in w i)))) (4 * (skip_to (view w) from_t (t_in w i) - from_t)))
+    (e₃ : o₃ ≡ paste o₂ (4 * to) (heads_words to (map terms (polys_at (view w) (i + 1) (u_in w i)))) (4 * (skip_to (view w) (i + 1) (u_in w i) - (i + 1))))
+    (fits : 4 * (at + size_of s) ≤ length out)
+    (no_t : t_in w i ≡ 0 → ft ≡ 0) (some_t : t_in w i ≢ 0 → ft ≡ at + 1) (no_u : u_in w i ≡ 0 → fu ≡ 0) (some_u : u_in w i ≢ 0 → fu ≡ to) where
+  pub system_written : o₃ ≡ paste out (4 * at) (system_words at next (system_of s)) (4 * size_of s)
+  system_written =
+      let v : List Rec = view w in
+      let T : List Poly = map terms s.T in
+      let U : List Poly = map terms s.Q in
+      let HT : List ℕ = heads_words (at + 1) T in
+      let HU : List ℕ = heads_words to U in
+      let S : List ℕ = system_words at next (system_of s) in
+      let l₁ : length o₁ ≡ length out = ap length e₁ ∙ length-paste out (4 * at) (ft ∷ fu ∷ 0 ∷ next ∷ []) 4 (omega (arith, f.size)) (omega arith) in
+      let lT = length-map s.T terms in
+      let lU = length-map s.Q terms in
+      let ends : skip_to v from_t (t_in w i) ≡ i + size_of s = ap (λ (n : ℕ). skip_to v n (t_in w i)) from ∙ f.end_t in
+      let back : from_t ≡ i + 1 + polynomials_size U = from ∙ f.end_u in
+      let lHT : length HT ≡ 4 * (skip_to v from_t (t_in w i) - from_t) = omega (arith, length_heads (at + 1) T, f.size) in
+      let lHU : length HU ≡ 4 * (skip_to v (i + 1) (u_in w i) - (i + 1)) = omega (arith, length_heads to U, f.end_u) in
+      let sa : at + 1 ≡ suc at = omega arith in
+      let st : to ≡ suc at + polynomials_size T = omega (arith, f.size) in
+      let it : ft ≡ index_of T (suc at) = index_is T (suc at) ft (λ h. omega (arith, some_t (omega (arith, f.t_is)))) (λ h. no_t (omega (arith, f.t_is))) in
+      let iu : fu ≡ index_of U (suc at + polynomials_size T) =
+      index_is U (suc at + polynomials_size T) fu (λ h. omega (arith, some_u (omega (arith, f.u_is)))) (λ h. no_u (omega (arith, f.u_is))) in
+      let polys_t : polys_at v from_t (t_in w i) ≡ s.T = ap (λ (n : ℕ). polys_at v n (t_in w i)) from ∙ f.polys_t in
+      let o₂_is : o₂ ≡ over o₁ (4 * (at + 1)) HT =
+      e₂ ∙ ap (λ (fs : List (List Packed)). paste o₁ (4 * (at + 1)) (heads_words (at + 1) (map terms fs)) (4 * (skip_to v from_t (t_in w i) - from_t))) polys_t
+      ∙ paste_over o₁ (4 * (at + 1)) HT (4 * (skip_to v from_t (t_in w i) - from_t)) lHT in
+      let o₃_is : o₃ ≡ over o₂ (4 * to) HU =
+      e₃ ∙ ap (λ (fs : List (List Packed)). paste o₂ (4 * to) (heads_words to (map terms fs)) (4 * (skip_to v (i + 1) (u_in w i) - (i + 1)))) f.polys_u
+      ∙ paste_over o₂ (4 * to) HU (4 * (skip_to v (i + 1) (u_in w i) - (i + 1))) lHU in
+      o₃_is ∙ ap (λ (l : List ℕ). over l (4 * to) HU) o₂_is
+      ∙ over_behind o₁ (4 * (at + 1)) HT (4 * to) HU (omega arith) (omega (arith, f.size))
+      ∙ ap (λ (l : List ℕ). over l (4 * (at + 1)) (HT ++ HU)) e₁
+      ∙ record_behind out at (at + 1) ft fu 0 next (HT ++ HU) refl (omega (arith, f.size))
+      ∙ (λ t. over out (4 * at) (it t ∷ iu t ∷ 0 ∷ next ∷ (heads_words (sa t) T ++ heads_words (st t) U)))
+      ∙ sym (paste_over out (4 * at) S (4 * size_of s) (length_system at next (system_of s)))

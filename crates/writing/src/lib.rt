@@ -10,6 +10,7 @@ ghost use Rattle.branches.specs.Area.{Stored, HeldIn};
 ghost use Rattle.representation.specs.Represent.{AllListed, system_of};
 ghost use Rattle.writing.specs.Listed.{StoredAt, listing_of};
 
+use branches::Listed;
 use records::Record;
 
 // How many records the system at record i takes.
@@ -47,16 +48,13 @@ pub fn write_list(w: &[Record], p: u32, n: u32, out: &mut [u32])
     ensures { (ss : List Stored) → HeldIn w.now (record { branches = []; systems = ss })
         → out.new ≡ list_words (listing_of p n ss) ++ drop (4 * list_records (reverse (map system_of ss))) out.old }
 {
-    let listed = branches::listed_systems(w);
-    let top = listed.top;
-    let count = listed.count;
-    let most = w.len();
+    let Listed { top, count } = branches::listed_systems(w);
     let first = if count == 0 { 0 } else { 1 };
     records::write(out, 0, [p, n, first, count]);
     let mut i = top;
-    let mut end = 1 + (most - top);
-    let mut next: u32 = 0;
-    while i < most {
+    let mut end = 1 + (w.len() - top);
+    let mut next = 0;
+    for _i in 0..count {
         let size = system_size(w, i);
         let at = end - size;
         write_system(w, i, out, at, next);

@@ -12,5 +12,9 @@ invariant-loop-j l =
     let a = l.fn in
     let v = view a.w in
     let left = a.k - l.j in
-    (length l.out ≡ length a.out) × (l.at + a.from ≡ a.to + l.i) × (skip_to v l.i left ≡ skip_to v a.from a.k)
-    × (over l.out (4 * l.at) (heads_words l.at (map terms (polys_at v l.i left))) ≡ over a.out (4 * a.to) (heads_words a.to (map terms (polys_at v a.from a.k))))
+    record {
+      same : length l.out ≡ length a.out;
+      along : l.at + a.from ≡ a.to + l.i;
+      ends : skip_to v l.i left ≡ skip_to v a.from a.k;
+      whole : over l.out (4 * l.at) (heads_words l.at (map terms (polys_at v l.i left))) ≡ over a.out (4 * a.to) (heads_words a.to (map terms (polys_at v a.from a.k)));
+    }

@@ -12,5 +12,7 @@ abbrev pub invariant-loop-i : goal.invariant-loop-i
 invariant-loop-i l =
     let v = view l.w in
     let at = l.to + l.i in
-    (length l.out ≡ length l.fn.out)
-    × (over l.out (4 * at) (terms_words at (terms_in v (l.from + 1 + l.i) (l.n - l.i))) ≡ over l.fn.out (4 * l.to) (terms_words l.to (terms (poly_at v l.from))))
+    record {
+      same : length l.out ≡ length l.fn.out;
+      whole : over l.out (4 * at) (terms_words at (terms_in v (l.from + 1 + l.i) (l.n - l.i))) ≡ over l.fn.out (4 * l.to) (terms_words l.to (terms (poly_at v l.from)));
+    }

@@ -23,14 +23,14 @@ subtract_product-requires-clause-factor c =
 pub subtract_product-requires-clause-a_holds : goal.subtract_product-requires-clause-a_holds
 subtract_product-requires-clause-a_holds c =
     let a = c.args in
-    (product_answered a.p c.requires.modulus.0 c.in_ok-a.a _ c.times_initial.new.x c.in_ok-a.was (terms a.i.now) (terms (take a.n a.r.now)) c.times_initial.ensures).holds
+    (product_answered a.p (omega (arith, c.well_formed.0)) c.in_ok-a.a _ c.times_initial.new.x c.in_ok-a.was (terms a.i.now) (terms (take a.n a.r.now)) c.times_initial.ensures).holds
 
 pub subtract_product-requires-clause-r_lent : goal.subtract_product-requires-clause-r_lent
 subtract_product-requires-clause-r_lent c =
     let a = c.args in
     let m = c.in_ok-a.a in
     let x = c.times_initial.new.x in
-    let A = product_answered a.p c.requires.modulus.0 m _ x c.in_ok-a.was (terms a.i.now) (terms (take a.n a.r.now)) c.times_initial.ensures in
+    let A = product_answered a.p (omega (arith, c.well_formed.0)) m _ x c.in_ok-a.was (terms a.i.now) (terms (take a.n a.r.now)) c.times_initial.ensures in
     difference_lent a.n (length a.i.now) (length a.t.now) c.factor-l.result c.factor-l.ensures.count _ _
     (omega (arith, product_count a.p a.i.now (take a.n a.r.now) m x A, ap (λ n. length a.i.now * n) (length-take-le a.n a.r.now c.requires.n_within), length-take-le m x A.inside))
     (omega (arith, c.requires.r_lent, c.factor-l.auto.r))
@@ -41,6 +41,6 @@ returns c =
     let R = take a.n a.r.now in
     let m = c.in_ok-a.a in
     let x = c.times_initial.new.x in
-    let A = product_answered a.p c.requires.modulus.0 m _ x c.in_ok-a.was (terms a.i.now) (terms R) c.times_initial.ensures in
+    let A = product_answered a.p (omega (arith, c.well_formed.0)) m _ x c.in_ok-a.was (terms a.i.now) (terms R) c.times_initial.ensures in
     round_formed a.p a.k a.d (terms a.t.now) (terms R) (terms a.i.now) c.requires.initial.1 c.subtract_product.new.r m x c.subtract_product.result _ A
     c.factor-l.ensures.written.holds c.subtract_product.ensures

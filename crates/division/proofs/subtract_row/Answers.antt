@@ -7,33 +7,33 @@ pub returns-then-degrees_over : goal.returns-then-degrees_over
 returns-then-degrees_over c =
     let a = c.args in
     let q = c.requires in
-    row_refused a.p q.modulus.0 a.r.now a.t.now q.r_nonempty q.factor _ _ (sym c.degrees_over.ensures ∙ c.if-degrees_over.true)
+    row_refused a.p a.r.now a.t.now q.r_nonempty q.factor _ _ (sym c.degrees_over.ensures ∙ c.if-degrees_over.true)
 
-pub overflow_sub-p : goal.overflow_sub-p
-overflow_sub-p c =
+pub overflow_sub-get : goal.overflow_sub-get
+overflow_sub-get c =
     let q = c.requires in
-    omega (arith, factor_coefficient c.args.p q.modulus.0 c.args.r.now c.args.t.now q.r_nonempty q.factor)
+    omega (arith, factor_coefficient c.args.p c.args.r.now c.args.t.now q.r_nonempty q.factor)
 
 pub add_multiple-n-requires-clause-c_lt_p : goal.add_multiple-n-requires-clause-c_lt_p
 add_multiple-n-requires-clause-c_lt_p c =
     let q = c.requires in
-    omega (arith, factor_coefficient c.args.p q.modulus.0 c.args.r.now c.args.t.now q.r_nonempty q.factor)
+    omega (arith, factor_coefficient c.args.p c.args.r.now c.args.t.now q.r_nonempty q.factor)
 
 pub add_multiple-n-requires-clause-g_canonical : goal.add_multiple-n-requires-clause-g_canonical
 add_multiple-n-requires-clause-g_canonical c =
     let q = c.requires in
-    (q.t_holds.canonical, factor_fits c.args.p q.modulus.0 c.args.r.now c.args.t.now q.r_nonempty q.factor (sym c.degrees_over.ensures ∙ c.if-degrees_over.false))
+    (q.t_holds.canonical, factor_fits c.args.p c.args.r.now c.args.t.now q.r_nonempty q.factor (sym c.degrees_over.ensures ∙ c.if-degrees_over.false))
 
 pub returns-then-n-le256 : goal.returns-then-n-le256
 returns-then-n-le256 c =
     let a = c.args in
     let q = c.requires in
-    row_formed a.p q.modulus.0 a.r.now a.t.now q.r_nonempty q.factor a.a.now q.t_holds q.a_holds (sym c.degrees_over.ensures ∙ c.if-degrees_over.false) _ _
-    c.add_multiple-n.ensures c.if-n-le256.true
+    row_formed a.p a.r.now a.t.now q.r_nonempty q.factor a.a.now q.t_holds q.a_holds (sym c.degrees_over.ensures ∙ c.if-degrees_over.false) _ _
+    (rw c.get.ensures.is at c.add_multiple-n.ensures) c.if-n-le256.true
 
 pub returns-else-n-le256 : goal.returns-else-n-le256
 returns-else-n-le256 c =
     let a = c.args in
     let q = c.requires in
-    row_too_long a.p q.modulus.0 a.r.now a.t.now q.r_nonempty q.factor a.a.now q.t_holds q.a_holds (sym c.degrees_over.ensures ∙ c.if-degrees_over.false) _ _
-    c.add_multiple-n.ensures c.if-n-le256.false
+    row_too_long a.p a.r.now a.t.now q.r_nonempty q.factor a.a.now q.t_holds q.a_holds (sym c.degrees_over.ensures ∙ c.if-degrees_over.false) _ _
+    (rw c.get.ensures.is at c.add_multiple-n.ensures) c.if-n-le256.false

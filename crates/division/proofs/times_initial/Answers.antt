@@ -29,6 +29,6 @@ returns-then-eq c =
     let copy = c.copy_from_slice in
     let is_one = equal_one i (ap (pointwise (λ x y. eqb x.coefficient y.coefficient && eqb x.monomial y.monomial) i) (sym c.as_slice.ensures) ∙ sym c.eq.ensures ∙ c.if-eq.true) in
     subst (λ i. Forms (bounded_product standard p (terms i) (terms f)) (Ok (length f)) (copy.new.self ++ drop (length f) x)) (sym is_one)
-    (copy_forms p c.requires.modulus.0 f (copy.new.self ++ drop (length f) x) c.requires.f_holds
+    (copy_forms p (omega (arith, c.well_formed.0)) f (copy.new.self ++ drop (length f) x) c.requires.f_holds
     (omega (arith, length-append copy.new.self (drop (length f) x), ap length copy.ensures.after))
     (take_at copy.new.self (drop (length f) x) (length f) (ap length copy.ensures.after) ∙ copy.ensures.after))

@@ -3,8 +3,8 @@ use Rattle.std.proofs.Common.{arith}
 use Rattle.evaluation.proofs.ValueLaws.{prime_two, prime_below}
 use Rattle.evaluation.proofs.add_term.Goals as goal
 
-pub term_value-requires-clause-le_p : goal.term_value-requires-clause-le_p
-term_value-requires-clause-le_p c = let two = prime_two c.args.table in let below = prime_below c.args.table in (omega arith, omega arith, omega arith)
+pub new-p-requires-clause-below : goal.new-p-requires-clause-below
+new-p-requires-clause-below c = let below = prime_below c.args.table in omega arith
 
-pub add-requires : goal.add-requires
-add-requires c = let two = prime_two c.args.table in let below = prime_below c.args.table in (omega arith, omega arith, omega arith)
+pub term_value-requires-clause-le_p : goal.term_value-requires-clause-le_p
+term_value-requires-clause-le_p c = let two = prime_two c.args.table in (omega arith, omega arith)

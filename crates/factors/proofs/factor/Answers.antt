@@ -13,7 +13,8 @@ overflow_sub-r c =
     let k = c.args.k in
     let t = get_or c.loop-i.r c.loop-i.i blank in
     let q : power_of k t ≡ c.args.e = sym c.exponent.ensures ∙ c.if-exponent-e.true in
-    power_within k t.monomial c.args.d _ c.requires.place (omega arith) (power_shifted k c.args.d c.args.e (take c.args.n c.args.r.now) c.requires.place c.requires.divisor.1 c.requires.highest)
+    let top = power_shifted k c.get.result c.args.d c.args.e (take c.args.n c.args.r.now) c.get.ensures.is c.get.ensures.below c.requires.divisor.1 c.requires.highest in
+    power_within k t.monomial c.args.d _ c.get.ensures.below (omega arith) top
 
 pub loop-i-preserved : goal.loop-i-preserved
 loop-i-preserved c =
@@ -22,12 +23,13 @@ loop-i-preserved c =
     let e = c.args.e in
     let s = c.args.r.now in
     let l = c.loop-i in
-    let top = power_shifted k d e (take c.args.n s) c.requires.place c.requires.divisor.1 c.requires.highest in
+    let small = c.get.ensures.below in
+    let top = power_shifted k c.get.result d e (take c.args.n s) c.get.ensures.is small c.requires.divisor.1 c.requires.highest in
     elim c.if-exponent-e.branch [
       | then-exponent-e w ↦ divided_as w.r-is w.count-is
-          (divided_next k d e s c.requires.place c.requires.divisor.1 _ top l.r l.i l.count (omega arith) l.invariant (sym c.exponent.ensures ∙ w.if-exponent-e.true))
+          (divided_next k d e s small c.requires.divisor.1 _ top l.r l.i l.count (omega arith) l.invariant (sym c.exponent.ensures ∙ w.if-exponent-e.true))
       | else-exponent-e w ↦ divided_as w.r-is w.count-is
-          (divided_same k d e s c.requires.place c.requires.divisor.1 _ top l.r l.i l.count (omega arith) l.invariant (λ q. w.if-exponent-e.false (c.exponent.ensures ∙ q)))
+          (divided_same k d e s small c.requires.divisor.1 _ top l.r l.i l.count (omega arith) l.invariant (λ q. w.if-exponent-e.false (c.exponent.ensures ∙ q)))
     ]
 
 pub returns-clause-written : goal.returns-clause-written

@@ -13,14 +13,12 @@ none = record { coefficient = 0; monomial = 0 }
 pub add_multiple-n-requires-clause-c_lt_p : goal.add_multiple-n-requires-clause-c_lt_p
 add_multiple-n-requires-clause-c_lt_p c =
     let q = c.requires in
-    let f = c.args.f.now in
-    (row_residue (factors c.args.p f c.args.g.now q.le_p q.holds q.holds_2) (length f - 1) none _ (omega arith) refl, q.le_p.1)
+    row_residue (factors q.holds q.holds_2) (length c.args.f.now - 1) none _ (omega arith) refl
 
 pub add_multiple-n-requires-clause-g_canonical : goal.add_multiple-n-requires-clause-g_canonical
 add_multiple-n-requires-clause-g_canonical c =
     let q = c.requires in
-    let f = c.args.f.now in
-    (q.holds_2.0.canonical, row_within (factors c.args.p f c.args.g.now q.le_p q.holds q.holds_2) (length f - 1) none _ (omega arith) refl)
+    (q.holds_2.0.canonical, row_within (factors q.holds q.holds_2) (length c.args.f.now - 1) none _ (omega arith) refl)
 
 pub add_multiple-n-requires-clause-f_canonical : goal.add_multiple-n-requires-clause-f_canonical
 unfolding terms
@@ -29,7 +27,7 @@ add_multiple-n-requires-clause-f_canonical c = tt
 pub loop-rows-init : goal.loop-rows-init
 loop-rows-init c =
     let q = c.requires in
-    let F = factors c.args.p c.args.f.now c.args.g.now q.le_p q.holds q.holds_2 in
+    let F = factors q.holds q.holds_2 in
     elim c.if-f-eq1.branch [
       | then-f-eq1 w ↦ rw (w.x-is, w.rows-is, w.n-is) (first_gathering F _ none w.if-f-eq1.true refl w.add_multiple-n.result w.add_multiple-n.new.out w.add_multiple-n.ensures)
       | else-f-eq1 w ↦ rw (w.x-is, w.rows-is, w.n-is) (none_gathering F c.args.x.now (omega (arith, w.if-f-eq1.false)))
@@ -48,7 +46,7 @@ pub slice_bounds-add_multiple-end-in-len2-up-2 : goal.slice_bounds-add_multiple-
 slice_bounds-add_multiple-end-in-len2-up-2 c = sym (length-take-le c.loop-rows.n c.loop-rows.x c.loop-rows.invariant.gathered.written.within)
 
 pub add_multiple-m-requires-clause-c_lt_p : goal.add_multiple-m-requires-clause-c_lt_p
-add_multiple-m-requires-clause-c_lt_p c = (upper_residue c.loop-rows.invariant c.in-len2-up.len_at_least none, c.requires.le_p.1)
+add_multiple-m-requires-clause-c_lt_p c = upper_residue c.loop-rows.invariant c.in-len2-up.len_at_least none
 
 pub add_multiple-m-requires-clause-g_canonical : goal.add_multiple-m-requires-clause-g_canonical
 add_multiple-m-requires-clause-g_canonical c = (c.requires.holds_2.0.canonical, upper_within c.loop-rows.invariant c.in-len2-up.len_at_least none)
@@ -63,7 +61,7 @@ returns-then-x-m c =
     inl (no_room G more none _ (omega (arith, upper_terms G more none c.add_multiple-m.ensures)))
 
 pub add_multiple-n-requires-in-len2-up-clause-c_lt_p : goal.add_multiple-n-requires-in-len2-up-clause-c_lt_p
-add_multiple-n-requires-in-len2-up-clause-c_lt_p c = (lower_residue c.loop-rows.invariant c.in-len2-up.len_at_least none, c.requires.le_p.1)
+add_multiple-n-requires-in-len2-up-clause-c_lt_p c = lower_residue c.loop-rows.invariant c.in-len2-up.len_at_least none
 
 pub add_multiple-n-requires-in-len2-up-clause-g_canonical : goal.add_multiple-n-requires-in-len2-up-clause-g_canonical
 add_multiple-n-requires-in-len2-up-clause-g_canonical c = (c.requires.holds_2.0.canonical, lower_within c.loop-rows.invariant c.in-len2-up.len_at_least none)

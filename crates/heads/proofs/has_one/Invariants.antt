@@ -10,4 +10,7 @@ abbrev pub invariant-loop-i : goal.invariant-loop-i
 invariant-loop-i l =
     let v = view l.w in
     let left = l.k - l._i in
-    (skip_to v l.next left ≡ skip_to v l.at l.k) × (some_one (all_at v l.next left) ≡ some_one (all_at v l.at l.k))
+    record {
+      ends : skip_to v l.next left ≡ skip_to v l.at l.k;
+      same : some_one (all_at v l.next left) ≡ some_one (all_at v l.at l.k);
+    }

@@ -11,6 +11,8 @@ abbrev pub invariant-loop-i : goal.invariant-loop-i
 invariant-loop-i l =
     let v = view l.w in
     let left = l.k - l._i in
-    (skip_to v l.next left ≡ skip_to v l.at l.k)
-    × (max l.best (highest_leader (all_at v l.next left)) ≡ highest_leader (all_at v l.at l.k))
-    × ((p : ℕ) × AllHold p (polys_at v l.next left))
+    record {
+      ends : skip_to v l.next left ≡ skip_to v l.at l.k;
+      best : max l.best (highest_leader (all_at v l.next left)) ≡ highest_leader (all_at v l.at l.k);
+      hold : (p : ℕ) × AllHold p (polys_at v l.next left);
+    }

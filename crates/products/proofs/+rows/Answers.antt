@@ -16,24 +16,22 @@ rows-requires t c =
     let q = c.requires in (
       omega (arith, c.decreases, c.if-g-f.true),
       (
-        q.le_p,
-        (
-          (q.holds_2.0, q.g_nonzero),
-          ((q.holds.0, degrees_over_comm 255 _ _ ∙ q.holds_2.1), (q.holds.1, (lent_exchanged _ _ _ q.g_in_bounds.0, lent_exchanged _ _ _ q.g_in_bounds.1))),
-        ),
+        (q.holds_2.0, q.g_nonzero),
+        ((q.holds.0, degrees_over_comm 255 _ _ ∙ q.holds_2.1), (q.holds.1, (lent_exchanged _ _ _ q.g_in_bounds.0, lent_exchanged _ _ _ q.g_in_bounds.1))),
       ),
     )
 
 pub returns-then-g-f : goal.returns-then-g-f
-returns-then-g-f t c = exchanged _ c.requires.le_p.0 _ _ _ _ c.rows.ensures
+returns-then-g-f t c = let q = c.requires in
+    exchanged _ (factors q.holds q.holds_2).positive _ _ _ _ c.rows.ensures
 
 pub add_multiple-requires-clause-c_lt_p : goal.add_multiple-requires-clause-c_lt_p
 add_multiple-requires-clause-c_lt_p t c =
-    let q = c.requires in (row_residue (factors c.args.p c.args.f.now c.args.g.now q.le_p q.holds q.holds_2) 0 none _ q.holds.1 refl, q.le_p.1)
+    let q = c.requires in row_residue (factors q.holds q.holds_2) 0 none _ q.holds.1 refl
 
 pub add_multiple-requires-clause-g_canonical : goal.add_multiple-requires-clause-g_canonical
 add_multiple-requires-clause-g_canonical t c =
-    let q = c.requires in (q.holds_2.0.canonical, row_within (factors c.args.p c.args.f.now c.args.g.now q.le_p q.holds q.holds_2) 0 none _ q.holds.1 refl)
+    let q = c.requires in (q.holds_2.0.canonical, row_within (factors q.holds q.holds_2) 0 none _ q.holds.1 refl)
 
 pub add_multiple-requires-clause-f_canonical : goal.add_multiple-requires-clause-f_canonical
 unfolding terms
@@ -42,5 +40,5 @@ add_multiple-requires-clause-f_canonical t c = tt
 pub returns-in-len1 : goal.returns-in-len1
 returns-in-len1 t c =
     let q = c.requires in
-    single_row (factors c.args.p c.args.f.now c.args.g.now q.le_p q.holds q.holds_2) none c.add_multiple.new.out c.add_multiple.result
+    single_row (factors q.holds q.holds_2) none c.add_multiple.new.out c.add_multiple.result
     (omega (arith, c.in-len1.len_at_least, c.in-len1.len_below)) c.add_multiple.ensures

@@ -17,17 +17,17 @@ formed_few p k d G R m r s h q F =
 pub slice_bounds-copy_from_slice-end-4 : goal.slice_bounds-copy_from_slice-end-4
 slice_bounds-copy_from_slice-end-4 c =
     let a = c.args in
-    let few = formed_few a.p a.k a.d (terms a.t.now) _ c.in_ok-m.m c.round.result c.round.new.r c.requires.modulus.0 c.in_ok-m.was c.round.ensures in
+    let few = formed_few a.p a.k a.d (terms a.t.now) _ c.in_ok-m.m c.round.result c.round.new.r (omega (arith, c.well_formed.0)) c.in_ok-m.was c.round.ensures in
     omega (arith, few, c.requires.r_room)
 
 pub slice_bounds-copy_from_slice-end-5 : goal.slice_bounds-copy_from_slice-end-5
 slice_bounds-copy_from_slice-end-5 c =
     let a = c.args in
-    let few = formed_few a.p a.k a.d (terms a.t.now) _ c.in_ok-m.m c.round.result c.round.new.r c.requires.modulus.0 c.in_ok-m.was c.round.ensures in
+    let few = formed_few a.p a.k a.d (terms a.t.now) _ c.in_ok-m.m c.round.result c.round.new.r (omega (arith, c.well_formed.0)) c.in_ok-m.was c.round.ensures in
     sym (length-take-le c.in_ok-m.m a.r.now (omega (arith, few, c.requires.r_room)))
 
 pub copy_from_slice-requires-2 : goal.copy_from_slice-requires-2
 copy_from_slice-requires-2 c =
     let a = c.args in
-    let few = formed_few a.p a.k a.d (terms a.t.now) _ c.in_ok-m.m c.round.result c.round.new.r c.requires.modulus.0 c.in_ok-m.was c.round.ensures in
+    let few = formed_few a.p a.k a.d (terms a.t.now) _ c.in_ok-m.m c.round.result c.round.new.r (omega (arith, c.well_formed.0)) c.in_ok-m.was c.round.ensures in
     length-take-le c.in_ok-m.m a.r.now (omega (arith, few, c.requires.r_room)) ∙ sym (length-take-le c.in_ok-m.m c.round.new.r few.0)

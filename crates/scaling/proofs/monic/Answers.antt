@@ -20,8 +20,8 @@ returns-in_default c = record {
 pub invert-c-requires : goal.invert-c-requires
 invert-c-requires c =
     let q = c.requires in
-    let l = leads c.args.p c.args.f.now c.in-Some.field-0.now q.prime.0 q.canonical (search rules) in
-    (q.prime.0, l.nonzero, l.residue, q.prime.1)
+    let l = leads c.args.p c.args.f.now c.in-Some.field-0.now q.prime q.canonical (search rules) in
+    (q.prime, l.nonzero, l.residue)
 
 pub scaled-requires : goal.scaled-requires
 scaled-requires c =
@@ -31,9 +31,8 @@ scaled-requires c =
     let l = c.loop-t in
     let none : Packed = record { coefficient = 0; monomial = 0 } in
     let inside : l.t-index < length f = omega arith in (
-      subst (λ i. i < p) (sym c.invert-c.ensures) (inverse_lt p c.in-Some.field-0.now.coefficient q.prime.0),
+      subst (λ i. i < p) (sym c.invert-c.ensures) (inverse_lt p c.in-Some.field-0.now.coefficient q.prime),
       subst (λ (t : Packed). t.coefficient < p) (sym (next_unscaled p c.invert-c.result f l.f l.t-index l.invariant.0 none inside)) (coefficient_below f l.t-index none inside p q.canonical),
-      q.prime.1,
     )
 
 pub loop-t-preserved : goal.loop-t-preserved
@@ -60,7 +59,7 @@ returns c =
     let f = c.args.f.now in
     let q = c.requires in
     let l = c.loop-t in
-    let led = leads p f c.in-Some.field-0.now q.prime.0 q.canonical (search rules) in
+    let led = leads p f c.in-Some.field-0.now q.prime q.canonical (search rules) in
     record {
       is = all_scaled p c.invert-c.result f l.f l.t-index l.invariant.0 (omega arith) ∙ ap (λ i. scaled p i (terms f)) c.invert-c.ensures ∙ led.scales;
       in_words = all_in_words p c.invert-c.result f l.f l.t-index l.invariant.0 (omega arith) l.invariant.1;

@@ -11,6 +11,8 @@ abbrev pub invariant-loop-j : goal.invariant-loop-j
 invariant-loop-j l =
     let v = view l.w in
     let left = l.k - l.j in
-    (skip_to v l.next left ≡ skip_to v l.at l.k)
-    × (scan l.v l.place l.j (all_at v l.next left) ≡ scan l.v l.place 0 (all_at v l.at l.k))
-    × ((p : ℕ) × AllHold p (polys_at v l.next left))
+    record {
+      ends : skip_to v l.next left ≡ skip_to v l.at l.k;
+      found : scan l.v l.place l.j (all_at v l.next left) ≡ scan l.v l.place 0 (all_at v l.at l.k);
+      hold : (p : ℕ) × AllHold p (polys_at v l.next left);
+    }

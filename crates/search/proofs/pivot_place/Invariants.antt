@@ -12,6 +12,8 @@ abbrev pub invariant-loop-j : goal.invariant-loop-j
 invariant-loop-j l =
     let v = view l.w in
     let left = l.k - l.j in
-    (skip_to v l.next left ≡ skip_to v l.at l.k)
-    × (passed l.v l.place l.least l.j (all_at v l.next left) ≡ passed l.v 0 131072 0 (all_at v l.at l.k))
-    × ((p : ℕ) × AllHold p (polys_at v l.next left))
+    record {
+      ends : skip_to v l.next left ≡ skip_to v l.at l.k;
+      found : passed l.v l.place l.least l.j (all_at v l.next left) ≡ passed l.v 0 131072 0 (all_at v l.at l.k);
+      hold : (p : ℕ) × AllHold p (polys_at v l.next left);
+    }

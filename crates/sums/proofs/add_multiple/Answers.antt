@@ -29,7 +29,7 @@ loop-j-preserved-then-e-f c =
 
 pub multiply-s-requires : goal.multiply-s-requires
 multiply-s-requires c =
-    let q = c.requires in (q.c_lt_p.0, (next_canonical c.loop-j.invariant.1 c.loop-j-test.true none).1, q.c_lt_p.1)
+    let q = c.requires in (q.c_lt_p, (next_canonical c.loop-j.invariant.1 c.loop-j-test.true none).1)
 
 pub add-s-requires : goal.add-s-requires
 unfolding product
@@ -38,7 +38,6 @@ add-s-requires c =
     let q = c.requires in (
       subst (λ z. z < a.p) (sym c.multiply-s.ensures) (mod-lt (a.c * (get_or a.g.now c.loop-j.j none).coefficient) (omega arith)),
       (front_canonical c.loop-j.invariant.1 c.loop-j-test.true none c.if-i-f-2.true).1,
-      q.c_lt_p.1,
     )
 
 pub loop-j-preserved : goal.loop-j-preserved

@@ -15,12 +15,12 @@ unfolding bounded_difference
 returns-then-n-le256 c =
     let a = c.args in
     let n = c.add_multiple-n in
-    within_terms_formed (difference a.p (terms a.f.now) (terms a.g.now)) n.result n.new.out (difference_written a.p n.result a.f.now a.g.now n.new.out n.ensures) c.if-n-le256.true
+    within_terms_formed (difference a.p (terms a.f.now) (terms a.g.now)) n.result n.new.out (difference_written a.p n.result a.f.now a.g.now n.new.out (rw c.get.ensures.is at n.ensures)) c.if-n-le256.true
 
 pub returns-else-n-le256 : goal.returns-else-n-le256
 unfolding bounded_difference
 returns-else-n-le256 c =
     let a = c.args in
     let n = c.add_multiple-n in
-    let w = difference_written a.p n.result a.f.now a.g.now n.new.out n.ensures in
+    let w = difference_written a.p n.result a.f.now a.g.now n.new.out (rw c.get.ensures.is at n.ensures) in
     over_terms_refused (difference a.p (terms a.f.now) (terms a.g.now)) n.new.out (omega (arith, c.if-n-le256.false, written_count _ n.result n.new.out w))

@@ -6,23 +6,11 @@ use Rattle.residues.specs.laws.Each.{each_member}
 use Rattle.polynomials.specs.declared.Term.{Term as Packed}
 use Rattle.polynomials.specs.Division.{degree, coefficient}
 use Rattle.polynomials.specs.Packed.{terms}
-use Rattle.terms.proofs.PartLaws.{led_some, led_place, top_shifted, blank, power_of, all_at, power_within, lowered, initial_next, initial_written, lowered_in_words}
+use Rattle.terms.proofs.PartLaws.{led_some, top_shifted, blank, power_of, all_at, power_within, lowered, initial_next, initial_written, lowered_in_words}
 use Rattle.terms.proofs.initial.Goals as goal
-
-pub initial_terms-n-requires-clause-place : goal.initial_terms-n-requires-clause-place
-initial_terms-n-requires-clause-place c = led_place c.args.k c.args.f.now c.requires.canonical
 
 pub bounds-f-0 : goal.bounds-f-0
 bounds-f-0 c = led_some c.args.k c.args.f.now c.requires.canonical
-
-pub exponent-requires : goal.exponent-requires
-exponent-requires c = led_place c.args.k c.args.f.now c.requires.canonical
-
-pub overflow_mul-top : goal.overflow_mul-top
-overflow_mul-top c = record { fits = omega (arith, led_place c.args.k c.args.f.now c.requires.canonical) }
-
-pub overflow_shl-top : goal.overflow_shl-top
-overflow_shl-top c = omega (arith, led_place c.args.k c.args.f.now c.requires.canonical)
 
 pub loop-i-init : goal.loop-i-init
 unfolding terms coefficient
@@ -38,7 +26,7 @@ overflow_sub-out c =
     let front = take c.initial_terms-n.result s in
     let d = degree k (terms s) in
     let q : power_of k (get_or front i blank) ≡ d = all_at (λ e. get_or e k 0 ≡ d) front i blank (omega arith) S.front in
-    power_within k (get_or front i blank).monomial d _ (led_place k s L) (omega arith) (top_shifted k s L c.exponent.result c.exponent.ensures)
+    rw c.get.ensures.is (power_within k (get_or front i blank).monomial d _ c.get.ensures.below (omega arith) (top_shifted k s L c.exponent.result c.exponent.ensures))
 
 pub loop-i-preserved : goal.loop-i-preserved
 loop-i-preserved c =
@@ -53,10 +41,10 @@ loop-i-preserved c =
     let same : get_or (take n s) i blank ≡ get_or s i blank = get_or-take n s i blank below in
     let q : power_of k (get_or (take n s) i blank) ≡ d = all_at (λ e. get_or e k 0 ≡ d) (take n s) i blank (omega arith) S.front in
     record {
-      is =
+      is = rw c.get.ensures.is (
           ap (λ t. terms (take (i + 1) (set c.loop-i.out i (lowered t (c.exponent.result * 2 ^ (8 * k) % 18446744073709551616))))) same
-          ∙ initial_next k s i blank (omega arith) c.loop-i.out i _ d (led_place k s L) (omega arith) (top_shifted k s L c.exponent.result c.exponent.ensures)
-          (subst (λ t. power_of k t ≡ d) same q) c.loop-i.invariant.is;
+          ∙ initial_next k s i blank (omega arith) c.loop-i.out i _ d c.get.ensures.below (omega arith) (top_shifted k s L c.exponent.result c.exponent.ensures)
+          (subst (λ t. power_of k t ≡ d) same q) c.loop-i.invariant.is);
       in_words = λ u.
           let word = each_member (λ (t : Packed). t.monomial < 2 ^ 64) i s blank (omega arith) u in
           lowered_in_words c.loop-i.out i _ _ (omega arith) (omega (arith, word, ap (λ (t : Packed). t.monomial) same)) (c.loop-i.invariant.in_words u);

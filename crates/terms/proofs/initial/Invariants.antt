@@ -7,6 +7,6 @@ use Rattle.terms.proofs.initial.Given as goal
 
 abbrev pub invariant-loop-i : goal.invariant-loop-i
 invariant-loop-i l = record {
-  is : terms (take l.i l.out) ≡ coefficient l.k (degree l.k (terms l.f)) (terms (take l.i l.f));
+  is : terms (take l.i l.out) ≡ coefficient l.fn.k (degree l.fn.k (terms l.f)) (terms (take l.i l.f));
   in_words : Each (λ t. t.monomial < 2 ^ 64) l.f → Each (λ t. t.monomial < 2 ^ 64) (take l.i l.out);
 }

@@ -17,7 +17,7 @@ loop-term-init c = record {
 pub term_value-requires-clause-le_p : goal.term_value-requires-clause-le_p
 term_value-requires-clause-le_p c =
     let l = c.loop-term in
-    (omega arith, omega arith, (canonical_at c.args.p c.args.f.now l.term-index _ (omega arith) l.invariant.canonical).0)
+    (omega arith, (canonical_at c.args.p c.args.f.now l.term-index _ (omega arith) l.invariant.canonical).0)
 
 pub loop-term-preserved : goal.loop-term-preserved
 unfolding sum

@@ -9,7 +9,6 @@ invariant_of-result c =
     let prime = modulus_prime c.args.p (sym c.if-is_prime.ensures) in
     record {
       prime = rw c.from-modulus.ensures prime.0;
-      small = rw c.from-modulus.ensures prime.1;
       f_holds = holds_of_test _ _ (sym c.if-is_polynomial.ensures);
       g_holds = holds_of_test _ _ (sym c.if-is_polynomial-2.ensures);
     }

@@ -1,12 +1,13 @@
 -- What an operation leaves that may find no room: where the state is held, where it does not fit, and what is held where it fits.
-use Rattle.std.proofs.Common.{◌≡◌, refl, sym, ap, subst, ◌∙◌, Bool, true, false, ℕ, ◌+◌, ◌≤◌, ◌<◌, List, length, Result, Ok, Err, arith}
+use Rattle.std.proofs.Common.{◌≡◌, refl, sym, ap, subst, ◌∙◌, false, ℕ, ◌+◌, ◌≤◌, ◌<◌, List, length, Result, Ok, Err, arith}
 use mathlib.Core.Bool.{false≢true}
 use borrow.Author.Tests.{leb-true, leb-false, le-leb, lt-leb}
-use Rattle.std.specs.Prelude.{is_ok, IsOk, IsErr, IsErrAnd, leb}
+use Rattle.std.specs.Prelude.{is_ok, IsOk, IsErr, IsErrAnd}
 use Rattle.std.proofs.lemmas.Result.{err_from_is_err_and}
 use Rattle.tables.specs.declared.Reason.{Reason}
 use Rattle.tables.specs.declared.Reason.TheVariants.{Room}
 use Rattle.records.specs.Records.{Rec}
+use Rattle.branches.specs.laws.Fitted.{has_room, lacks_room}
 use Rattle.branches.specs.Area.{Area, Held, Leaves, fitted, size}
 
 -- The records that are not in use are free.
@@ -25,25 +26,17 @@ leaves_none {v} {most} {a = a} H h =
 pub held_left : {v : List Rec} {most : ℕ} {a₀ a : Area} {r : Result (Unit {0}) Reason} → Leaves most a₀ a r v → size a ≤ most → Held v most a
 held_left {most = most} {a = a} L h = L.held (ap is_ok (L.answer ∙ ap fitted (le-leb (size a) most h)))
 
--- What the answer says of the state's size.
-fitted_ok : (t : Bool) → IsOk (fitted t) → t ≡ true
-fitted_ok true h = refl
-fitted_ok false h = absurd (false≢true h)
-
-fitted_err : (t : Bool) → IsErr (fitted t) → t ≡ false
-fitted_err true h = absurd (false≢true h)
-fitted_err false h = refl
-
 err_ok : (r : Result (Unit {0}) Reason) → IsErr r → is_ok r ≡ false
 err_ok (Ok x) e = absurd (false≢true e)
 err_ok (Err x) e = refl
 
+-- What the answer says of the state's size.
 module _ {v : List Rec} {most : ℕ} {a₀ a : Area} {r : Result (Unit {0}) Reason} (L : Leaves most a₀ a r v) where
   pub leaves_fits : IsOk r → size a ≤ most
-  leaves_fits e = leb-true (size a) most (fitted_ok (leb (size a) most) (subst (λ (r : Result (Unit {0}) Reason). IsOk r) L.answer e))
+  leaves_fits e = leb-true (size a) most (has_room L.answer e)
 
   pub leaves_over : IsErr r → most < size a
-  leaves_over e = leb-false (size a) most (fitted_err (leb (size a) most) (subst (λ (r : Result (Unit {0}) Reason). IsErr r) L.answer e))
+  leaves_over e = leb-false (size a) most (lacks_room L.answer e)
 
   -- A larger state finds no room either.
   pub larger_none : (a' : Area) → IsErr r → size a ≤ size a' → Leaves most a₀ a' r v

@@ -1,5 +1,4 @@
 -- The systems lie from where they start to the end of the work area.
-use Rattle.std.proofs.Common.{arith}
 use Rattle.branches.proofs.ControlLaws.{top_inside}
 use Rattle.delivery.proofs.DeliverLaws.{records_needed}
 use Rattle.delivery.proofs.list_size.Goals as goal

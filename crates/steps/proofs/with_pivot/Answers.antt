@@ -17,7 +17,7 @@ use Rattle.branches.specs.Words.{is_one}
 use Rattle.branches.specs.Area.{Stored, with_open, HeldIn}
 use Rattle.branches.proofs.Unique.{of_every}
 use Rattle.heads.specs.Heads.{AllHold}
-use Rattle.representation.specs.Represent.{Sound, branch_of, chosen}
+use Rattle.representation.specs.Represent.{branch_of, chosen}
 use Rattle.representation.specs.Ready.{Ready, limits_in}
 use Rattle.steps.specs.Pending.{Leads}
 use Rattle.steps.proofs.PrepareLaws.{all_hold}

@@ -1,5 +1,5 @@
 -- An empty branch, then P's chain, then Q's. All is said of the records that there were at entry.
-use Rattle.std.proofs.Common.{refl, ◌∙◌, length}
+use Rattle.std.proofs.Common.{refl, ◌∙◌, length, arith}
 use Rattle.std.proofs.lemmas.Result.{err_from_is_err_and}
 use Rattle.records.specs.Records.{view}
 use Rattle.loading.proofs.StartLaws.{chains_read, no_polynomial, alone_empty, alone_in, filled_in, with_zeros, zeros_put, start_none, start_fails, start_put}

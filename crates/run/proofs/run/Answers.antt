@@ -1,5 +1,5 @@
 -- What is asked at each line of the run's code, by what is known where a loop's turn begins and where a call has answered.
-use Rattle.std.specs.Prelude.{◌≡◌, List, true, false, ℕ, ◌-◌, Ok, Err, IsOk, ◌≤◌, ◌<◌, length, take}
+use Rattle.std.specs.Prelude.{◌≡◌, List, true, ℕ, ◌-◌, Ok, Err, IsOk, ◌≤◌, ◌<◌, length, take}
 use Rattle.std.proofs.Common.{refl, sym, ap, subst, ◌∙◌, arith, length-take-le}
 use mathlib.Core.Bool.{false≢true}
 use mathlib.Core.Logic.{inr}
@@ -16,7 +16,7 @@ use Rattle.tables.specs.declared.Reason.{Reason}
 use Rattle.tables.specs.declared.Reason.TheVariants.{Degree, Terms}
 use Rattle.rules.specs.Step.{stopped, remainder_by}
 use Rattle.branches.specs.Area.{Opened}
-use Rattle.steps.specs.declared.Prepared.TheVariants.{Done, Members}
+use Rattle.steps.specs.declared.Prepared.TheVariants.{Members}
 use Rattle.representation.specs.Ready.{limits_in}
 use Rattle.run.specs.declared.Outcome.TheVariants.{Refused}
 use Rattle.run.proofs.Invariants.{AtRun, AtMembers, run_begins, division_begins, round_less, division_goes_on, division_ends, division_passes}

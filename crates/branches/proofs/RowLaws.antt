@@ -1,8 +1,10 @@
 -- The words of the control record and of the open branch's own, as the work area has them.
-use Rattle.std.proofs.Common.{◌≡◌, sym, ap, ◌∙◌, ℕ, ◌+◌, ◌<◌, ◌≤◌, ◌∷◌, List, [], length, get_or, arith}
-use Rattle.records.specs.Records.{Rec, record_of, view}
+use Rattle.std.proofs.Common.{◌≡◌, sym, ap, ◌∙◌, ℕ, ◌+◌, ◌<◌, ◌≤◌, List, [], length, get_or, arith}
+use Rattle.records.specs.Records.{Rec, record_of}
 use Rattle.records.proofs.Rows.{view_at}
 use Rattle.branches.specs.Area.{Stored, HeldIn, with_open}
+use Rattle.branches.specs.declared.Open.{Open}
+use Rattle.branches.specs.Open.{open_of}
 use Rattle.branches.proofs.AreaLaws.{lies, first_is, own_of, control, at_of, end_of, own_read, room_is}
 
 -- Word j of the control record: the first says where the open branch starts. Word j of the branch's own record.
@@ -18,6 +20,9 @@ module _ (w : List (List ℕ)) {b : Stored} {bs ss : List Stored} (H : HeldIn w 
 
   pub own_row : record_of (own_word w 0) (own_word w 1) (own_word w 2) (own_word w 3) ≡ own_of b bs
   own_row = sym (view_at w (ctl_word w 0)) ∙ own_read H (ctl_word w 0) (ap (λ (r : Rec). r.w0) (sym (view_at w 0)))
+
+  pub open_row : ◌≡◌ {A = Open} (record { first = ctl_word w 0 + 1; p = own_word w 0; q = own_word w 1; t = own_word w 2 }) (open_of b bs)
+  open_row = λ k. record { first = (control_row k).w0 + 1; p = (own_row k).w0; q = (own_row k).w1; t = (own_row k).w2 }
 
   -- The words of the control record, one by one.
   pub start_row : ctl_word w 0 ≡ at_of bs

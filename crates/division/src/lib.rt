@@ -2,7 +2,7 @@
 // R of degree e ≥ d, and L the coefficient of the highest power in R.
 #![tactic(auto)]
 
-ghost use Rattle.std.specs.Prelude.{◌≡◌, ◌+◌, ◌≤◌, ◌<◌, length, take};
+ghost use Rattle.std.specs.Prelude.{◌≡◌, ◌+◌, ◌≤◌, length, take};
 ghost use Rattle.polynomials.specs.Bounds.{standard, bounded_product, bounded_difference, bounded_round, and_then};
 ghost use Rattle.polynomials.specs.Division.{degree, coefficient};
 ghost use Rattle.polynomials.specs.Packed.{terms};

@@ -1,7 +1,7 @@
 // The factor of a round of a division: L×v(k+1)^(e−d), with L the coefficient of the highest power, v(k+1)^e, in R.
 #![tactic(auto)]
 
-ghost use Rattle.std.specs.Prelude.{◌≡◌, ◌≤◌, ◌<◌, length, take};
+ghost use Rattle.std.specs.Prelude.{◌≡◌, ◌≤◌, length, take};
 ghost use Rattle.polynomials.specs.Division.{degree, factor};
 ghost use Rattle.polynomials.specs.Packed.{terms};
 ghost use Rattle.polynomials.specs.Working.{Written};

@@ -1,23 +1,25 @@
 -- The branch that stays open at a split: where the parts of the one set aside lie, what the copies leave, and what is held then.
 use mathlib.Core.Path.{◌≡◌, refl, sym, ap, ◌∙◌}
-use mathlib.Core.Bool.{true, false, false≢true}
 use mathlib.Core.List.{List, [], ◌∷◌, ◌++◌, append_assoc}
 use Prim.Native.Nat.{ℕ, suc, ◌+◌, ◌-◌, ◌≤◌, ◌<◌}
 use native.Mathlib.Omega.{arith}
-use borrow.Author.Tests.{le-leb, lt-leb}
-use lib.ListN.{length, take, drop, get_or, set, length-append, length-drop, take-append-drop}
+use Rattle.std.specs.Prelude.{Ok, Err}
+use Rattle.tables.specs.declared.Reason.TheVariants.{Room}
+use lib.ListN.{length, take, drop, set, length-append, length-drop, take-append-drop}
 use lib.Seq.{take_at, drop-append-le, drop-append-add, length-take-le, paste, set_split}
 use Rattle.residues.specs.Each.{Each}
 use Rattle.residues.specs.laws.Each.{each_append, each_take, each_drop}
-use Rattle.records.specs.Records.{Rec, record_of, zero_record, moved}
+use Rattle.records.specs.Records.{Rec, record_of, view, moved}
 use Rattle.stored.specs.Stored.{poly_records, polys_records, skip_to, Storable}
 use Rattle.stored.specs.laws.Stored.{skip_to_polys_records, polys_records_append, polys_records_snoc, length_poly_records, length_le_polys_records}
-use Rattle.branches.specs.Area.{Stored, Held, Leaves, stack, branch_records, systems_records, with_open, size, kept_open, StorableBranch}
+use Rattle.branches.specs.Area.{Stored, Held, HeldIn, Leaves, stack, branch_records, systems_records, with_open, size, kept_open, StorableBranch}
 use Rattle.keeping.proofs.PieceLaws.{Grown, grow_copied, grow_stored, top_left, last_part}
 use Rattle.branches.specs.declared.Open.{Open}
 use Rattle.branches.specs.Open.{open_of}
-use Rattle.branches.proofs.AreaLaws.{at_of, own_of, most_inside}
-use Rattle.branches.proofs.OpenLaws.{p_is, q_is, skip_p}
+use Rattle.branches.proofs.LeavesLaws.{leaves_held, leaves_none}
+use Rattle.branches.proofs.AreaLaws.{at_of, own_of, end_is, most_inside}
+use Rattle.branches.proofs.OpenLaws.{p_is, q_is, t_is, skip_p}
+use Rattle.branches.proofs.RowLaws.{ctl_word, own_word, open_row, start_row, end_row, top_row}
 use Rattle.polynomials.specs.declared.Term.{Term as Packed}
 
 -- ── the parts of P ──
@@ -91,7 +93,7 @@ pub record Placed (c : Stored) (bs : List Stored) (i n free at end top q t front
 
 -- What the code writes: the new branch's own record behind the open one, then its six pieces one behind the other, each up to a record that the code knows,
 -- and last the control record. The words of each piece are copied from where they lie, or stored.
-pub record Copied (v : List Rec) (n at end top q t front back from_q from_t : ℕ) (f initial : List Packed) (v₈ : List Rec) : Type 0 where
+pub record Copied (v : List Rec) (n at end top systems q t front back from_q from_t : ℕ) (f initial : List Packed) (v₈ : List Rec) : Type 0 where
   pub v₁ : List Rec
   pub own_put : v₁ ≡ set v end (record_of (n + 1) (q + 1) t at)
   pub a₁ : ℕ
@@ -112,8 +114,6 @@ pub record Copied (v : List Rec) (n at end top q t front back from_q from_t : �
   pub a₆ : ℕ
   pub v₇ : List Rec
   pub t_copied : (a₆ ≡ a₅ + (end - from_t)) × (v₇ ≡ moved v₆ from_t (end - from_t) a₅)
-  pub systems : ℕ
-  pub systems_word : systems ≡ (get_or v₇ 0 zero_record).w3
   pub control_put : v₈ ≡ set v₇ 0 (record_of end a₆ top systems)
 
 -- They lie in this order, in a work area with so many records, and there are few members.
@@ -270,13 +270,8 @@ module _ {v : List Rec} {most : ℕ} {c : Stored} {bs ss : List Stored} (H : Hel
     members_q : q + 1 ≡ length (c.Q ++ (initial ∷ []))
     members_q = omega (arith, length-append c.Q (initial ∷ []), G.q_is)
 
-    pub no_room : top - end < needed → Leaves most (with_open c bs ss) (with_open (kept_open i n f initial c) (c ∷ bs) ss) false v
-    no_room less =
-        record {
-          answer = sym (lt-leb (size (with_open (kept_open i n f initial c) (c ∷ bs) ss)) most (omega (arith, size_kept, H.fits, G)));
-          held = λ e. absurd (false≢true e);
-          otherwise = λ e. H;
-        }
+    pub no_room : top - end < needed → Leaves most (with_open c bs ss) (with_open (kept_open i n f initial c) (c ∷ bs) ss) (Err Room) v
+    no_room less = leaves_none H (omega (arith, size_kept, H.fits, G))
 
     length_used : length used ≡ end
     length_used = omega (arith, G.end_is)
@@ -344,9 +339,10 @@ module _ {v : List Rec} {most : ℕ} {c : Stored} {bs ss : List Stored} (H : Hel
           H.storable.0,
         )
 
-    pub kept : needed ≤ top - end → Storable f → Storable initial → {v₈ : List Rec} → Copied v n at end top q t front back from_q from_t f initial v₈
-        → Leaves most (with_open c bs ss) (with_open (kept_open i n f initial c) (c ∷ bs) ss) true v₈
-    kept room sf si K =
+    pub kept : needed ≤ top - end → Storable f → Storable initial → {systems : ℕ} → systems ≡ length ss → {v₈ : List Rec}
+        → Copied v n at end top systems q t front back from_q from_t f initial v₈
+        → Leaves most (with_open c bs ss) (with_open (kept_open i n f initial c) (c ∷ bs) ss) (Ok tt) v₈
+    kept room sf si systems K =
         let behind : List Rec = systems_records ss ++ H.beyond in
         let after : List Rec = H.free ++ behind in
         let R1 : List Rec = front_p i c in
@@ -367,23 +363,37 @@ module _ {v : List Rec} {most : ℕ} {c : Stored} {bs ss : List Stored} (H : Hel
         kept_records i n (at_of bs) f initial c r (λ j. record_of (members_p f j) (members_q j) (G.t_is j) (G.at_is j)) in
         let free' : List Rec = drop pieces H.free in
         let shrunk : drop pieces after ≡ free' ++ behind = drop-append-le pieces H.free behind (fits_in room) in
-        let systems : K.systems ≡ length ss = K.systems_word ∙ ap (λ (u : List Rec). (get_or u 0 zero_record).w3) g₆.is in
         let new-end : K.a₆ ≡ at_of (new ∷ (c ∷ bs)) = g₆.up_to ∙ ap (λ (x : ℕ). x + pieces) length_used ∙ end_kept in
         let new_top : top ≡ at_of (new ∷ (c ∷ bs)) + length free' = top_kept room in
         let new_ctl : Rec = record_of (at_of (c ∷ bs)) (at_of (new ∷ (c ∷ bs))) (at_of (new ∷ (c ∷ bs)) + length free') (length ss) in
-        record {
-          answer = sym (le-leb (size (with_open new (c ∷ bs) ss)) most (omega (arith, size_kept, H.fits, G.end_is, G.top_is)));
-          held = λ e.
-              record {
-                free = free';
-                beyond = H.beyond;
-                is =
-                    K.control_put ∙ (λ j. set (g₆.is j) 0 (record_of (G.end_is j) (new-end j) (new_top j) (systems j)))
-                    ∙ (λ j. new_ctl ∷ ((stack (c ∷ bs)).0 ++ (built j ++ shrunk j)))
-                    ∙ ap (λ (u : List Rec). new_ctl ∷ u) (sym (append_assoc (stack (c ∷ bs)).0 (branch_records (at_of bs) new) (free' ++ behind)));
-                fits = ap (λ (x : ℕ). x + length (systems_records ss)) (sym new_top ∙ G.top_is) ∙ H.fits;
-                few = H.few;
-                storable = (storable_kept sf si, H.storable.1);
-              };
-          otherwise = λ e. absurd (false≢true (sym e));
-        }
+        leaves_held
+        (record {
+          free = free';
+          beyond = H.beyond;
+          is =
+              K.control_put ∙ (λ j. set (g₆.is j) 0 (record_of (G.end_is j) (new-end j) (new_top j) (systems j)))
+              ∙ (λ j. new_ctl ∷ ((stack (c ∷ bs)).0 ++ (built j ++ shrunk j)))
+              ∙ ap (λ (u : List Rec). new_ctl ∷ u) (sym (append_assoc (stack (c ∷ bs)).0 (branch_records (at_of bs) new) (free' ++ behind)));
+          fits = ap (λ (x : ℕ). x + length (systems_records ss)) (sym new_top ∙ G.top_is) ∙ H.fits;
+          few = H.few;
+          storable = (storable_kept sf si, H.storable.1);
+        })
+
+-- The numbers that the code reads lie so.
+pub placed : (w : List (List ℕ)) {c : Stored} {bs ss : List Stored} (H : HeldIn w (with_open c bs ss)) (i n : ℕ) → (i ≤ n) × (n ≤ length c.P)
+    → {front back from_q from_t : ℕ} → front ≡ skip_to (view w) (ctl_word w 0 + 1) i → back ≡ skip_to (view w) front (n - i)
+    → from_q ≡ skip_to (view w) back (own_word w 0 - n) → from_t ≡ skip_to (view w) from_q (own_word w 1)
+    → Placed c bs i n (length H.free) (ctl_word w 0) (ctl_word w 1) (ctl_word w 2) (own_word w 1) (own_word w 2) front back from_q from_t
+placed w {c} {bs} H i n h s₁ s₂ s₃ s₄ =
+    let e = open_row w H in
+    record {
+      at_is = start_row w H;
+      end_is = end_row w H ∙ sym (end_is c bs);
+      top_is = omega (arith, top_row w H, end_is c bs);
+      q_is = q_is H e;
+      t_is = t_is H e;
+      front_is = front_ends H i n h e s₁;
+      back_is = back_ends H i n h e s₁ s₂;
+      from_q_is = p_ends H i n h e s₁ s₂ s₃;
+      from_t_is = q_ends H i n h e s₁ s₂ s₃ s₄;
+    }

@@ -1,13 +1,11 @@
--- Pieces appended one behind the other over free records, and that they fit.
+-- Pieces appended one behind the other over free records.
 use mathlib.Core.Path.{◌≡◌, sym, ap, ◌∙◌}
 use mathlib.Core.List.{List, [], ◌++◌, append_assoc, append-nil}
-use Prim.Native.Nat.{ℕ, ◌+◌, ◌-◌, ◌≤◌}
+use Prim.Native.Nat.{ℕ, ◌+◌, ◌≤◌}
 use native.Mathlib.Omega.{arith}
 use lib.ListN.{length, take, drop, length-append, length-drop}
 use lib.Seq.{take_all, take_at, drop_at, drop-append-add, paste, drop-drop}
-use Rattle.records.specs.Records.{Rec, room, view, RecordsBecome, moved}
-use Rattle.branches.specs.Area.{capacity, outside}
-use Rattle.branches.proofs.OutsideLaws.{outside_stored, outside_moved}
+use Rattle.records.specs.Records.{Rec, moved}
 
 -- ── appending to a list of records, over free ones ──
 -- X is what was there, m what is appended so far, and the first k records of `after` are overwritten.
@@ -61,54 +59,3 @@ module _ {X after m : List Rec} {k : ℕ} {v : List Rec} {a : ℕ} (G : Grown X 
     over = omega (arith, G.over, s, length-append m b);
     up_to = omega (arith, G.up_to, e.0);
   }
-
--- ── the pieces fit ──
--- The words w, as many as w₀ were and with the same outside, have the pieces up to record a, which is behind `end`; the next takes x records and the others `left`,
--- below `top`.
-pub record Reached (w₀ : List ℕ) (end top x left : ℕ) (w : List ℕ) (a : ℕ) : Type 0 where
-  pub behind : end ≤ a
-  pub fits : a + x + left ≤ top
-  pub inside : top ≤ capacity w₀
-  pub same : length w ≡ length w₀
-  pub stays : outside w ≡ outside w₀
-
-module _ {w₀ : List ℕ} {end top x left : ℕ} {w : List ℕ} {a : ℕ} (R : Reached w₀ end top x left w a) where
-  -- There is room for the next piece.
-  pub next_fits : a + x ≤ room w
-  next_fits = omega (arith, R.fits, R.inside, R.same)
-
-  next_inside : a + x ≤ capacity w
-  next_inside = omega (arith, R.fits, R.inside, R.same)
-
-  pub next_small : top ≤ 65536 → a + x ≤ 65536
-  next_small h = omega (arith, R.fits)
-
-  -- A piece that lies before `end` lies before the place that it is copied to.
-  pub copied_up : {from : ℕ} → from ≤ end → from ≤ a
-  copied_up h = omega (arith, R.behind)
-
-  -- It is there: stored, or copied up. The next takes x₁, and the others `left₁`.
-  module _ {w₁ : List ℕ} {a₁ x₁ left₁ : ℕ} (same : length w₁ ≡ length w) (next : x₁ + left₁ ≤ left) where
-    reach : a₁ ≡ a + x → outside w₁ ≡ outside w → Reached w₀ end top x₁ left₁ w₁ a₁
-    reach e stays =
-        record {
-          behind = omega (arith, R.behind);
-          fits = omega (arith, R.fits);
-          inside = R.inside;
-          same = same ∙ R.same;
-          stays = stays ∙ R.stays;
-        }
-
-    pub reach_stored : (s : List Rec) → length s ≡ x → (a₁ ≡ a + x) × RecordsBecome (paste (view w) a s x) w w₁ → Reached w₀ end top x₁ left₁ w₁ a₁
-    reach_stored s l e = reach e.0 (outside_stored w w₁ same a s x (omega (arith, l)) next_inside e.1)
-
-    pub reach_copied : {from : ℕ} → from ≤ end → (a₁ ≡ a + x) × RecordsBecome (moved (view w) from x a) w w₁ → Reached w₀ end top x₁ left₁ w₁ a₁
-    reach_copied {from} h e = reach e.0 (outside_moved w w₁ same from x a (copied_up h) next_inside e.1)
-
--- The first piece goes behind one record, which is written.
-pub first_fits : (w₀ w : List ℕ) (at end top front back xf x₃ xi x₄ : ℕ) → at + 1 ≤ front → front ≤ back → end ≤ top → top ≤ capacity w₀ → length w ≡ length w₀
-    → 1 + (back - (at + 1)) + xf + x₃ + xi + x₄ ≤ top - end → outside w ≡ outside w₀
-    → Reached w₀ end top (front - (at + 1)) (xf + ((back - front) + (x₃ + (xi + x₄)))) w (end + 1)
-first_fits w₀ w at end top front back xf x₃ xi x₄ h k l i s fits stays =
-    let e : (front - (at + 1)) + (back - front) ≡ back - (at + 1) = omega arith in
-    record { behind = omega arith; fits = omega arith; inside = i; same = s; stays = stays }

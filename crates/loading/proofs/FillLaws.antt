@@ -1,5 +1,5 @@
 -- The polynomials of a chain put into the only branch, one after the other.
-use Rattle.std.specs.Prelude.{◌≡◌, refl, ◌≢◌, Bool, true, false, ◌||◌, List, [], ◌∷◌, ◌++◌, ℕ, suc, ◌+◌, ◌≤◌, ◌<◌, leb, length, take, map}
+use Rattle.std.specs.Prelude.{◌≡◌, refl, ◌≢◌, Bool, true, false, ◌||◌, List, [], ◌∷◌, ◌++◌, ℕ, suc, ◌+◌, ◌≤◌, ◌<◌, leb, length, take, map, Result, Ok, IsOk, IsErr}
 use Rattle.std.proofs.Common.{sym, ◌∙◌, ap, subst, arith, append-nil, append_assoc, length-append}
 use Rattle.std.proofs.lemmas.Bool.{false≢true}
 use borrow.Author.Tests.{le-leb, lt-leb, leb-false}
@@ -14,7 +14,9 @@ use Rattle.rules.specs.Branch as rules
 use Rattle.rules.specs.Branch.{Branch, unless_dropped, put_all}
 use Rattle.rules.specs.Room.{polynomials_size, branch_size, branches_size, systems_size, live}
 use Rattle.records.specs.Records.{Rec}
-use Rattle.branches.specs.Area.{Stored, Held, Leaves, size, with_open}
+use Rattle.tables.specs.declared.Reason.{Reason}
+use Rattle.branches.specs.Area.{Stored, Held, fitted, Leaves, size, with_open}
+use Rattle.branches.specs.laws.Fitted.{lacks_room, for_room}
 use Rattle.branches.specs.laws.Words.{put_q_before_none}
 use Rattle.representation.specs.Represent.{Sound, BranchSound, branch_of, Monic, AllMonic}
 use Rattle.representation.specs.laws.Lists.{map_put_p, map_put_q}
@@ -83,15 +85,15 @@ alone_fits {c = c} x =
     let e : branch_size (branch_of b) ≡ branch_size c = ap branch_size x.is in
     omega (arith, x.held.fits, length_stack (b ∷ []))
 
--- The branch c, which was alone, becomes d if there is room for that, and otherwise stays; the answer is whether there is room.
-record Becomes (p most : ℕ) (c d : Branch) (r : Bool) (v : List Rec) : Type 0 where
-  answer : r ≡ leb (1 + branch_size d) most
-  alone : r ≡ true → Alone p most d v
-  otherwise : r ≡ false → Alone p most c v
+-- The branch c, which was alone, becomes d if there is room for that, and otherwise stays, and r is a refusal.
+record Becomes (p most : ℕ) (c d : Branch) (r : Result (Unit {0}) Reason) (v : List Rec) : Type 0 where
+  answer : r ≡ fitted (leb (1 + branch_size d) most)
+  alone : IsOk r → Alone p most d v
+  otherwise : IsErr r → Alone p most c v
 
 -- ── one polynomial put ──
 -- s, put into whatever branch is open, is put so.
-abbrev pub Puts : List Rec → ℕ → Target → List Packed → Bool → List Rec → Type 0
+abbrev pub Puts : List Rec → ℕ → Target → List Packed → Result (Unit {0}) Reason → List Rec → Type 0
 Puts v most q s r u =
     (b : Stored) (bs ss : List Stored) → Held v most (with_open b bs ss) → Leaves most (with_open b bs ss) (with_open (put_into q s b) bs ss) r u
 
@@ -114,13 +116,13 @@ module _ (p : ℕ) (s : List Packed) (f : Poly) (sound : Sound p s) (is_monic : 
   put_nonzero Q b h = h
   put_nonzero P b h = put_p_nonzero s b.P h
 
-  put_alone : {most : ℕ} {c : Branch} {v u : List Rec} {r : Bool} (q : Target) → Alone p most c v → Puts v most q s r u → Becomes p most c (put_heads q p (f ∷ []) c) r u
+  put_alone : {most : ℕ} {c : Branch} {v u : List Rec} {r : Result (Unit {0}) Reason} (q : Target) → Alone p most c v → Puts v most q s r u → Becomes p most c (put_heads q p (f ∷ []) c) r u
   put_alone {most} {c} {v} {u} {r} q x puts =
       let b = x.stored in
       let l = puts b [] [] x.held in
       let is = put_branch q b x.sound ∙ ap (put_heads q p (f ∷ [])) x.is in
       record {
-        answer = l.answer ∙ ap (λ (n : ℕ). leb n most) (size_alone (put_into q s b) ∙ ap (λ (d : Branch). 1 + branch_size d) is);
+        answer = l.answer ∙ ap (λ (n : ℕ). fitted (leb n most)) (size_alone (put_into q s b) ∙ ap (λ (d : Branch). 1 + branch_size d) is);
         alone = λ t. record {
           stored = put_into q s b;
           held = l.held t;
@@ -146,11 +148,11 @@ module _ {w : List ℕ} {p n : ℕ} {q : Target} {most : ℕ} {fs : List Poly} {
       record { chain = heads_left w p n 0 i fs h e; done = []; parts = refl; alone = subst (λ (d : Branch). Alone p most d v) (sym (put_heads_none q p c)) x }
 
   module _ {i : ℕ} {v : List Rec} (l : PutLeft w p n q most fs c i v) where
-    pub put_end : i ≡ 0 → Filled p most q fs c true v
+    pub put_end : i ≡ 0 → Filled p most q fs c (Ok tt) v
     put_end z =
         let is : l.done ≡ fs = sym (append-nil l.done) ∙ ap (λ (gs : List Poly). l.done ++ gs) (sym (chain_end l.chain z)) ∙ sym l.parts in
         let x : Alone p most (put_heads q p fs c) v = subst (λ (gs : List Poly). Alone p most (put_heads q p gs c) v) is l.alone in
-        record { answer = sym (le-leb (1 + branch_size (put_heads q p fs c)) most (alone_fits x)); alone = λ t. x; otherwise = λ e. absurd (false≢true (sym e)) }
+        record { answer = ap fitted (sym (le-leb (1 + branch_size (put_heads q p fs c)) most (alone_fits x))); alone = λ t. x; otherwise = λ e. absurd (false≢true e) }
 
     module _ (more : i ≢ 0) where
       head : Member l.chain
@@ -170,7 +172,7 @@ module _ {w : List ℕ} {p n : ℕ} {q : Target} {most : ℕ} {fs : List Poly} {
           l.parts ∙ ap (λ (gs : List Poly). l.done ++ gs) head.parts ∙ sym (append_assoc l.done (head.member ∷ []) head.behind)
 
       -- The first m terms of s are its monic polynomial, and were put.
-      module _ {m : ℕ} {s : List Packed} (loaded : (f : Poly) → read_head w p n i ≡ good f → Loaded p f m s) {r : Bool} {u : List Rec} (puts : Puts v most q (take m s) r u) where
+      module _ {m : ℕ} {s : List Packed} (loaded : (f : Poly) → read_head w p n i ≡ good f → Loaded p f m s) {r : Result (Unit {0}) Reason} {u : List Rec} (puts : Puts v most q (take m s) r u) where
         becomes : Becomes p most (put_heads q p l.done c) (put_heads q p with_head c) r u
         unfolding with_head
         becomes =
@@ -178,14 +180,15 @@ module _ {w : List ℕ} {p n : ℕ} {q : Target} {most : ℕ} {fs : List Poly} {
             subst (λ (d : Branch). Becomes p most (put_heads q p l.done c) d r u) (sym (put_heads_append q p l.done (head.member ∷ []) c))
             (put_alone p (take m s) head.member x.sound x.monic x.holds q l.alone puts)
 
-        pub put_fails : r ≡ false → Filled p most q fs c false u
+        pub put_fails : IsErr r → Filled p most q fs c r u
         unfolding with_head
         put_fails z =
-            let none : most < 1 + branch_size (put_heads q p with_head c) = leb-false (1 + branch_size (put_heads q p with_head c)) most (sym becomes.answer ∙ z) in
-            subst (λ (gs : List Poly). Filled p most q gs c false u) (sym with_head_parts)
+            let none : most < 1 + branch_size (put_heads q p with_head c) = leb-false (1 + branch_size (put_heads q p with_head c)) most (lacks_room becomes.answer z) in
+            subst (λ (gs : List Poly). Filled p most q gs c r u) (sym with_head_parts)
             (record {
-              answer = sym (lt-leb (1 + branch_size (put_heads q p (with_head ++ head.behind) c)) most (omega (arith, none, size_first q p with_head head.behind c)));
-              alone = λ e. absurd (false≢true e);
+              answer = for_room _ becomes.answer z
+                  ∙ ap fitted (sym (lt-leb (1 + branch_size (put_heads q p (with_head ++ head.behind) c)) most (omega (arith, none, size_first q p with_head head.behind c))));
+              alone = λ e. absurd (false≢true (subst IsOk (for_room _ becomes.answer z) e));
               otherwise = λ e. (
                 length l.done,
                 omega (arith, length-append l.done (head.member ∷ []), length-append with_head head.behind),
@@ -204,6 +207,6 @@ module _ {w : List ℕ} {p n : ℕ} {q : Target} {most : ℕ} {fs : List Poly} {
                 let one_more : suc (length l.done) ≡ length with_head = omega (arith, length-append l.done (head.member ∷ [])) in
                 ap (λ (k : ℕ). take k (with_head ++ head.behind)) one_more ∙ take-append_seam with_head head.behind
 
-        pub put_next : r ≡ true → PutLeft w p n q most fs c (word w i 3) u
+        pub put_next : IsOk r → PutLeft w p n q most fs c (word w i 3) u
         unfolding head
         put_next z = record { chain = chain_on l.chain more; done = with_head; parts = with_head_parts; alone = becomes.alone z }

@@ -3,6 +3,7 @@ use Rattle.std.specs.Prelude.{◌≡◌, List, [], ◌∷◌, ◌++◌, ℕ, ◌
 use Rattle.std.proofs.Common.{sym, ap, subst, ◌∙◌, arith, length-append, length-take-le, take_at}
 use Rattle.std.proofs.Math.Seq.{drop_at}
 use Rattle.residues.specs.Each.{Each}
+use Rattle.residues.specs.Prime.{Prime}
 use Rattle.polynomials.specs.Poly.{monic}
 use Rattle.polynomials.specs.Canonical.{Canonical}
 use Rattle.polynomials.specs.Packed.{terms}
@@ -11,7 +12,6 @@ use Rattle.polynomials.specs.laws.Canonical.{canonical_monic}
 use Rattle.polynomials.specs.declared.Term.{Term as Packed}
 use Rattle.stored.specs.Stored.{Storable}
 use Rattle.representation.specs.Represent.{TwoWords, Sound}
-use Rattle.representation.specs.Ready.{Modulus}
 use Rattle.representation.specs.laws.Sounds.{sound_storable}
 
 -- A residue is a word, and so are a term's two where its monomial is.
@@ -22,16 +22,17 @@ two_words p below (t ∷ s) c words = ((omega (arith, c.1, below), words.0), two
 
 -- The first n terms of r were made monic: m stands in their place.
 pub record Made (p n : ℕ) (r m : List Packed) : Type 0 where
-  pub modulus : Modulus p
+  pub prime : Prime p
+  pub below : p < 2147483648
   pub within : n ≤ length r
   pub holds : Holds p (take n r)
   pub kept : length m ≡ length (take n r)
   pub is : terms m ≡ monic p (terms (take n r))
   pub words : Each (λ t. t.monomial < 2 ^ 64) m
 
-pub made_by : (p n : ℕ) (r m : List Packed) → Modulus p → (n ≤ length r) × Holds p (take n r) → length m ≡ length (take n r)
+pub made_by : (p n : ℕ) (r m : List Packed) → Prime p → p < 2147483648 → (n ≤ length r) × Holds p (take n r) → length m ≡ length (take n r)
     → terms m ≡ monic p (terms (take n r)) → Each (λ t. t.monomial < 2 ^ 64) m → Made p n r m
-made_by p n r m modulus q kept is words = record { modulus = modulus; within = q.0; holds = q.1; kept = kept; is = is; words = words }
+made_by p n r m prime below q kept is words = record { prime = prime; below = below; within = q.0; holds = q.1; kept = kept; is = is; words = words }
 
 module _ {p n : ℕ} {r m : List Packed} (M : Made p n r m) where
   long : length m ≡ n
@@ -54,11 +55,10 @@ module _ {p n : ℕ} {r m : List Packed} (M : Made p n r m) where
 
   pub made_sound : Sound p (take n (m ++ drop n r))
   made_sound =
-      let below : p < 2147483648 = M.modulus.below in
       let canonical : Canonical p (terms m) =
-      subst (Canonical p) (sym M.is) (canonical_monic p (terms (take n r)) (omega (arith, M.modulus.prime.two≤))) in
+      subst (Canonical p) (sym M.is) (canonical_monic p (terms (take n r)) (omega (arith, M.prime.two≤))) in
       let holds : Holds p m = record { few = omega (arith, M.kept, M.holds.few); canonical = canonical } in
-      subst (Sound p) (sym made) record { holds = holds; small = two_words p (omega arith) m canonical M.words }
+      subst (Sound p) (sym made) record { holds = holds; small = two_words p (omega (arith, M.below)) m canonical M.words }
 
   pub made_storable : Storable (take n (m ++ drop n r))
-  made_storable = sound_storable p (omega (arith, M.modulus.below)) (take n (m ++ drop n r)) made_sound
+  made_storable = sound_storable p (omega (arith, M.below)) (take n (m ++ drop n r)) made_sound

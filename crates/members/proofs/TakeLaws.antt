@@ -1,46 +1,46 @@
--- Taking the next member out and putting its remainder in, by the list that it stands in.
-use mathlib.Core.Path.{◌≡◌, sym, subst}
-use mathlib.Core.Bool.{Bool, true, false}
-use mathlib.Core.List.{List, []}
-use Prim.Native.Nat.{ℕ, ◌-◌, ◌≤◌}
-use lib.ListN.{length, get_or, take}
+-- Taking the next member out, by the list that it stands in.
+use Rattle.std.proofs.Common.{◌≡◌, sym, subst, List, [], ℕ, ◌-◌, ◌≤◌, length, take, arith}
+use Rattle.residues.specs.laws.Each.{each_member}
+use Rattle.stored.specs.Stored.{Storable}
 use Rattle.records.specs.Records.{Rec}
-use Rattle.branches.specs.Area.{Stored, Held, Leaves, with_open, without_p, without_q}
-use Rattle.members.specs.Members.{HasLeft, HasBehind, next_member, taken_out, put_in}
+use Rattle.branches.specs.Area.{Stored, Held, StorableBranch, with_open}
+use Rattle.branches.specs.Members.{HasMember, member_of, without}
+use Rattle.branches.specs.declared.Member.{Member}
+use Rattle.branches.specs.declared.Member.TheVariants.{P, Q}
+use Rattle.members.specs.Members.{HasLeft, next_member, taken_out}
+use Rattle.members.specs.declared.Dividends.{Dividends}
+use Rattle.members.specs.declared.Dividends.TheVariants.{InP, InQ}
 use Rattle.polynomials.specs.declared.Term.{Term as Packed}
 
 -- n terms of r are the next member, which is out of the area.
-abbrev pub Took : Bool → ℕ → ℕ → Stored → List Stored → List Stored → ℕ → List Packed → List Rec → ℕ → Type 0
-Took closing place left b bs ss n r v most =
-    (n ≡ length (next_member closing place left b)) × (take n r ≡ next_member closing place left b) × Held v most (with_open (taken_out closing place left b) bs ss)
+abbrev pub Took : Dividends → ℕ → Stored → List Stored → List Stored → ℕ → List Packed → List Rec → ℕ → Type 0
+Took d left b bs ss n r v most =
+    (n ≡ length (next_member d left b)) × (take n r ≡ next_member d left b) × Held v most (with_open (taken_out d left b) bs ss)
 
-module _ {closing : Bool} (place left : ℕ) (b : Stored) where
-  pub has_q : closing ≡ true → HasLeft closing place left b → HasLeft true place left b
-  has_q e h = subst (λ q. HasLeft q place left b) e h
+-- The next member is m.
+pub record Next (d : Dividends) (left : ℕ) (b : Stored) (m : Member) : Type 0 where
+  pub there : HasMember m b
+  pub few : length (member_of m b) ≤ 256
+  pub takes : (bs ss : List Stored) (n : ℕ) (r : List Packed) (v : List Rec) (most : ℕ) → (n ≡ length (member_of m b)) × (take n r ≡ member_of m b)
+      → Held v most (with_open (without m b) bs ss) → Took d left b bs ss n r v most
 
-  pub has_p : closing ≡ false → HasLeft closing place left b → HasLeft false place left b
-  has_p e h = subst (λ q. HasLeft q place left b) e h
+module _ {d : Dividends} {left : ℕ} {b : Stored} {m : Member} (storable : StorableBranch b) (has : HasLeft d left b) where
+  pub next_in_p : (place : ℕ) → d ≡ InP place → m ≡ P place → Next d left b m
+  next_in_p place e q =
+      let there : HasLeft (InP place) left b = subst (λ d. HasLeft d left b) e has in
+      subst (λ d. Next d left b m) (sym e) (subst (Next (InP place) left b) (sym q) record {
+        there = there;
+        few = (each_member Storable place b.P [] there storable.0).few;
+        takes = λ bs ss n r v most l h. (l.0, l.1, h);
+      })
 
-  module _ (bs ss : List Stored) (n : ℕ) (r : List Packed) (v : List Rec) (most : ℕ) where
-    pub took_q : closing ≡ true → (k : ℕ) → k ≡ length b.Q → (n ≡ length (get_or b.Q (k - left) [])) × (take n r ≡ get_or b.Q (k - left) [])
-        → Held v most (with_open (without_q (k - left) b) bs ss) → Took closing place left b bs ss n r v most
-    took_q e k q l h =
-        subst (λ q. Took q place left b bs ss n r v most) (sym e) (
-        subst (λ (k : ℕ). (n ≡ length (get_or b.Q (k - left) [])) × (take n r ≡ get_or b.Q (k - left) []) × Held v most (with_open (without_q (k - left) b) bs ss)) q (l.0, l.1, h)
-        )
-
-    pub took_p : closing ≡ false → (n ≡ length (get_or b.P place [])) × (take n r ≡ get_or b.P place [])
-        → Held v most (with_open (without_p place b) bs ss) → Took closing place left b bs ss n r v most
-    took_p e l h = subst (λ q. Took q place left b bs ss n r v most) (sym e) (l.0, l.1, h)
-
--- ── what is put ──
-pub behind : {closing : Bool} (left : ℕ) (b : Stored) → closing ≡ true → HasBehind closing left b → left ≤ length b.Q
-behind left b e h = subst (λ q. HasBehind q left b) e h
-
-module _ (left : ℕ) (b : Stored) (bs ss : List Stored) (k : Bool) (v : List Rec) (most : ℕ) (f : List Packed) where
-  -- f is put into P or Q.
-  abbrev Put : Bool → Type 0
-  Put closing = Leaves most (with_open b bs ss) (with_open (put_in closing left f b) bs ss) k v
-
-  pub put_by : {closing o : Bool} → closing ≡ o → Put o → Put closing
-  put_by e u = subst Put (sym e) u
+  pub next_in_q : (n k : ℕ) → d ≡ InQ n → k ≡ length b.Q → m ≡ Q (k - left) → Next d left b m
+  next_in_q n k e z q =
+      let some : HasLeft (InQ n) left b = subst (λ d. HasLeft d left b) e has in
+      let at : Next (InQ n) left b (Q (length b.Q - left)) =
+      record {
+        there = omega (arith, some.0, some.1);
+        few = (each_member Storable (length b.Q - left) b.Q [] (omega (arith, some.0, some.1)) storable.1).few;
+        takes = λ bs ss n r v most l h. (l.0, l.1, h);
+      } in
+      subst (λ d. Next d left b m) (sym e) (subst (Next (InQ n) left b) (sym q) (subst (λ k. Next (InQ n) left b (Q (k - left))) (sym z) at))

@@ -1,5 +1,5 @@
 -- The members that a rule leaves to be divided by the pivot: the one of P at a place (rule 4), or the last `left` of Q (rule 5).
-use Rattle.std.specs.Prelude.{Bool, true, false, List, [], map, reverse, ℕ, zero, suc, ◌-◌, ◌≤◌, ◌<◌, length, get_or, take, drop}
+use Rattle.std.specs.Prelude.{List, [], map, reverse, ℕ, zero, suc, ◌-◌, ◌≤◌, ◌<◌, length, get_or, take, drop}
 use Rattle.polynomials.specs.Poly.{Poly}
 use Rattle.polynomials.specs.Packed.{terms}
 use Rattle.rules.specs.Room.{Limits}

@@ -81,6 +81,8 @@ pub fn put_back(
     ensures when_open_2 { WhenOpen w.old (λ b bs ss.
         Leaves (length w.old) (with_open b bs ss) (with_open (put_in dividends left (take n r.new) b) bs ss) result (view w.new)) }
 {
+    // That p is below 2^31 is a fact of its type: so residues are words.
+    let _ = p.get();
     scaling::monic(p, &mut r[..n]);
     match dividends {
         Dividends::InP(_) => puts::put_p(w, &r[..n]),

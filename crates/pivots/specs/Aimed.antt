@@ -1,5 +1,5 @@
 -- What rules 3 to 5 come to.
-use Rattle.std.specs.Prelude.{true, false, List, ℕ, ◌-◌, length, take, drop}
+use Rattle.std.specs.Prelude.{List, ℕ, ◌-◌, length, take, drop}
 use Rattle.polynomials.specs.declared.Term.{Term as Packed}
 use Rattle.rules.specs.Branch.{Found, none, found}
 use Rattle.branches.specs.Area.{Stored, closed}

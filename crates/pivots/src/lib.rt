@@ -99,6 +99,8 @@ pub fn apply_split(
         (unfinished_split (length w.old) place i.now (rest_terms t.now i.now r.new) b bs ss)
         (split_area place i.now (rest_terms t.now i.now r.new) b bs ss) result (view w.new)) }
 {
+    // That p is below 2^31 is a fact of its type: so residues are words.
+    let _ = p.get();
     let m = i.len();
     let l = t.len() - m;
     r[..l].copy_from_slice(&t[m..]);

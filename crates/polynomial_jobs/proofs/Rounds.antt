@@ -13,8 +13,9 @@ use Rattle.polynomials.specs.laws.Places.{places_terms}
 use Rattle.polynomials.specs.laws.Answers.{Answered, then_passed, round_answered}
 use Rattle.division.proofs.RemainderLaws.{remainder_done, remainder_left, remainder_next}
 
-pub leader_below : (t : List Packed) (k : ℕ) → leader (terms t) ≡ k + 1 → k < 8
-leader_below t k h = omega (arith, leader_places 8 (terms t) (places_terms t), h)
+-- The leading variable is one of eight.
+pub leader_small : (t : List Packed) → leader (terms t) ≤ 8
+leader_small t = leader_places 8 (terms t) (places_terms t)
 
 -- The first n terms of r hold a polynomial, and what at most 256 − rounds rounds make of it is the remainder.
 pub record AtRound (p k d : ℕ) (t r₀ : List Packed) (m : ℕ) (r : List Packed) (n rounds : ℕ) : Type 0 where

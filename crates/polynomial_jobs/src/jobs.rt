@@ -1,5 +1,5 @@
 // The jobs on two polynomials.
-ghost use Rattle.std.specs.Prelude.{◌≡◌, ◌&&◌, ◌+◌, ◌≤◌, ◌<◌, IfSome, length, take, is_some};
+ghost use Rattle.std.specs.Prelude.{◌≡◌, ◌&&◌, ◌+◌, ◌≤◌, IfSome, length, take, is_some};
 ghost use Rattle.std.proofs.Props.{props};
 ghost use Rattle.residues.specs.Prime.{Prime, is_modulus};
 ghost use Rattle.polynomials.specs.Bounds.{standard, bounded_round, bounded_remainder};
@@ -43,17 +43,18 @@ impl<'a> Operands<'a> {
         ensures tested { is_some result ≡ (is_modulus p && (is_held p f.now && is_held p g.now)) }
         ensures same { IfSome result (λ o. (o.p ≡ p) × (o.f.now ≡ f.now) × (o.g.now ≡ g.now)) }
     {
+        let number = u64::from(p);
         if primes::is_prime(p)
-            && forms::is_polynomial(u64::from(p), f)
-            && forms::is_polynomial(u64::from(p), g)
+            && forms::is_polynomial(number, f)
+            && forms::is_polynomial(number, g)
         {
-            let p = Modulus::new(u64::from(p));
+            let p = Modulus::new(number);
             return Some(Operands { p, f, g });
         }
         None
     }
 
-    fn all(self, out: &mut impl Write) -> io::Result<()> {
+    fn all(&self, out: &mut impl Write) -> io::Result<()> {
         writeln!(out, "f {}", Polynomial(self.f))?;
         writeln!(out, "g {}", Polynomial(self.g))?;
         self.product(out)?;
@@ -66,7 +67,7 @@ impl<'a> Operands<'a> {
         self.values(out)
     }
 
-    fn swapped(self) -> Self {
+    fn swapped(&self) -> Self {
         Operands {
             p: self.p,
             f: self.g,
@@ -74,21 +75,21 @@ impl<'a> Operands<'a> {
         }
     }
 
-    fn product(self, out: &mut impl Write) -> io::Result<()> {
+    fn product(&self, out: &mut impl Write) -> io::Result<()> {
         let mut x = [ZERO; 512];
         let mut z = [ZERO; 512];
         let answer = products::product(self.p, self.f, self.g, &mut x, &mut z);
         print::formed(out, "product", answer, &x)
     }
 
-    fn difference(self, out: &mut impl Write) -> io::Result<()> {
+    fn difference(&self, out: &mut impl Write) -> io::Result<()> {
         let mut x = [ZERO; 512];
         let answer = sums::difference(self.p, self.f, self.g, &mut x);
         print::formed(out, "difference", answer, &x)
     }
 
     // f made monic, and whether it was.
-    fn monic(self, out: &mut impl Write) -> io::Result<()> {
+    fn monic(&self, out: &mut impl Write) -> io::Result<()> {
         let mut terms = [ZERO; 256];
         let x = &mut terms[..self.f.len()];
         x.copy_from_slice(self.f);
@@ -98,7 +99,8 @@ impl<'a> Operands<'a> {
     }
 
     // Leading variable, initial and rest of f.
-    fn split(self, out: &mut impl Write) -> io::Result<()> {
+    #[tactic(auto, using(crate::proofs::Rounds::leader_small))]
+    fn split(&self, out: &mut impl Write) -> io::Result<()> {
         let lead = terms::leader(self.f);
         writeln!(out, "leader {lead}")?;
         if lead == 0 {
@@ -112,7 +114,8 @@ impl<'a> Operands<'a> {
     }
 
     // The division of f by g in the leading variable of g.
-    fn divide(self, out: &mut impl Write) -> io::Result<()> {
+    #[tactic(auto, using(crate::proofs::Rounds::leader_small))]
+    fn divide(&self, out: &mut impl Write) -> io::Result<()> {
         let lead = terms::leader(self.g);
         if lead == 0 {
             return writeln!(out, "no divisor");
@@ -128,7 +131,7 @@ impl<'a> Operands<'a> {
     }
 
     // The values of f at the origin and at a random point.
-    fn values(self, out: &mut impl Write) -> io::Result<()> {
+    fn values(&self, out: &mut impl Write) -> io::Result<()> {
         let origin = [0u32; 8];
         let x = Generator::new(1 + self.f.len() as u64).point(self.p);
         writeln!(out, "value {}", values::value(self.p, self.f, &origin))?;

@@ -61,6 +61,7 @@ impl Modulus {
     }
 
     // The product of two residues.
+    #[tactic(auto, unfolding(crate::specs::Residue::product))]
     pub fn multiply(self, a: u64, b: u64) -> u64
         requires { (a < self) × (b < self) }
         ensures { result ≡ product self a b }

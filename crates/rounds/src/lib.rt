@@ -1,7 +1,7 @@
 // A round of a division wherever it fits: in the lent buffers, or in buffers of its own.
 #![tactic(auto)]
 
-ghost use Rattle.std.specs.Prelude.{◌≡◌, ◌≤◌, ◌<◌, leb, length, take};
+ghost use Rattle.std.specs.Prelude.{◌≡◌, ◌≤◌, leb, length, take};
 ghost use Rattle.polynomials.specs.Bounds.{standard, bounded_round};
 ghost use Rattle.polynomials.specs.Division.{degree, coefficient};
 ghost use Rattle.polynomials.specs.Packed.{terms};

@@ -1,6 +1,5 @@
 -- The invariants of the three loops of `run`, each against what stood where its loop began; and the run, one step at a time.
 use mathlib.Core.Path.{◌≡◌, refl, sym, ap, subst, ◌∙◌}
-use mathlib.Core.Bool.{Bool}
 use mathlib.Core.List.{List, [], map, reverse}
 use Prim.Native.Nat.{ℕ, zero, suc, ◌-◌, ◌≤◌, ◌<◌}
 use native.Mathlib.Omega.{arith}
@@ -20,9 +19,10 @@ use Rattle.rules.specs.Room.{Limits}
 use Rattle.rules.specs.Step.{Stepped, remainder_by, step}
 use Rattle.rules.specs.Run.{Ended, finished, refused, after_step, run}
 use Rattle.records.specs.Records.{view}
-use Rattle.branches.specs.Area.{Stored, Area, Held, with_open, capacity, HeldIn}
+use Rattle.branches.specs.Area.{Stored, Area, Held, with_open, HeldIn}
 use Rattle.representation.specs.Represent.{branch_of, system_of, state_of}
 use Rattle.representation.specs.Ready.{Ready, limits_in}
+use Rattle.members.specs.declared.Dividends.{Dividends}
 use Rattle.members.specs.Members.{HasMembers, rest_of_step}
 use Rattle.steps.specs.Pending.{Pivoted}
 use Rattle.polynomials.specs.declared.Term.{Term as Packed}
@@ -31,30 +31,30 @@ use Rattle.polynomials.specs.declared.Term.{Term as Packed}
 abbrev pub run_in : ℕ → ℕ → ℕ → ℕ → Area → Ended
 run_in most p left n a = run (limits_in most) p left n (state_of a)
 
-abbrev pub rest_in : ℕ → ℕ → Bool → ℕ → ℕ → ℕ → Poly → Stored → List Stored → List Stored → Stepped
+abbrev pub rest_in : ℕ → ℕ → Dividends → ℕ → ℕ → Poly → Stored → List Stored → List Stored → Stepped
 rest_in most = rest_of_step (limits_in most)
 
 -- The run from the state held, so many steps being done, gives the run from where the loop began, with `from` done.
-pub record AtRun (p limit from : ℕ) (w₀ w : List ℕ) (steps : ℕ) : Type 0 where
+pub record AtRun (p limit from : ℕ) (w₀ w : List (List ℕ)) (steps : ℕ) : Type 0 where
   pub same : length w ≡ length w₀
   pub within : steps ≤ limit
-  pub some : (a : Area) × Held (view w) (capacity w₀) a × Ready p a
+  pub some : (a : Area) × Held (view w) (length w₀) a × Ready p a
   pub all :
       (a₀ : Area) → HeldIn w₀ a₀ → Ready p a₀
-      → (a : Area) × Held (view w) (capacity w₀) a × Ready p a
-      × (run_in (capacity w₀) p (limit - steps) steps a ≡ run_in (capacity w₀) p (limit - from) from a₀)
+      → (a : Area) × Held (view w) (length w₀) a × Ready p a
+      × (run_in (length w₀) p (limit - steps) steps a ≡ run_in (length w₀) p (limit - from) from a₀)
 
 -- What is left of the step is the step, by the pivot f in v(k+1).
-pub record AtMembers (p k : ℕ) (f : Poly) (closing : Bool) (place left₀ : ℕ) (w₀ w : List ℕ) (left : ℕ) : Type 0 where
+pub record AtMembers (p k : ℕ) (f : Poly) (d : Dividends) (left₀ : ℕ) (w₀ w : List (List ℕ)) (left : ℕ) : Type 0 where
   pub same : length w ≡ length w₀
   pub some :
-      (b : Stored) × (bs : List Stored) × (ss : List Stored) × Held (view w) (capacity w₀) (with_open b bs ss) × Ready p (with_open b bs ss)
-      × HasMembers closing place left b
+      (b : Stored) × (bs : List Stored) × (ss : List Stored) × Held (view w) (length w₀) (with_open b bs ss) × Ready p (with_open b bs ss)
+      × HasMembers d left b
   pub all :
       (b₀ : Stored) (bs ss : List Stored) → HeldIn w₀ (with_open b₀ bs ss) → Ready p (with_open b₀ bs ss)
-      → HasMembers closing place left₀ b₀
-      → (b : Stored) × Held (view w) (capacity w₀) (with_open b bs ss) × Ready p (with_open b bs ss) × HasMembers closing place left b
-      × (rest_in (capacity w₀) p closing place left k f b bs ss ≡ rest_in (capacity w₀) p closing place left₀ k f b₀ bs ss)
+      → HasMembers d left₀ b₀
+      → (b : Stored) × Held (view w) (length w₀) (with_open b bs ss) × Ready p (with_open b bs ss) × HasMembers d left b
+      × (rest_in (length w₀) p d left k f b bs ss ≡ rest_in (length w₀) p d left₀ k f b₀ bs ss)
 
 -- What the rounds left form is what all form. The first n words of r are divided.
 pub record AtDivision (p k d : ℕ) (f : Poly) (r₀ : List Packed) (n₀ : ℕ) (r : List Packed) (n : ℕ) : Type 0 where
@@ -67,7 +67,7 @@ pub record AtDivision (p k d : ℕ) (f : Poly) (r₀ : List Packed) (n₀ : ℕ)
       × (bounded_remainder standard p k d f s (terms (take n r)) ≡ bounded_remainder standard p k d f s₀ (terms (take n₀ r₀)))
 
 -- ── where a loop begins ──
-pub run_begins : (p limit from : ℕ) (w : List ℕ) → from ≤ limit → ((a : Area) × HeldIn w a × Ready p a) → AtRun p limit from w w from
+pub run_begins : (p limit from : ℕ) (w : List (List ℕ)) → from ≤ limit → ((a : Area) × HeldIn w a × Ready p a) → AtRun p limit from w w from
 run_begins p limit from w l h = record { same = refl; within = l; some = h; all = λ a H R. (a, H, R, refl) }
 
 pub division_begins : (p k d : ℕ) (f : Poly) (r : List Packed) (n : ℕ) → n ≤ length r → Holds p (take n r) → AtDivision p k d f r n r n

@@ -76,15 +76,18 @@ pub fn run(
         if crowded {
             break 'run None;
         }
-        match steps::prepare(w, p, t, i, r) {
-            Ok(Prepared::Done) => {}
-            Ok(Prepared::Crowded) => {
-                break 'run None;
-            }
+        let prepared = match steps::prepare(w, p, t, i, r) {
+            Ok(prepared) => prepared,
             Err(why) => {
                 break 'run Some(Outcome::Refused(why, 0));
             }
-            Ok(Prepared::Members(d)) => {
+        };
+        match prepared {
+            Prepared::Done => {}
+            Prepared::Crowded => {
+                break 'run None;
+            }
+            Prepared::Members(d) => {
                 let k = d.k;
                 let degree = d.degree;
                 let pivot = d.pivot;

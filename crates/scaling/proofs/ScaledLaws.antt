@@ -39,9 +39,9 @@ module _ (p c : ℕ) (f₀ f : List Packed) (i : ℕ) (so_far : f ≡ map (scale
 abbrev pub InWord : Packed → Type 0
 InWord t = t.monomial < 2 ^ 64
 
-pub none_in_words : (f : List Packed) → slice_get f 0 ≡ None → Each InWord f
-none_in_words [] h = tt
-none_in_words (t ∷ f) h = cc
+pub each_of_none : (P : Packed → Type 0) (f : List Packed) → slice_get f 0 ≡ None → Each P f
+each_of_none P [] h = tt
+each_of_none P (t ∷ f) h = cc
 
 pub more_in_words : (f : List Packed) (i : ℕ) (t : Packed) → i < length f → (get_or f i t).monomial < 2 ^ 64 → Each InWord (take i f) → Each InWord (take (i + 1) f)
 more_in_words f i t inside h u = subst (Each InWord) (sym (rw add-one (take-suc f i t inside))) ((each_append InWord (take i f) (get_or f i t ∷ [])).1 (u, (h, tt)))

@@ -21,7 +21,7 @@ const ZERO: Term = Term {
     monomial: 0,
 };
 
-// Runs in scratch of T terms for the pivot and its initial and X for each of three products.
+// Runs in scratch of T terms for the pivot, as many for its initial, and X for each of three products.
 fn run_in<const T: usize, const X: usize>(
     work: &mut [Record],
     p: Modulus,
@@ -33,6 +33,7 @@ fn run_in<const T: usize, const X: usize>(
     requires from_le_limit { from ≤ limit }
     requires ready { (a : Area) × HeldIn work.old a × Ready p a }
     requires in_bounds { (256 ≤ length divided.old) × (X ≤ length divided.old) }
+    requires room { T ≤ 256 }
     ensures stretches { (a : Area) → HeldIn work.old a → Ready p a
         → Stretches (run (limits_in (length work.old)) p (limit - from) from (state_of a)) p limit result (view work.new) (length work.old) }
     ensures when_paused { result.outcome ≡ None → (T < 256) ⊎ (X < 512) }

@@ -1,21 +1,24 @@
 -- A split: the branch that stays open is what the definition says; where a state on the way finds no room the end has none; the state in which
--- the split stops then; and what the words hold after each call.
+-- the split stops then; and what is held after each call.
 use mathlib.Core.Path.{◌≡◌, refl, sym, ap, subst, ◌∙◌}
-use mathlib.Core.Bool.{Bool, true, false, ◌||◌, false≢true}
+use mathlib.Core.Bool.{Bool, true, false, ◌||◌}
 use mathlib.Core.List.{List, [], ◌∷◌, ◌++◌, append_assoc, append-nil}
 use Prim.Native.Nat.{ℕ, suc, ◌+◌, ◌-◌, ◌≤◌, ◌<◌}
 use native.Mathlib.Omega.{arith}
-use borrow.Author.Tests.{leb-true, leb-false, le-leb, lt-leb}
+use borrow.Author.Tests.{le-leb, lt-leb}
 use lib.ListN.{length, take, drop, get_or, length-append, length-drop}
 use lib.Seq.{take_at, drop_at, length-take-le, split_at}
+use Rattle.std.specs.Prelude.{Result, IsOk, IsErr}
+use Rattle.tables.specs.declared.Reason.{Reason}
 use Rattle.records.specs.Records.{Rec, view}
 use Rattle.stored.specs.Stored.{polys_records, member}
 use Rattle.stored.specs.laws.Stored.{polys_records_append}
 use Rattle.branches.specs.Words.{put_p, remove, unless, is_zero, is_one}
 use Rattle.branches.specs.laws.Words.{put_q_before_none}
-use Rattle.branches.specs.Area.{Stored, Area, Leaves, stack, branch_records, with_open, size, capacity, HeldIn, WhenOpen, OpenBecomes}
+use Rattle.branches.specs.Area.{Stored, Area, Leaves, stack, branch_records, with_open, size, HeldIn, WhenOpen, OpenBecomes}
 use Rattle.branches.specs.Area.{kept_open, aside, put_into_p, put_into_q, without_p, split_area, fitting, unfinished_split}
 use Rattle.branches.specs.laws.Words.{remove_in_parts, length_remove}
+use Rattle.branches.proofs.LeavesLaws.{leaves_fits, leaves_over, larger_none}
 use Rattle.branches.proofs.LengthLaws.{held_by, left_by}
 use Rattle.puts.proofs.PutLaws.{put_q_new}
 use Rattle.polynomials.specs.declared.Term.{Term as Packed}
@@ -90,18 +93,7 @@ size_more : (b b' : Stored) (bs ss : List Stored) → size (with_open b bs ss) �
 unfolding size
 size_more b b' bs ss = omega (arith, length-append (stack (b ∷ bs)).0 (branch_records (stack (b ∷ bs)).1 b'))
 
--- ── answers ──
-fits_if_true : {most : ℕ} {a₀ a : Area} {r : Bool} {v : List Rec} → Leaves most a₀ a r v → r ≡ true → size a ≤ most
-fits_if_true {most} {a = a} L e = leb-true (size a) most (sym L.answer ∙ e)
-
-over_if_false : {most : ℕ} {a₀ a : Area} {r : Bool} {v : List Rec} → Leaves most a₀ a r v → r ≡ false → most < size a
-over_if_false {most} {a = a} L e = leb-false (size a) most (sym L.answer ∙ e)
-
--- Where a smaller state finds no room.
-failed : {most : ℕ} {a₀ a a' : Area} {r : Bool} {v : List Rec} → Leaves most a₀ a r v → r ≡ false → size a ≤ size a' → Leaves most a₀ a' false v
-failed {most} {a' = a'} L e h =
-    record { answer = sym (lt-leb (size a') most (omega (arith, over_if_false L e))); held = λ t. absurd (false≢true t); otherwise = λ t. L.otherwise e }
-
+-- ── where a state is held, or the one before ──
 fitting_fits : (most : ℕ) (a₀ a : Area) → size a ≤ most → fitting most a₀ a ≡ a
 fitting_fits most a₀ a h = ap (λ (t : Bool). elim t as (λ t. Area) [ true ↦ a | false ↦ a₀ ]) (le-leb (size a) most h)
 
@@ -132,57 +124,57 @@ module _ (most i : ℕ) (initial rest : List Packed) (b : Stored) (bs ss : List 
   split_larger : size rest_in ≤ size (split_area i initial rest b bs ss)
   split_larger = size_more (aside i initial rest b) (put_into_q 0 initial b) bs ss
 
-  stopped_in : {a a₁ : Area} {r : Bool} {v : List Rec} → unfinished ≡ a → Leaves most a a₁ r v → Leaves most unfinished a₁ r v
+  stopped_in : {a a₁ : Area} {r : Result (Unit {0}) Reason} {v : List Rec} → unfinished ≡ a → Leaves most a a₁ r v → Leaves most unfinished a₁ r v
   stopped_in {a₁ = a₁} {r} {v} e L = subst (λ (a : Area). Leaves most a a₁ r v) (sym e) L
 
-  module _ {r : Bool} {v : List Rec} (first : Leaves most pivot_out initial_in r v) where
-    pub no_initial : r ≡ false → Leaves most unfinished (split_area i initial rest b bs ss) false v
+  module _ {r : Result (Unit {0}) Reason} {v : List Rec} (first : Leaves most pivot_out initial_in r v) where
+    pub no_initial : IsErr r → Leaves most unfinished (split_area i initial rest b bs ss) r v
     no_initial e =
-        let none = over_if_false first e in
+        let none = leaves_over first e in
         stopped_in (fitting_over most initial_fitting rest_in (omega (arith, none, rest_larger)) ∙ fitting_over most pivot_out initial_in none)
-        (failed first e (omega (arith, rest_larger, split_larger)))
+        (larger_none first (split_area i initial rest b bs ss) e (omega (arith, rest_larger, split_larger)))
 
-    module _ (e : r ≡ true) {r₁ : Bool} {v₁ : List Rec} (second : Leaves most initial_in rest_in r₁ v₁) where
-      pub no_rest : r₁ ≡ false → Leaves most unfinished (split_area i initial rest b bs ss) false v₁
-      no_rest e₁ =
-          stopped_in (fitting_over most initial_fitting rest_in (over_if_false second e₁) ∙ fitting_fits most pivot_out initial_in (fits_if_true first e))
-          (failed second e₁ split_larger)
+    pub no_rest : IsOk r → {r₁ : Result (Unit {0}) Reason} {v₁ : List Rec} → Leaves most initial_in rest_in r₁ v₁ → IsErr r₁
+        → Leaves most unfinished (split_area i initial rest b bs ss) r₁ v₁
+    no_rest e second e₁ =
+        stopped_in (fitting_over most initial_fitting rest_in (leaves_over second e₁) ∙ fitting_fits most pivot_out initial_in (leaves_fits first e))
+        (larger_none second (split_area i initial rest b bs ss) e₁ split_larger)
 
-  pub stops_aside : {r : Bool} {v : List Rec} → Leaves most initial_in rest_in r v → r ≡ true → rest_in ≡ unfinished
-  stops_aside L e = sym (fitting_fits most initial_fitting rest_in (fits_if_true L e))
+  pub stops_aside : {r : Result (Unit {0}) Reason} {v : List Rec} → Leaves most initial_in rest_in r v → IsOk r → rest_in ≡ unfinished
+  stops_aside L e = sym (fitting_fits most initial_fitting rest_in (leaves_fits L e))
 
--- ── what the words hold after each call ──
--- The pivot is taken out of the words w, which become w₁.
-pub record Taken (w : List ℕ) (i : ℕ) (w₁ : List ℕ) : Type 0 where
+-- ── what is held after each call ──
+-- The pivot is taken out of the records w, which become w₁.
+pub record Taken (w : List (List ℕ)) (i : ℕ) (w₁ : List (List ℕ)) : Type 0 where
   pub same : length w₁ ≡ length w
   pub out : OpenBecomes (without_p i) w w₁
 
--- f is put into P of the words w, with the answer r; they become w₁.
-pub record Put (w : List ℕ) (f : List Packed) (r : Bool) (w₁ : List ℕ) : Type 0 where
+-- f is put into P of the records w, with the answer r; they become w₁.
+pub record Put (w : List (List ℕ)) (f : List Packed) (r : Result (Unit {0}) Reason) (w₁ : List (List ℕ)) : Type 0 where
   pub same : length w₁ ≡ length w
-  pub put : WhenOpen w (λ b bs ss. Leaves (capacity w) (with_open b bs ss) (with_open (put_into_p f b) bs ss) r (view w₁))
+  pub put : WhenOpen w (λ b bs ss. Leaves (length w) (with_open b bs ss) (with_open (put_into_p f b) bs ss) r (view w₁))
 
-module _ {w w₁ : List ℕ} {i : ℕ} (out : Taken w i w₁) {b : Stored} {bs ss : List Stored} (H : HeldIn w (with_open b bs ss)) where
+module _ {w w₁ : List (List ℕ)} {i : ℕ} (out : Taken w i w₁) {b : Stored} {bs ss : List Stored} (H : HeldIn w (with_open b bs ss)) where
   pub removed : HeldIn w₁ (with_open (without_p i b) bs ss)
   removed = held_by _ _ w w₁ (sym out.same) (out.out b bs ss H)
 
-  module _ {initial : List Packed} {r : Bool} {w₂ : List ℕ} (first : Put w₁ initial r w₂) where
+  module _ {initial : List Packed} {r : Result (Unit {0}) Reason} {w₂ : List (List ℕ)} (first : Put w₁ initial r w₂) where
     same_initial : length w₂ ≡ length w
     same_initial = first.same ∙ out.same
 
-    pub initial_leaves : Leaves (capacity w) (with_open (without_p i b) bs ss) (with_open (put_into_p initial (without_p i b)) bs ss) r (view w₂)
+    pub initial_leaves : Leaves (length w) (with_open (without_p i b) bs ss) (with_open (put_into_p initial (without_p i b)) bs ss) r (view w₂)
     initial_leaves = left_by _ _ w₁ w out.same refl refl (first.put _ bs ss removed)
 
-    module _ (e : r ≡ true) where
+    module _ (e : IsOk r) where
       pub initial_put : HeldIn w₂ (with_open (put_into_p initial (without_p i b)) bs ss)
       initial_put = held_by _ _ w w₂ (sym same_initial) (initial_leaves.held e)
 
-      module _ {rest : List Packed} {r₁ : Bool} {w₃ : List ℕ} (second : Put w₂ rest r₁ w₃) where
+      module _ {rest : List Packed} {r₁ : Result (Unit {0}) Reason} {w₃ : List (List ℕ)} (second : Put w₂ rest r₁ w₃) where
         pub same_rest : length w₃ ≡ length w
         same_rest = second.same ∙ same_initial
 
-        pub rest_leaves : Leaves (capacity w) (with_open (put_into_p initial (without_p i b)) bs ss) (with_open (aside i initial rest b) bs ss) r₁ (view w₃)
+        pub rest_leaves : Leaves (length w) (with_open (put_into_p initial (without_p i b)) bs ss) (with_open (aside i initial rest b) bs ss) r₁ (view w₃)
         rest_leaves = left_by _ _ w₂ w same_initial refl refl (second.put _ bs ss initial_put)
 
-        pub rest_put : r₁ ≡ true → HeldIn w₃ (with_open (aside i initial rest b) bs ss)
+        pub rest_put : IsOk r₁ → HeldIn w₃ (with_open (aside i initial rest b) bs ss)
         rest_put e₁ = held_by _ _ w w₃ (sym same_rest) (rest_leaves.held e₁)

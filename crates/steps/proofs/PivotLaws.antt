@@ -2,22 +2,23 @@
 use mathlib.Core.Path.{◌≡◌, refl, sym, ap, ap₂, subst, ◌∙◌}
 use mathlib.Core.Logic.{◌≢◌}
 use mathlib.Core.Bool.{Bool, true, false, ◌||◌}
-use mathlib.Core.List.{List, [], map, reverse}
+use mathlib.Core.List.{List, [], ◌∷◌, map, reverse}
 use Prim.Native.Nat.{ℕ, ◌+◌, ◌-◌, ◌^◌, ◌≤◌, ◌<◌}
 use native.Mathlib.Omega.{arith}
 use lib.ListN.{length, get_or, take, drop}
 use lib.Seq.{length-take-le}
 use Rattle.branches.specs.laws.Words.{each_remove}
 use Rattle.residues.specs.Each.{Each}
-use Rattle.residues.specs.laws.Each.{each_map}
+use Rattle.residues.specs.laws.Each.{each_map, each_member}
 use Rattle.polynomials.specs.Poly.{Poly}
+use Rattle.polynomials.specs.Canonical.{Canonical}
 use Rattle.polynomials.specs.Division.{leader, initial, degree}
 use Rattle.polynomials.specs.Packed.{terms}
 use Rattle.polynomials.specs.Working.{Written}
 use Rattle.polynomials.specs.laws.Answers.{written_holds, written_count}
 use Rattle.polynomials.specs.laws.Parts.{canonical_initial, at_leader, length_initial}
 use Rattle.polynomials.specs.laws.Terms.{length_terms}
-use Rattle.stored.specs.Stored.{member}
+use Rattle.stored.specs.Stored.{member, Storable}
 use Rattle.rules.specs.Branch as rules
 use Rattle.rules.specs.Branch.{Chosen, Found, none, found, other}
 use Rattle.rules.specs.Rule.{Rule, split, divide_or_close, rule_with}
@@ -29,7 +30,7 @@ use Rattle.branches.specs.Words.{is_one}
 use Rattle.branches.specs.Area.{Stored, Held, with_open, closed}
 use Rattle.representation.specs.Represent.{TwoWords, Sound, AllSound, branch_of, system_of, chosen, with_new}
 use Rattle.representation.specs.laws.Lists.{sound_at}
-use Rattle.representation.specs.laws.Sounds.{closed_sound}
+use Rattle.representation.specs.laws.Sounds.{closed_sound, sound_storable}
 use Rattle.representation.specs.laws.Monics.{remove_monic}
 use Rattle.representation.specs.laws.Tests.{is_one_terms, member_terms}
 use Rattle.representation.specs.laws.Steps.{chosen_at}
@@ -39,45 +40,59 @@ use Rattle.pivots.specs.declared.Division.{Division}
 use Rattle.pivots.specs.Aimed.{division_of, aimed}
 use Rattle.representation.specs.Ready.{Ready}
 use Rattle.members.specs.Members.{rest_of_step}
+use Rattle.members.specs.declared.Dividends.TheVariants.{InP, InQ}
 use Rattle.steps.specs.Pending.{Leads, Pivoted, Comes}
 use Rattle.steps.proofs.ChoiceLaws.{at_inside}
 use Rattle.polynomials.specs.declared.Term.{Term as Packed}
 
 -- ── loading ──
--- The first n words of t are the pivot.
+-- The first n terms of t are the pivot.
 pub record PivotIn (p k place : ℕ) (b : Stored) (t : List Packed) (n : ℕ) : Type 0 where
   pub inside : n ≤ length t
   pub is : take n t ≡ get_or b.P place []
   pub sound : Sound p (take n t)
+  pub storable : Storable (take n t)
   pub led : leader (terms (take n t)) ≡ k + 1
 
-pub pivot_in : (p k place : ℕ) (b : Stored) (bs ss : List Stored) (t : List Packed) (n : ℕ) → Ready p (with_open b bs ss) → Leads k place b
+pub pivot_in : (p k place : ℕ) (b : Stored) (bs ss : List Stored) (t : List Packed) (n : ℕ) → Ready p (with_open b bs ss) → Each Storable b.P → Leads k place b
     → length (get_or b.P place []) ≤ length t → (n ≡ length (get_or b.P place [])) × (take n t ≡ get_or b.P place []) → PivotIn p k place b t n
-pivot_in p k place b bs ss t n R L room e =
+pivot_in p k place b bs ss t n R u L room e =
     let s = sound_at p place b.P R.sound.branches.0.in_p in
     record {
       inside = omega (arith, e.0, room);
       is = e.1;
       sound = subst (Sound p) (sym e.1) s;
+      storable = subst Storable (sym e.1) (each_member Storable place b.P [] L.1 u);
       led = ap (λ (f : List Packed). leader (terms f)) e.1 ∙ L.2;
     }
 
--- The first m words of i are the initial of f.
+-- What records can hold is canonical by any number above its words.
+canonical_words : (p : ℕ) (s : List Packed) → Canonical p (terms s) → Each (λ t. t.coefficient < 4294967296) s → Canonical 4294967296 (terms s)
+unfolding terms
+canonical_words p [] c u = tt
+canonical_words p (t ∷ s) c u = (c.0, u.0, c.2, canonical_words p s c.3 u.1)
+
+-- The first m terms of i are the initial of f.
 pub record InitialIn (p k : ℕ) (f i : List Packed) (m : ℕ) : Type 0 where
   pub inside : m ≤ length i
   pub is : terms (take m i) ≡ initial k (terms f)
   pub sound : Sound p (take m i)
+  pub storable : Storable (take m i)
 
-pub initial_in : (p k : ℕ) (f i : List Packed) (m : ℕ) → p < 2147483648 → Sound p f → leader (terms f) ≡ k + 1 → Written (initial k (terms f)) m i
+pub initial_in : (p k : ℕ) (f i : List Packed) (m : ℕ) → Sound p f → Storable f → Written (initial k (terms f)) m i
     → (Each (λ t. t.monomial < 2 ^ 64) f → Each (λ t. t.monomial < 2 ^ 64) (take m i)) → InitialIn p k f i m
-initial_in p k f i m below s led W words =
+initial_in p k f i m s u W words =
     let c = s.holds.canonical in
     let few : m ≤ 256 = omega (arith, written_count (initial k (terms f)) m i W, length_initial k (terms f), length_terms f, s.holds.few) in
-    let holds = written_holds p (initial k (terms f)) m i W few (canonical_initial p k (terms f) c) in
+    let in_words = canonical_initial 4294967296 k (terms f) (canonical_words p f c u.coefficients) in
+    let holds = written_holds 4294967296 (initial k (terms f)) m i W few in_words in
+    let small =
+    two_words 4294967296 (omega arith) (take m i) holds.canonical (words (each_map TwoWords (λ t. t.monomial < 2 ^ 64) (λ t w. w.1) f s.small)) in
     record {
       inside = W.within;
       is = W.holds;
-      sound = record { holds = holds; small = two_words p (omega (arith, below)) (take m i) holds.canonical (words (each_map TwoWords (λ t. t.monomial < 2 ^ 64) (λ t w. w.1) f s.small)) };
+      sound = record { holds = written_holds p (initial k (terms f)) m i W few (canonical_initial p k (terms f) c); small = small };
+      storable = sound_storable 4294967296 (omega arith) (take m i) record { holds = holds; small = small };
     }
 
 -- ── the rule ──
@@ -107,7 +122,7 @@ module _ (l : Limits) (p k i : ℕ) (b : Stored) (bs ss : List Stored) where
   abbrev applied : Found → Stepped
   applied o = apply l p (map branch_of bs) (reverse (map system_of ss)) (divide_or_close k (chosen b i) o) (branch_of b)
 
-  close_goes : (f : Poly) → (chosen b i).poly ≡ f → applied none ≡ rest_of_step l p true 0 (length b.Q) k f (closed i b) bs ss
+  close_goes : (f : Poly) → (chosen b i).poly ≡ f → applied none ≡ rest_of_step l p (InQ (length b.Q)) (length b.Q) k f (closed i b) bs ss
   unfolding rest_of_step
   close_goes f e =
       let z : 0 ≡ length b.Q - length b.Q = omega arith in
@@ -115,7 +130,7 @@ module _ (l : Limits) (p k i : ℕ) (b : Stored) (bs ss : List Stored) where
       ∙ ap (λ (f : Poly). replace l p (map branch_of bs) (reverse (map system_of ss)) k f (map terms b.Q) (with_new (closed i b) [])) e
       ∙ ap (λ (n : ℕ). replace l p (map branch_of bs) (reverse (map system_of ss)) k f (map terms (drop n b.Q)) (with_new (closed i b) (take n b.Q))) z
 
-  divide_goes : (c : Chosen) → c ≡ chosen b c.place → (f : Poly) → (chosen b i).poly ≡ f → applied (found c) ≡ rest_of_step l p false c.place 1 k f b bs ss
+  divide_goes : (c : Chosen) → c ≡ chosen b c.place → (f : Poly) → (chosen b i).poly ≡ f → applied (found c) ≡ rest_of_step l p (InP c.place) 1 k f b bs ss
   unfolding rest_of_step apply
   divide_goes c q f e =
       ap (λ (f : Poly). after_division (remainder_by l p k f c.poly) (λ r. within_room l (state l p (map branch_of bs) (reverse (map system_of ss)) (divided l p c r (branch_of b))))) e

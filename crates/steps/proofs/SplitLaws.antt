@@ -7,6 +7,8 @@ use Prim.Native.Nat.{ℕ}
 use native.Mathlib.Omega.{arith}
 use lib.Dec.{leb}
 use lib.ListN.{get_or}
+use Rattle.std.specs.Prelude.{Result, Err, IsOk, IsErr}
+use Rattle.branches.specs.laws.Fitted.{has_room, lacks_room, for_room}
 use Rattle.branches.specs.laws.Words.{each_remove}
 use Rattle.residues.specs.Prime.{Prime}
 use Rattle.polynomials.specs.Poly.{monic}
@@ -14,6 +16,7 @@ use Rattle.polynomials.specs.Division.{initial, rest}
 use Rattle.polynomials.specs.Packed.{terms}
 use Rattle.polynomials.specs.laws.Parts.{canonical_rest}
 use Rattle.polynomials.specs.laws.Places.{places_terms}
+use Rattle.tables.specs.declared.Reason.{Reason}
 use Rattle.tables.specs.declared.Reason.TheVariants.{Room}
 use Rattle.rules.specs.Rule.{Rule, split, rule_with}
 use Rattle.rules.specs.Step.{Stepped, next, stopped, apply}
@@ -28,6 +31,9 @@ use Rattle.representation.specs.laws.Steps.{if_fits, apply_split}
 use Rattle.representation.specs.Ready.{Ready, limits_in}
 use Rattle.steps.specs.Pending.{Leads}
 use Rattle.polynomials.specs.declared.Term.{Term as Packed}
+
+err_same : {why then : Reason} → ◌≡◌ {A = Result (Unit {0}) Reason} (Err why) (Err then) → why ≡ then
+err_same e = cc
 
 -- The state a has an open branch, over the waiting ones bs and the systems ss.
 abbrev Opens : List Stored → List Stored → Area → Type 0
@@ -70,25 +76,29 @@ module _ (p k i : ℕ) (prime : Prime p) (b : Stored) (bs ss : List Stored) (R :
     listed = R.listed;
   }
 
-  module _ (v₀ : List Rec) (most : ℕ) (H : Held v₀ most (with_open b bs ss)) (q : Bool) (v : List Rec)
+  module _ (v₀ : List Rec) (most : ℕ) (H : Held v₀ most (with_open b bs ss)) (q : Result (Unit {0}) Reason) (v : List Rec)
       (u : Leaves most (unfinished_split most i ini rst b bs ss) (split_area i ini rst b bs ss) q v) (rule : rule_with k (chosen b i) (branch_of b) ≡ split k (chosen b i)) where
     abbrev S : Stepped
     S = apply (limits_in most) p (map branch_of bs) (reverse (map system_of ss)) (rule_with k (chosen b i) (branch_of b)) (branch_of b)
 
-    abbrev if_so : Bool → Stepped
-    if_so o = if_fits o (next (state_of (split_area i ini rst b bs ss)))
+    abbrev room : Bool
+    room = leb (size (split_area i ini rst b bs ss)) most
 
-    splits : S ≡ if_so q
+    splits : S ≡ if_fits room (next (state_of (split_area i ini rst b bs ss)))
     splits =
         let own = stored_initial_own p k pivot here L.2 (monic_at i b.P R.monic.0) in
         ap (λ (r : Rule). apply (limits_in most) p (map branch_of bs) (reverse (map system_of ss)) r (branch_of b)) rule
         ∙ apply_split (limits_in most) p b bs ss R.sound.branches.0 k i ini rst s u₀ of_ini own of_rst most refl (omega (arith, H.fits)) R.listed
-        ∙ ap if_so (sym u.answer)
 
-    pub split_next : q ≡ true → (a : Area) × (S ≡ next (state_of a)) × Held v most a × Ready p a
-    split_next e = (split_area i ini rst b bs ss, splits ∙ ap if_so e, u.held e, ready_split)
+    if_room : {o : Bool} → room ≡ o → S ≡ if_fits o (next (state_of (split_area i ini rst b bs ss)))
+    if_room e = splits ∙ ap (λ o. if_fits o (next (state_of (split_area i ini rst b bs ss)))) e
 
-    pub split_stop : q ≡ false → (S ≡ stopped Room) × ((c : Stored) × Held v most (with_open c bs ss))
-    split_stop e =
+    pub split_next : IsOk q → (a : Area) × (S ≡ next (state_of a)) × Held v most a × Ready p a
+    split_next e = (split_area i ini rst b bs ss, if_room (has_room u.answer e), u.held e, ready_split)
+
+    pub split_stop : (why : Reason) → q ≡ Err why → (S ≡ stopped why) × ((c : Stored) × Held v most (with_open c bs ss))
+    split_stop why e =
         let o = unfinished_split_opens most i ini rst b bs ss in
-        (splits ∙ ap if_so e, (o.0, subst (Held v most) o.1 (u.otherwise e)))
+        let x : IsErr q = subst IsErr (sym e) refl in
+        let z : Room ≡ why = err_same (sym (for_room room u.answer x) ∙ e) in
+        (if_room (lacks_room u.answer x) ∙ ap stopped z, (o.0, subst (Held v most) o.1 (u.otherwise x)))

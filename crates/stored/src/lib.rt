@@ -16,7 +16,7 @@ pub fn term(w: &[Record], i: usize) -> Term
     let [coefficient, high, low, _] = w[i];
     Term {
         coefficient: u64::from(coefficient),
-        monomial: (u64::from(high) << 32) + u64::from(low),
+        monomial: monomials::packed(high, low),
     }
 }
 
@@ -36,7 +36,7 @@ pub fn load(w: &[Record], at: usize, out: &mut [Term]) -> usize
 }
 
 // Where the k polynomials from record `at` on end.
-#[tactic(auto, using(crate::proofs::Laws::size_in, crate::proofs::Laws::walk_more, crate::proofs::Laws::walk_in))]
+#[tactic(auto, using(crate::proofs::Laws::size_in, crate::proofs::Laws::skip_in, crate::proofs::Laws::walk_more, crate::proofs::Laws::walk_in))]
 pub fn skip(w: &[Record], at: usize, k: usize) -> usize
     requires { skip_to (view w.now) at k ≤ length w.now }
     ensures { result ≡ skip_to (view w.now) at k }

@@ -1,10 +1,16 @@
--- The modulus of a table is a prime, and the area is ready.
+-- The modulus of a table is a prime.
 use Rattle.std.proofs.Common.{arith}
-use Rattle.loading.proofs.MonicLaws.{readable_modulus}
+use Rattle.tables.specs.laws.Accepted.{readable_numbers}
 use Rattle.elimination.proofs.run_started.Goals as goal
 
-pub run_short-requires : goal.run_short-requires
-run_short-requires c = (readable_modulus c.args.table.readable, c.requires.ready, c.requires.in_bounds)
+pub new-p-requires-clause-positive : goal.new-p-requires-clause-positive
+new-p-requires-clause-positive c = omega (arith, c.from.ensures, (readable_numbers _ _ _ c.args.table.readable).prime.two≤)
 
-pub run_long-requires : goal.run_long-requires
-run_long-requires c = (readable_modulus c.args.table.readable, omega arith, c.requires.ready)
+pub new-p-requires-clause-below : goal.new-p-requires-clause-below
+new-p-requires-clause-below c = omega (arith, c.from.ensures, (readable_numbers _ _ _ c.args.table.readable).below)
+
+pub run_short-requires-clause-prime : goal.run_short-requires-clause-prime
+run_short-requires-clause-prime c = rw (c.new-p.ensures, c.from.ensures) (readable_numbers _ _ _ c.args.table.readable).prime
+
+pub run_long-requires-clause-prime : goal.run_long-requires-clause-prime
+run_long-requires-clause-prime c = rw (c.new-p.ensures, c.from.ensures) (readable_numbers _ _ _ c.args.table.readable).prime

@@ -37,10 +37,10 @@ monic-requires-clause-canonical c =
     R.holds.canonical
 
 pub split-requires-clause-storable : goal.split-requires-clause-storable
-split-requires-clause-storable c = sound_storable c.args.p (omega (arith, c.requires.opened.1.below)) c.args.t.now c.requires.sound.0
+split-requires-clause-storable c = sound_storable c.args.p (omega (arith, c.get.ensures.below)) c.args.t.now c.requires.sound.0
 
 pub split-requires-clause-storable_2 : goal.split-requires-clause-storable_2
-split-requires-clause-storable_2 c = sound_storable c.args.p (omega (arith, c.requires.opened.1.below)) c.args.i.now c.requires.sound_2.0
+split-requires-clause-storable_2 c = sound_storable c.args.p (omega (arith, c.get.ensures.below)) c.args.i.now c.requires.sound_2.0
 
 pub split-requires-clause-storable_3 : goal.split-requires-clause-storable_3
 split-requires-clause-storable_3 c =
@@ -48,7 +48,7 @@ split-requires-clause-storable_3 c =
     let i = c.args.i.now in
     let R = the_rest c.args.p c.args.k t i c.args.r.now c.copy_from_slice.new.self c.requires.sound c.requires.sound_2 c.requires.opened.2
     (c.copy_from_slice.ensures.after ∙ between_to_end t (length i) (length t) (omega arith)) in
-    let made = made_by c.args.p (length t - length i) (c.copy_from_slice.new.self ++ drop (length t - length i) c.args.r.now) c.monic.new.f c.requires.opened.1 (R.inside, R.holds)
+    let made = made_by c.args.p (length t - length i) (c.copy_from_slice.new.self ++ drop (length t - length i) c.args.r.now) c.monic.new.f c.requires.opened.1 c.get.ensures.below (R.inside, R.holds)
     c.monic.auto.f c.monic.ensures.is c.monic.ensures.in_words in
     made_storable made
 
@@ -58,6 +58,6 @@ returns-clause-sound_3 c =
     let i = c.args.i.now in
     let R = the_rest c.args.p c.args.k t i c.args.r.now c.copy_from_slice.new.self c.requires.sound c.requires.sound_2 c.requires.opened.2
     (c.copy_from_slice.ensures.after ∙ between_to_end t (length i) (length t) (omega arith)) in
-    let made = made_by c.args.p (length t - length i) (c.copy_from_slice.new.self ++ drop (length t - length i) c.args.r.now) c.monic.new.f c.requires.opened.1 (R.inside, R.holds)
+    let made = made_by c.args.p (length t - length i) (c.copy_from_slice.new.self ++ drop (length t - length i) c.args.r.now) c.monic.new.f c.requires.opened.1 c.get.ensures.below (R.inside, R.holds)
     c.monic.auto.f c.monic.ensures.is c.monic.ensures.in_words in
     (made_sound made, made_monic made ∙ ap (monic c.args.p) R.is, made_behind made ∙ R.behind)

@@ -1,34 +1,32 @@
 -- Another member of P is found, or the pivot is moved to T.
-use Rattle.std.proofs.Common.{refl, sym, ◌∙◌, map}
+use Rattle.std.proofs.Common.{sym, ap, ◌∙◌, map}
 use Rattle.polynomials.specs.Packed.{terms}
 use Rattle.rules.specs.Branch.{other}
+use Rattle.records.specs.Records.{view}
+use Rattle.branches.specs.Area.{Stored}
 use Rattle.branches.proofs.LengthLaws.{held_by}
 use Rattle.pivots.proofs.AimLaws.{aims_at, aims_all}
+use Rattle.pivots.proofs.prepare_division.Goals.{in-Some, in-None}
 use Rattle.pivots.proofs.prepare_division.Goals as goal
 
-pub returns-in-Some : goal.returns-in-Some
-returns-in-Some c =
-    let a = c.args in
-    record {
-      when_open_3 = λ b bs ss H. aims_at _ _ _ _ a.place b bs ss _ _ (other a.k a.place (map terms b.P)) _ _
-          (sym (c.find_other.ensures b bs ss H) ∙ c.in-Some.is) c.degree-degree.ensures H;
-      outside_stays = refl;
-    }
-
-pub count_q-q-requires : goal.count_q-q-requires
-count_q-q-requires c =
+pub count_q-requires : goal.count_q-requires
+count_q-requires c =
     let o = c.requires.opened.0 in
     (_, _, _, held_by _ _ c.args.w.now c.close.new.w (sym c.close.auto.w) (c.close.ensures.open_becomes o.0 o.1 o.2 o.3))
 
-pub returns-in-None : goal.returns-in-None
-returns-in-None c =
+pub returns : goal.returns
+returns c =
     let a = c.args in
-    let w = a.w.now in
+    let O = λ (b : Stored). other a.k a.place (map terms b.P) in
     record {
-      when_open_3 = λ b bs ss H.
-          let moved = c.close.ensures.open_becomes b bs ss H in
-          let there = held_by _ _ w c.close.new.w (sym c.close.auto.w) moved in
-          aims_all _ _ _ _ a.place b bs ss _ _ (other a.k a.place (map terms b.P)) _ _
-          (sym (c.find_other.ensures b bs ss H) ∙ c.in-None.is) c.degree-degree.ensures (c.count_q-q.ensures _ _ _ there) moved;
-      outside_stays = c.close.ensures.outside_stays;
+      when_open_3 = λ b bs ss H. elim c.match-find_other.branch [
+        | in-Some w ↦
+            aims_at a.k _ _ a.initial a.place b bs ss _ _ (O b) _ _ w.dividends-is (ap view w.w-is) (sym (c.find_other.ensures b bs ss H) ∙ w.in-Some.is)
+            c.degree-degree.ensures H
+        | in-None w ↦
+            let moved = w.close.ensures.open_becomes b bs ss H in
+            let there = held_by _ _ a.w.now w.close.new.w (sym w.close.auto.w) moved in
+            aims_all a.k _ _ a.initial a.place b bs ss _ _ (O b) _ _ w.dividends-is (ap view w.w-is) (sym (c.find_other.ensures b bs ss H) ∙ w.in-None.is)
+            c.degree-degree.ensures (w.count_q.ensures _ _ _ there) moved
+      ];
     }

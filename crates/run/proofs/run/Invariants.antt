@@ -3,14 +3,12 @@
 use Rattle.std.specs.Prelude.{◌≡◌, true, ◌-◌, ◌<◌, length, take}
 use Rattle.polynomials.specs.Division.{degree}
 use Rattle.polynomials.specs.Packed.{terms}
-use Rattle.branches.specs.Area.{outside}
 use Rattle.run.proofs.Invariants.{AtRun, AtMembers, AtDivision}
 use Rattle.run.proofs.run.Given as goal
 
 abbrev pub invariant-run : goal.invariant-run
 invariant-run l = record {
   runs : AtRun l.p l.limit l.from l.fn.w l.w l.steps;
-  outside_w : outside l.w ≡ outside l.fn.w;
   crowds : l.crowded ≡ true → length l.fn.x < 512;
 }
 
@@ -19,8 +17,7 @@ decreases-run l = l.limit - l.steps
 
 abbrev pub invariant-members : goal.invariant-members
 invariant-members l = record {
-  divides : AtMembers l.p l.k (terms (take l.pivot l.t)) l.closing l.place l.initial.left l.initial.w l.w l.left;
-  outside_w : outside l.w ≡ outside l.initial.w;
+  divides : AtMembers l.p l.k (terms (take l.pivot l.t)) l.dividends l.initial.left l.initial.w l.w l.left;
   crowds : l.crowded ≡ true → length l.fn.x < 512;
 }
 

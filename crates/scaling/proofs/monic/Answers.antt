@@ -8,13 +8,13 @@ use Rattle.polynomials.specs.Packed.{terms}
 use Rattle.polynomials.specs.declared.Term.{Term as Packed}
 use Rattle.polynomials.specs.laws.Merge.{scaled}
 use Rattle.polynomials.specs.laws.Product.{coefficient_below}
-use Rattle.scaling.proofs.ScaledLaws.{scale, monic_none, none_in_words, more_in_words, all_in_words, leads, next_unscaled, all_scaled}
+use Rattle.scaling.proofs.ScaledLaws.{scale, monic_none, each_of_none, more_in_words, all_in_words, leads, next_unscaled, all_scaled}
 use Rattle.scaling.proofs.monic.Goals as goal
 
 pub returns-in_default : goal.returns-in_default
 returns-in_default c = record {
   is = monic_none c.args.p c.args.f.now (search rules);
-  in_words = none_in_words c.args.f.now (search rules);
+  in_words = each_of_none _ c.args.f.now (search rules);
 }
 
 pub invert-c-requires : goal.invert-c-requires

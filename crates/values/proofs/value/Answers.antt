@@ -17,7 +17,9 @@ loop-term-init c = record {
 pub term_value-requires-clause-le_p : goal.term_value-requires-clause-le_p
 term_value-requires-clause-le_p c =
     let l = c.loop-term in
-    (omega arith, (canonical_at c.args.p c.args.f.now l.term-index _ (omega arith) l.invariant.canonical).0)
+    let none : Packed = record { coefficient = 0; monomial = 0 } in
+    let residue : (get_or c.args.f.now l.term-index none).coefficient < c.args.p = (canonical_at c.args.p c.args.f.now l.term-index none (omega arith) l.invariant.canonical).0 in
+    (omega arith, search rules)
 
 pub loop-term-preserved : goal.loop-term-preserved
 unfolding sum

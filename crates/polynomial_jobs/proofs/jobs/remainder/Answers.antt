@@ -3,23 +3,11 @@ use Rattle.std.proofs.lemmas.Result.{err_from_is_err_and}
 use Rattle.polynomials.specs.Packed.{terms}
 use Rattle.polynomials.specs.Division.{initial, coefficient}
 use Rattle.polynomials.specs.laws.Parts.{at_leader}
-use Rattle.polynomial_jobs.proofs.Rounds.{leader_below, formed_next, passed_next, done, used}
+use Rattle.polynomial_jobs.proofs.Rounds.{formed_next, passed_next, done, used}
 use Rattle.polynomial_jobs.proofs.jobs.remainder.Goals as goal
 
-pub degree-d-requires : goal.degree-d-requires
-degree-d-requires c = record { k_bound = leader_below c.args.t.now c.args.k c.requires.holds.1 }
-
-pub degree-requires : goal.degree-requires
-degree-requires c = record { k_bound = leader_below c.args.t.now c.args.k c.requires.holds.1 }
-
-pub round-requires-clause-le_p : goal.round-requires-clause-le_p
-round-requires-clause-le_p c =
-    let t = c.args.t.now in (
-      c.requires.le_p.0,
-      c.requires.le_p.1,
-      leader_below t c.args.k c.requires.holds.1,
-      omega (arith, c.degree-d.ensures, at_leader (terms t) c.args.k c.requires.holds.1),
-    )
+pub round-requires-clause-d_positive : goal.round-requires-clause-d_positive
+round-requires-clause-d_positive c = omega (arith, c.degree-d.ensures, at_leader (terms c.args.t.now) c.args.k c.requires.holds.1)
 
 pub round-requires-clause-holds_2 : goal.round-requires-clause-holds_2
 unfolding initial
@@ -32,7 +20,7 @@ returns-in_err-n c =
     rw (e.1, e.2, sym c.degree-d.ensures) (passed_next c.loop-round.invariant (omega arith) (omega (arith, c.degree.ensures)) _ c.round.result _ c.in_err-n.was c.round.ensures)
 
 pub loop-round-preserved : goal.loop-round-preserved
-loop-round-preserved c = formed_next c.loop-round.invariant c.requires.le_p.0 (omega arith) (omega (arith, c.degree.ensures)) _ c.round.result _ c.in_ok-n.was c.round.ensures
+loop-round-preserved c = formed_next c.loop-round.invariant (omega (arith, c.well_formed.0)) (omega arith) (omega (arith, c.degree.ensures)) _ c.round.result _ c.in_ok-n.was c.round.ensures
 
 pub returns-then-degree-d : goal.returns-then-degree-d
 returns-then-degree-d c = rw (sym c.degree-d.ensures) (done c.loop-round.invariant (omega (arith, c.degree.ensures)))

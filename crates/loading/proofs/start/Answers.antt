@@ -1,8 +1,9 @@
 -- An empty branch, then P's chain, then Q's. All is said of the records that there were at entry.
-use Rattle.std.proofs.Common.{refl, ◌∙◌, length, arith}
+use Rattle.std.proofs.Common.{refl, ◌∙◌, length, arith, rules}
 use Rattle.std.proofs.lemmas.Result.{err_from_is_err_and}
 use Rattle.records.specs.Records.{view}
-use Rattle.loading.proofs.StartLaws.{chains_read, no_polynomial, alone_empty, alone_in, filled_in, with_zeros, zeros_put, start_none, start_fails, start_put}
+use Rattle.words.proofs.Accepted.{chains_read, chain_read}
+use Rattle.loading.proofs.StartLaws.{no_polynomial, alone_empty, alone_in, filled_in, with_zeros, zeros_put, start_none, start_fails, start_put}
 use Rattle.loading.proofs.start.Goals as goal
 
 pub returns-then-work-lt2-clause-started : goal.returns-then-work-lt2-clause-started
@@ -10,7 +11,7 @@ returns-then-work-lt2-clause-started c t e = let w = c.args.work.now in start_no
 
 pub put_heads-requires-clause-are_read : goal.put_heads-requires-clause-are_read
 put_heads-requires-clause-are_read c =
-    let q = c.requires.accepted in (q.0.P, rw c.word.ensures (chains_read c.requires.header q.1).zeros)
+    let q = c.requires.accepted in chain_read c.requires.header q.1 (search rules)
 
 pub put_heads-requires-clause-alone : goal.put_heads-requires-clause-alone
 put_heads-requires-clause-alone c = (no_polynomial, alone_in c.begin.auto.w (alone_empty c.begin.ensures.held))
@@ -24,7 +25,7 @@ returns-in_err-put_heads-clause-started c t e =
 
 pub put_heads-requires-2-clause-are_read : goal.put_heads-requires-2-clause-are_read
 put_heads-requires-2-clause-are_read c =
-    let q = c.requires.accepted in (q.0.Q, rw c.word-2.ensures (chains_read c.requires.header q.1).nonzeros)
+    let q = c.requires.accepted in chain_read c.requires.header q.1 (search rules)
 
 pub put_heads-requires-2-clause-alone : goal.put_heads-requires-2-clause-alone
 put_heads-requires-2-clause-alone c =

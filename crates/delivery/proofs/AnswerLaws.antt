@@ -1,14 +1,13 @@
 -- The answer of a finished run whose list is written.
-use mathlib.Core.Path.{◌≡◌, refl, sym, ap, ◌∙◌, subst}
+use mathlib.Core.Path.{◌≡◌, sym, ap, ◌∙◌, subst}
 use mathlib.Core.Bool.{Bool, true, false}
 use mathlib.Core.List.{List, [], ◌++◌, map, reverse}
-use Prim.Native.Nat.{ℕ, ◌*◌, ◌≤◌, ◌<◌}
+use Prim.Native.Nat.{ℕ, ◌*◌, ◌≤◌}
 use native.Mathlib.Omega.{arith}
-use borrow.Author.Tests.{lt-ltb, le-ltb}
+use borrow.Author.Tests.{le-ltb}
 use lib.ListN.{length, drop}
 use Rattle.records.specs.Records.{Rec}
 use Rattle.tables.specs.Read.{Input}
-use Rattle.tables.specs.declared.Reason.{Reason}
 use Rattle.tables.specs.declared.Reason.TheVariants.{Output}
 use Rattle.rules.specs.Written.{list_words, list_records}
 use Rattle.rules.proofs.laws.Lengths.{length_list}
@@ -18,7 +17,7 @@ use Rattle.branches.specs.Area.{Stored, Held}
 use Rattle.representation.specs.Represent.{AllListed, system_of}
 use Rattle.writing.specs.Listed.{listing_of}
 use Rattle.run.specs.declared.Answer.{Answer}
-use Rattle.run.specs.declared.Outcome.TheVariants.{Systems, Refused}
+use Rattle.run.specs.declared.Outcome.TheVariants.{Systems}
 use Rattle.run.specs.Stretch.{outcome_of, Ran}
 use Rattle.delivery.specs.Delivered.{Delivered}
 

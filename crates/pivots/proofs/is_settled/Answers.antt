@@ -1,4 +1,4 @@
--- `is_one` tests for 1, and `q_contains` answers for Q.
+-- Of f other than 1 `q_contains` answers.
 use Rattle.std.proofs.Common.{sym, ap, ◌∙◌, Bool, ◌||◌}
 use Rattle.stored.specs.Stored.{member}
 use Rattle.pivots.proofs.is_settled.Goals as goal

@@ -3,7 +3,7 @@ use Rattle.std.proofs.Common.{refl, ◌∙◌, ◌/◌, length, arith}
 use Rattle.records.specs.Records.{view}
 use Rattle.rules.specs.Run.{run_of}
 use Rattle.representation.specs.Ready.{limits_in}
-use Rattle.loading.proofs.StartLaws.{chains_read}
+use Rattle.words.proofs.Accepted.{chains_read}
 use Rattle.elimination.proofs.WholeLaws.{no_room, run_leaves, started_in_two, begins, run_is}
 use Rattle.elimination.proofs.eliminate_accepted.Goals as goal
 

@@ -77,10 +77,10 @@ module _ (w : List (List ℕ)) (out out' : List ℕ) (p j m next : ℕ) (some : 
   abbrev lo : ℕ
   lo = get_or (get_or w j []) 2 0
 
-  high : get_or (get_or w j []) 1 0 < 4294967296
+  high : hi < 4294967296
   high = omega (arith, fits (4 * p + 1), ap (λ (l : List ℕ). get_or l (4 * p + 1) 0) is, record_word out (4 * p) c hi lo next 1 (omega arith))
 
-  low : get_or (get_or w j []) 2 0 < 4294967296
+  low : lo < 4294967296
   low = omega (arith, fits (4 * p + 2), ap (λ (l : List ℕ). get_or l (4 * p + 2) 0) is, record_word out (4 * p) c hi lo next 2 (omega arith))
 
   pub terms_on : over out' (4 * (p + 1)) (terms_words (p + 1) (terms_in (view w) (j + 1) (m - 1))) ≡ over out (4 * p) (terms_words p (terms_in (view w) j m))
@@ -118,7 +118,7 @@ length_polys_at v i zero = refl
 length_polys_at v i (suc k) = ap suc (length_polys_at v (i + 1 + size_at v i) k)
 
 -- Polynomials take as many records in a list as in the work area.
-pub size_polys_at : (v : List Rec) (i k : ℕ) → skip_to v i k ≤ length v → i + polynomials_size (map terms (polys_at v i k)) ≡ skip_to v i k
+size_polys_at : (v : List Rec) (i k : ℕ) → skip_to v i k ≤ length v → i + polynomials_size (map terms (polys_at v i k)) ≡ skip_to v i k
 unfolding polynomials_size
 size_polys_at v i zero h = omega arith
 size_polys_at v i (suc k) h =
@@ -151,8 +151,7 @@ module _ (w : List (List ℕ)) (out : List ℕ) (at i k j first next : ℕ) (som
       let head : first ≡ index_of f (suc at) = index_is f (suc at) first (λ h. omega (arith, full (omega arith))) (λ h. empty (omega arith)) in
       let link : next ≡ index_of fs (suc (at + length f)) =
       index_is fs (suc (at + length f)) next (λ h. omega (arith, more (omega arith))) (λ h. last (omega arith)) in
-      ap (λ (l : List (List Packed)). over out (4 * at) (heads_words at (map terms l)))
-      (polys_on w i k j some)
+      ap (λ (l : List (List Packed)). over out (4 * at) (heads_words at (map terms l))) (polys_on w i k j some)
       ∙ sym (λ t. over out (4 * at) (head t ∷ 0 ∷ 0 ∷ link t ∷ (terms_words (sp t) f ++ heads_words (sp' t) fs)))
       ∙ sym (record_behind out at (at + 1) first 0 0 next (terms_words (at + 1) f ++ heads_words p' fs) refl (omega arith))
       ∙ sym (over_behind mid (4 * (at + 1)) (terms_words (at + 1) f) (4 * p') (heads_words p' fs) (omega (arith, size_in w i)) (omega (arith, size_in w i)))
@@ -168,14 +167,6 @@ pub heads_all : (v : List Rec) (out : List ℕ) (at p i k : ℕ) → skip_to v i
 heads_all v out at p i k inside =
     paste_over out at (heads_words p (map terms (polys_at v i k))) (4 * (skip_to v i k - i))
     (omega (arith, length_heads p (map terms (polys_at v i k)), size_polys_at v i k inside))
-
--- Heads written, by the polynomials that they are of.
-pub heads_over : (o o' : List ℕ) (p n : ℕ) (fs gs : List (List Packed)) → o' ≡ paste o (4 * p) (heads_words p (map terms fs)) (4 * n) → fs ≡ gs
-    → polynomials_size (map terms gs) ≡ n → o' ≡ over o (4 * p) (heads_words p (map terms gs))
-heads_over o o' p n fs gs e same l =
-    let H : List ℕ = heads_words p (map terms gs) in
-    e ∙ ap (λ (hs : List (List Packed)). paste o (4 * p) (heads_words p (map terms hs)) (4 * n)) same
-    ∙ paste_over o (4 * p) H (4 * n) (omega (arith, length_heads p (map terms gs)))
 
 -- ── what each function's proof takes ──
 pub ruleset rows = (length_view, size_in, terms_poly, terms_end, terms_over)

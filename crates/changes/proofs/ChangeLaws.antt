@@ -8,7 +8,7 @@ use Rattle.records.specs.Records.{Rec, view}
 use Rattle.stored.specs.Stored.{skip_to}
 use Rattle.branches.specs.Words.{remove}
 use Rattle.branches.specs.laws.Words.{length_remove}
-use Rattle.branches.specs.Area.{Stored, Held, HeldIn, size, with_open, without_p, without_q, closed, OpenBecomes}
+use Rattle.branches.specs.Area.{Stored, Held, HeldIn, with_open, without_p, without_q, closed, OpenBecomes}
 use Rattle.branches.proofs.LengthLaws.{held_by}
 use Rattle.branches.specs.declared.Member.{Member}
 use Rattle.branches.specs.declared.Member.TheVariants.{P, Q}
@@ -17,7 +17,8 @@ use Rattle.branches.specs.declared.Open.{Open}
 use Rattle.branches.specs.Open.{open_of}
 use Rattle.branches.proofs.MemberLaws.{members_behind, parted_at, parted_without}
 use Rattle.branches.proofs.OpenLaws.{p_is, q_is, end_q}
-use Rattle.places.specs.Places.{More, Counts, PutAt, TakeAt}
+use Rattle.branches.proofs.RowLaws.{end_row, top_row}
+use Rattle.places.specs.Places.{More, Counts, PutAt, TakeAt, free_records}
 use Rattle.branches.proofs.LeavesLaws.{size_free}
 use Rattle.places.proofs.PlaceLaws.{more_size, counts_are}
 use Rattle.polynomials.specs.declared.Term.{Term as Packed}
@@ -77,10 +78,10 @@ module _ (b : Stored) (i : ℕ) where
   counts_t : {p q t : ℕ} → Counts p q t (without_p i b) → Counts p q (t + 1) (closed i b)
   counts_t n = record { in_p = n.in_p; in_q = n.in_q; in_t = omega (arith, n.in_t) }
 
-  -- It takes the room that it took.
-  pub closed_fits : (w w₁ : List (List ℕ)) {bs ss : List Stored} → length w₁ ≡ length w → i < length b.P → HeldIn w (with_open b bs ss)
-      → size (with_open (closed i b) bs ss) ≤ length w₁
-  closed_fits w w₁ {bs} {ss} same h H = omega (arith, more_size more_t bs ss, more_size (more_member (P i) b h) bs ss, size_free H)
+  -- As many records are free as it took, at the least.
+  pub freed : (w w₁ : List (List ℕ)) {bs ss : List Stored} → length w₁ ≡ length w → i < length b.P → HeldIn w (with_open b bs ss)
+      → HeldIn w₁ (with_open (without_p i b) bs ss) → length (get_or b.P i []) + 1 ≤ free_records w₁
+  freed w w₁ {bs} {ss} same h H K = omega (arith, more_size (more_member (P i) b h) bs ss, size_free H, size_free K, top_row w₁ K, end_row w₁ K)
 
 -- The member of P that was taken out, f, goes in before T, behind Q.
 module _ {w : List (List ℕ)} (b : Stored) (i : ℕ) {bs ss : List Stored} (H : HeldIn w (with_open (without_p i b) bs ss))

@@ -35,5 +35,5 @@ pub fn close(w: &mut [Record], i: usize, f: &[Term])
     let b = branches::open_branch(w);
     let to = stored::skip(w, stored::skip(w, b.first, b.p as usize), b.q as usize);
     // There is room: as much has been taken out.
-    let _ = places::put_at(w, to, f, b.p, b.q, b.t + 1);
+    places::put_in(w, to, f, b.p, b.q, b.t + 1);
 }

@@ -1,14 +1,13 @@
--- The answer of a run, delivered: refused as it is, refused for want of output, or with the list written.
-use mathlib.Core.Path.{◌≡◌, refl, sym, ap, ◌∙◌, subst}
+-- The answer of a finished run whose list is written.
+use mathlib.Core.Path.{◌≡◌, sym, ap, ◌∙◌, subst}
 use mathlib.Core.Bool.{Bool, true, false}
 use mathlib.Core.List.{List, [], ◌++◌, map, reverse}
-use Prim.Native.Nat.{ℕ, ◌*◌, ◌≤◌, ◌<◌}
+use Prim.Native.Nat.{ℕ, ◌*◌, ◌≤◌}
 use native.Mathlib.Omega.{arith}
-use borrow.Author.Tests.{lt-ltb, le-ltb}
+use borrow.Author.Tests.{le-ltb}
 use lib.ListN.{length, drop}
 use Rattle.records.specs.Records.{Rec}
 use Rattle.tables.specs.Read.{Input}
-use Rattle.tables.specs.declared.Reason.{Reason}
 use Rattle.tables.specs.declared.Reason.TheVariants.{Output}
 use Rattle.rules.specs.Written.{list_words, list_records}
 use Rattle.rules.proofs.laws.Lengths.{length_list}
@@ -18,7 +17,7 @@ use Rattle.branches.specs.Area.{Stored, Held}
 use Rattle.representation.specs.Represent.{AllListed, system_of}
 use Rattle.writing.specs.Listed.{listing_of}
 use Rattle.run.specs.declared.Answer.{Answer}
-use Rattle.run.specs.declared.Outcome.TheVariants.{Systems, Refused}
+use Rattle.run.specs.declared.Outcome.TheVariants.{Systems}
 use Rattle.run.specs.Stretch.{outcome_of, Ran}
 use Rattle.delivery.specs.Delivered.{Delivered}
 
@@ -30,31 +29,11 @@ module _ {p : ℕ} {r : Answer} {v : List Rec} {most : ℕ} where
   whole : {e : Ended} → Ran e p r.steps r.outcome v most → r ≡ record { steps = run_steps e; outcome = outcome_of e }
   whole x i = record { steps = x.steps i; outcome = x.outcome i }
 
-  pub refused_run : {e : Ended} {why : Reason} {at : ℕ} (t : Input) (room : ℕ) (out : List ℕ) → Ran e p r.steps r.outcome v most → r.outcome ≡ Refused why at
-      → Delivered (delivered room t e) r out out
-  refused_run {e = finished n ss} t room out x o =
-      let a = x.outcome in absurd (let z : ◌≡◌ {A = ℕ} 0 1 = cc in omega arith)
-  refused_run {e = refused n why} t room out x o = record { answer = whole x; output = refl }
-
   -- The systems that a finished run leaves.
   pub left_systems : {e : Ended} {n : ℕ} → Ran e p r.steps r.outcome v most → r.outcome ≡ Systems n
       → (ss : List Stored) × Held v most (record { branches = []; systems = ss }) × AllListed ss
   left_systems {e = finished n ss} x o = let l = x.left in (l.0, l.1, l.2.listed)
   left_systems {e = refused n why} x o =
-      let a = x.outcome in absurd (let z : ◌≡◌ {A = ℕ} 0 1 = cc in omega arith)
-
-  pub too_long : {e : Ended} {n : ℕ} (t : Input) (room m : ℕ) (out : List ℕ) → Ran e p r.steps r.outcome v most → r.outcome ≡ Systems n → Needs v most m → room < m
-      → Delivered (delivered room t e) (record { steps = r.steps; outcome = Refused Output 0 }) out out
-  too_long {e = finished n ss} t room m out x o needs h =
-      let l = x.left in
-      let size : m ≡ list_records ss = needs l.0 l.1 l.2.listed ∙ ap list_records l.3 in
-      let words : List ℕ = list_words (record { modulus = t.modulus; variables = t.variables; systems = ss }) in
-      let is : delivered room t (finished n ss) ≡ turned_back n Output 0 =
-      ap (λ (b : Bool). elim b as (λ b. Eliminated) [ true ↦ turned_back n Output 0 | false ↦ listed n ss words ])
-      (lt-ltb room (list_records ss) (omega arith)) in
-      subst (λ (d : Eliminated). Delivered d (record { steps = r.steps; outcome = Refused Output 0 }) out out) (sym is)
-      (record { answer = ap (λ (a : Answer). record { steps = a.steps; outcome = Refused Output 0 }) (whole x); output = refl })
-  too_long {e = refused n why} t room m out x o needs h =
       let a = x.outcome in absurd (let z : ◌≡◌ {A = ℕ} 0 1 = cc in omega arith)
 
   pub list_written : {e : Ended} {n : ℕ} (t : Input) (room m q k : ℕ) (out out' : List ℕ) → Ran e p r.steps r.outcome v most → r.outcome ≡ Systems n → Needs v most m

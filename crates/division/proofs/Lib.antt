@@ -1,2 +1,3 @@
+pub mod PivotLaws
 pub mod RemainderLaws
 pub mod RoundLaws

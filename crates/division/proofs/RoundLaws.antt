@@ -26,10 +26,10 @@ use Rattle.polynomials.specs.Bounds.{
   bounded_difference,
   bounded_round,
 }
-use Rattle.polynomials.specs.Working.{Holds, Written, Forms}
+use Rattle.polynomials.specs.Working.{Holds, Forms}
 use Rattle.polynomials.specs.declared.Term.{Term as Packed}
 use Rattle.polynomials.specs.declared.Passed.{Passed}
-use Rattle.polynomials.specs.declared.Passed.TheVariants.{Degree, Terms}
+use Rattle.polynomials.specs.declared.Passed.TheVariants.{Degree}
 use Rattle.polynomials.specs.laws.Order.{order_join}
 use Rattle.polynomials.specs.laws.Weigh.{weigh_add_multiple, weigh_difference}
 use Rattle.polynomials.specs.laws.Canonical.{canonical_add_multiple, canonical_difference, canonical_coefficient, canonical_ext}
@@ -41,9 +41,9 @@ use Rattle.polynomials.specs.laws.Places.{Places, places_terms, places_coefficie
 use Rattle.polynomials.specs.laws.Bounds.{no_degrees_over, degree_small}
 use Rattle.polynomials.specs.laws.Product.{product_length, row_fits}
 use Rattle.polynomials.specs.laws.Bounded.{at_most_over, product_within, product_formed}
-use Rattle.polynomials.specs.laws.Answers.{Answered, then_formed, then_passed, written_count}
-use Rattle.sums.proofs.MergeLaws.{within_terms_formed, over_terms_refused}
+use Rattle.polynomials.specs.laws.Answers.{Answered, then_formed, then_passed}
 use Rattle.division.specs.Lent.{lent_for_difference, lent_for_round}
+use Rattle.division.specs.declared.Pivot.{Pivot}
 
 byte_zero : (n k : ℕ) → get_or (bytes n 0) k 0 ≡ 0
 unfolding bytes
@@ -198,33 +198,33 @@ module _ (p : ℕ) (r t : List Packed) (room : 1 ≤ length r) (K : Holds p (tak
   row_refused s k d = subst (λ f. Forms (and_then (bounded_product standard p (terms f) (terms t)) k) (Err Degree) s) (sym (first_taken r room))
       (subst (λ x. Forms (and_then x k) (Err Degree) s) (sym (row_passed p positive (first r).coefficient (first r).monomial t (tested_first true d))) refl)
 
-  module _ (a : List Packed) (H : Holds p t) (A : Holds p a) (d : degrees_over (at_most 255) (terms (take 1 r)) (terms t) ≡ false)
-      (n : ℕ) (s : List Packed) (W : Written (add_multiple p (p - (first r).coefficient) (bytes 8 (first r).monomial) (terms t) (terms a)) n s) where
+  module _ (a : List Packed) (H : Holds p t) (A : Holds p a) (d : degrees_over (at_most 255) (terms (take 1 r)) (terms t) ≡ false) where
     same : tested standard (add_multiple p (p - (first r).coefficient) (bytes 8 (first r).monomial) (terms t) (terms a)) ≡ subtracted p (terms (take 1 r)) (terms t) (terms a)
     unfolding terms
     same = sym (ap (λ f. subtracted p (terms f) (terms t) (terms a)) (first_taken r room)
         ∙ row_tested p positive (first r).coefficient (first r).monomial t a factor_coefficient.1 H A.canonical (tested_first false d))
 
-    pub row_formed : n ≤ 256 → Forms (subtracted p (terms (take 1 r)) (terms t) (terms a)) (Ok n) s
-    row_formed few = subst (λ B. Forms B (Ok n) s) same (within_terms_formed _ n s W few)
+    pub row_formed : (q : Result ℕ Passed) (s : List Packed)
+        → Forms (tested standard (add_multiple p (p - (first r).coefficient) (bytes 8 (first r).monomial) (terms t) (terms a))) q s
+        → Forms (subtracted p (terms (take 1 r)) (terms t) (terms a)) q s
+    row_formed q s = subst (λ B. Forms B q s) same
 
-    pub row_too_long : 256 < n → Forms (subtracted p (terms (take 1 r)) (terms t) (terms a)) (Err Terms) s
-    row_too_long many = subst (λ B. Forms B (Err Terms) s) same (over_terms_refused _ s (omega (arith, written_count _ n s W)))
-
--- ── a round, from what its calls answered: I is the initial and L the factor ──
-module _ (p k d : ℕ) (G R I : Poly) (initial : I ≡ coefficient k d G) (s : List Packed) where
+-- ── a round, from what its calls answered ──
+module _ (v : Pivot) (R : Poly) (s : List Packed) where
   abbrev after : Poly → Bounded
-  after x = subtracted p (factor k d R) G x
+  after x = subtracted v.p (factor v.k v.d R) (terms v.divisor.now) x
 
-  round_is : and_then (bounded_product standard p I R) after ≡ bounded_round standard p k d G R
+  round_is : and_then (bounded_product standard v.p (terms v.initial.now) R) after ≡ bounded_round standard v.p v.k v.d (terms v.divisor.now) R
   unfolding bounded_round
-  round_is = ap (λ I. and_then (bounded_product standard p I R) after) initial
+  round_is = ap (λ I. and_then (bounded_product standard v.p I R) after) v.of_initial
 
-  pub round_formed : (n : ℕ) (x : List Packed) (r : Result ℕ Passed) (L : Poly) → Answered p (bounded_product standard p I R) n x → L ≡ factor k d R →
-      Forms (subtracted p L G (terms (take n x))) r s → Forms (bounded_round standard p k d G R) r s
+  pub round_formed : (n : ℕ) (x : List Packed) (r : Result ℕ Passed) (L : Poly) → Answered v.p (bounded_product standard v.p (terms v.initial.now) R) n x
+      → L ≡ factor v.k v.d R → Forms (subtracted v.p L (terms v.divisor.now) (terms (take n x))) r s
+      → Forms (bounded_round standard v.p v.k v.d (terms v.divisor.now) R) r s
   round_formed n x r L A q F =
       subst (λ B. Forms B r s) round_is
-      (then_formed (bounded_product standard p I R) after s p n x r A (subst (λ L. Forms (subtracted p L G (terms (take n x))) r s) q F))
+      (then_formed (bounded_product standard v.p (terms v.initial.now) R) after s v.p n x r A (subst (λ L. Forms (subtracted v.p L (terms v.divisor.now) (terms (take n x))) r s) q F))
 
-  pub round_passed : (e : Passed) (r : Result ℕ Passed) (x : List Packed) → r ≡ Err e → Forms (bounded_product standard p I R) r x → Forms (bounded_round standard p k d G R) (Err e) s
-  round_passed e r x q F = subst (λ B. Forms B (Err e) s) round_is (then_passed (bounded_product standard p I R) after s e r x q F)
+  pub round_passed : (e : Passed) (r : Result ℕ Passed) (x : List Packed) → r ≡ Err e → Forms (bounded_product standard v.p (terms v.initial.now) R) r x
+      → Forms (bounded_round standard v.p v.k v.d (terms v.divisor.now) R) (Err e) s
+  round_passed e r x q F = subst (λ B. Forms B (Err e) s) round_is (then_passed (bounded_product standard v.p (terms v.initial.now) R) after s e r x q F)

@@ -1,14 +1,16 @@
-// One round of the division of R by T in v(k+1): R becomes I×R minus L×v(k+1)^(e−d)×T, with T of degree d and initial I,
+// One round of the division of R by T in v(k+1): R becomes I×R minus L×v(k+1)^(e−d)×T, with T of degree d and initial I (a `Pivot`),
 // R of degree e ≥ d, and L the coefficient of the highest power in R.
 #![tactic(auto)]
 
 ghost use Rattle.std.specs.Prelude.{◌≡◌, ◌+◌, ◌≤◌, length, take};
+ghost use Rattle.std.proofs.Props.{props};
 ghost use Rattle.polynomials.specs.Bounds.{standard, bounded_product, bounded_difference, bounded_round, and_then};
 ghost use Rattle.polynomials.specs.Division.{degree, coefficient};
 ghost use Rattle.polynomials.specs.Packed.{terms};
 ghost use Rattle.polynomials.specs.Working.{Holds, Forms};
 ghost use Rattle.products.specs.Lent.{lent_for_product};
 ghost use Rattle.division.specs.Lent.{lent_for_difference, lent_for_round};
+ghost use Rattle.division.specs.Props.{Canonical-prop};
 
 use monomials::Variable;
 use polynomials::{Passed, Term};
@@ -19,35 +21,44 @@ const ONE: Term = Term {
     monomial: 0,
 };
 
-// R, the first n terms of r, becomes what one round leaves. i is T's initial, t is T; x, y and z are lent besides. Stack: that of `product`,
+// What divides: T, a polynomial modulo p of degree d ≥ 1 in v(k+1), with its initial.
+#[derive(Clone, Copy)]
+pub struct Pivot<'a> {
+    pub p: Modulus,
+    pub k: Variable,
+    pub d: u64,
+    pub initial: &'a [Term],
+    pub divisor: &'a [Term],
+    ghost some: { 1 ≤ d },
+    ghost holds: { Holds p divisor.now } by { Prim.hlevel (props, Canonical-prop) },
+    ghost of_degree: { degree k (terms divisor.now) ≡ d },
+    ghost initial_holds: { Holds p initial.now } by { Prim.hlevel (props, Canonical-prop) },
+    ghost of_initial: { terms initial.now ≡ coefficient k d (terms divisor.now) },
+}
+
+// R, the first n terms of r, of degree e, becomes what one round leaves. x, y and z are lent besides. Stack: that of `product`,
 // so none to speak of in buffers below 512 terms.
 pub fn round(
-    p: Modulus,
-    k: Variable,
-    d: u64,
+    pivot: &Pivot<'_>,
     e: u64,
-    i: &[Term],
-    t: &[Term],
     r: &mut [Term],
     n: usize,
     x: &mut [Term],
     y: &mut [Term],
     z: &mut [Term],
 ) -> Result<usize, Passed>
-    requires degrees { (1 ≤ d) × (d ≤ e) }
-    requires pivot { Holds p t.now × (degree k (terms t.now) ≡ d) }
-    requires initial { Holds p i.now × (terms i.now ≡ coefficient k d (terms t.now)) }
+    requires at_least { pivot.now.d ≤ e }
     requires n_within { n ≤ length r.old }
-    requires dividend { Holds p (take n r.old) × (degree k (terms (take n r.old)) ≡ e) }
-    requires r_lent { lent_for_round n (length i.now) (length t.now) ≤ length r.old }
-    requires x_lent { lent_for_round n (length i.now) (length t.now) ≤ length x.old }
-    requires y_lent { lent_for_round n (length i.now) (length t.now) ≤ length y.old }
-    requires z_lent { lent_for_round n (length i.now) (length t.now) ≤ length z.old }
-    ensures { Forms (bounded_round standard p k d (terms t.now) (terms (take n r.old))) result r.new }
+    requires dividend { Holds pivot.now.p (take n r.old) × (degree pivot.now.k (terms (take n r.old)) ≡ e) }
+    requires r_lent { lent_for_round n (length pivot.now.initial.now) (length pivot.now.divisor.now) ≤ length r.old }
+    requires x_lent { lent_for_round n (length pivot.now.initial.now) (length pivot.now.divisor.now) ≤ length x.old }
+    requires y_lent { lent_for_round n (length pivot.now.initial.now) (length pivot.now.divisor.now) ≤ length y.old }
+    requires z_lent { lent_for_round n (length pivot.now.initial.now) (length pivot.now.divisor.now) ≤ length z.old }
+    ensures { Forms (bounded_round standard pivot.now.p pivot.now.k pivot.now.d (terms pivot.now.divisor.now) (terms (take n r.old))) result r.new }
 {
-    let a = times_initial(p, i, &r[..n], x, z)?;
-    let l = factors::factor(r, n, k, d, e);
-    subtract_product(p, t, r, l, &x[..a], y, z)
+    let a = times_initial(pivot.p, pivot.initial, &r[..n], x, z)?;
+    let l = factors::factor(r, n, pivot.k, pivot.d, e);
+    subtract_product(pivot.p, pivot.divisor, r, l, &x[..a], y, z)
 }
 
 // i times f, in the first terms of x. The initial is 1 in many divisions: then f is copied.
@@ -113,6 +124,5 @@ fn subtract_row(p: Modulus, t: &[Term], r: &mut [Term], a: &[Term]) -> Result<us
     if degrees::degrees_over(&r[..1], t) {
         return Err(Passed::Degree);
     }
-    let n = sums::add_multiple(p, p.get() - row.coefficient, row.monomial, t, a, r);
-    if n <= 256 { Ok(n) } else { Err(Passed::Terms) }
+    sums::within(sums::add_multiple(p, p.get() - row.coefficient, row.monomial, t, a, r))
 }

@@ -1,11 +1,10 @@
 -- Elimination whole: a table refused in reading, a start that finds no room, and the run of a start that finds it.
-use Rattle.std.specs.Prelude.{◌≡◌, refl, List, ℕ, ◌≤◌, length, Result, Ok, Err, is_ok, IsOk, IsErr}
-use Rattle.std.proofs.Common.{sym, ap, subst, ◌∙◌, arith}
+use Rattle.std.specs.Prelude.{◌≡◌, refl, List, ℕ, ◌≤◌, length, Result, Err, is_ok, IsOk}
+use Rattle.std.proofs.Common.{sym, ap, subst, ◌∙◌}
 use Rattle.std.proofs.lemmas.Bool.{false≢true}
 use Rattle.records.specs.Records.{Rec, capacity}
 use Rattle.tables.specs.Read.{Input}
 use Rattle.tables.specs.declared.Reason.{Reason}
-use Rattle.tables.specs.declared.Reason.TheVariants.{Room}
 use Rattle.rules.specs.Room.{Limits, State}
 use Rattle.rules.specs.Step.{Stepped, next, stopped}
 use Rattle.rules.specs.Run.{Ended, after_step, run, start, run_of}
@@ -45,15 +44,7 @@ module _ (t : Input) (most limit : ℕ) (r : Result (Unit {0}) Reason) (v : List
   unfolding run_of
   no_room room out why e = not_started t (start (limits_in most) t) (run (limits_in most) t.modulus limit 0) most v room out x why e
 
-  -- What the work area holds then.
-  pub no_room_leaves : IsErr r → Worked t limit most v
-  no_room_leaves e = record {
-    unstarted = λ none.
-        let y = subst (λ (s : Stepped). Started t s most r v) none x in
-        subst (λ (q : Result (Unit {0}) Reason). Started t (stopped Room) most q v) y.0 y;
-    ran = λ s starts. let y = subst (λ (s : Stepped). Started t s most r v) starts x in absurd (false≢true (subst IsErr y.0 e));
-  }
-
+  -- What the work area holds after the run.
   pub run_leaves : {u : List Rec} → IsOk r → Left (run_of (limits_in most) limit t) t.modulus u most → Worked t limit most u
   run_leaves e left = record {
     unstarted = λ none. let y = subst (λ (s : Stepped). Started t s most r v) none x in absurd (false≢true (subst IsOk y.0 e));

@@ -14,9 +14,6 @@ pub record Walking (w : List ℕ) (last at i : ℕ) : Type 0 where
   pub enough : Enough w at fuel
   pub same : chain w fuel at i ≡ last
 
-pub walking_first : (w : List ℕ) (i j : ℕ) → i < records w → Walking w (chain_last w i j) i (word w i j)
-walking_first w i j h = record { fuel = records w; enough = whole_chain w i h; same = refl }
-
 -- ── where an index leads ──
 leads_nowhere : (f : Followed) → next f ≡ Ok None → f ≡ end
 leads_nowhere end e = refl

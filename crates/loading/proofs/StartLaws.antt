@@ -7,12 +7,11 @@ use lib.Seq.{take_all}
 use Rattle.polynomials.specs.Bounds.{at_most, over}
 use Rattle.polynomials.specs.Poly.{Poly}
 use Rattle.tables.specs.Words.{word, records}
-use Rattle.tables.specs.Read.{Input, good, read_heads, read_table}
-use Rattle.tables.specs.laws.Accepted.{table_read}
+use Rattle.tables.specs.Read.{Input, good, read_heads}
 use Rattle.tables.specs.declared.Reason.{Reason}
 use Rattle.tables.specs.declared.Reason.TheVariants.{Room}
 use Rattle.words.specs.declared.Table.{Table}
-use Rattle.words.specs.Table.{TableOf}
+use Rattle.words.proofs.Accepted.{ChainsRead}
 use Rattle.rules.specs.Branch.{Branch}
 use Rattle.rules.specs.Room.{State, branch_size, branches_size, systems_size, live}
 use Rattle.rules.specs.Step.{Stepped, next, stopped, within_room}
@@ -28,21 +27,6 @@ use Rattle.loading.specs.declared.Target.{Target}
 use Rattle.loading.specs.declared.Target.TheVariants.{P, Q}
 use Rattle.loading.specs.Started.{put_heads, Alone, Filled, first_put, Started}
 use Rattle.loading.proofs.FillLaws.{size_put_heads, put_heads_none}
-
--- What an accepted table says of its chains, by its header.
-pub record ChainsRead (table : Table) (t : Input) : Type 0 where
-  pub modulus : t.modulus ≡ table.modulus
-  pub zeros : read_heads table.words.now table.modulus table.variables (records table.words.now) 0 (word table.words.now 0 2) ≡ good t.P
-  pub nonzeros : read_heads table.words.now table.modulus table.variables (records table.words.now) 0 (word table.words.now 0 3) ≡ good t.Q
-
-pub chains_read : {table : Table} {t : Input} → TableOf table.words.now table → read_table table.words.now ≡ good t → ChainsRead table t
-chains_read {table} {t} h e =
-    let told = table_read table.words.now t e in
-    record {
-      modulus = told.modulus ∙ sym h.modulus;
-      zeros = rw (h.modulus, h.variables) told.zeros;
-      nonzeros = rw (h.modulus, h.variables) told.nonzeros;
-    }
 
 -- ── the branch ──
 abbrev pub no_polynomial : Branch

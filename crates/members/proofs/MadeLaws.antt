@@ -44,9 +44,6 @@ module _ {p n : ℕ} {r m : List Packed} (M : Made p n r m) where
   pub made_behind : drop n (m ++ drop n r) ≡ drop n r
   made_behind = drop_at m (drop n r) n long
 
-  pub made_length : n ≡ length (take n (m ++ drop n r))
-  made_length = sym (ap length made ∙ long)
-
   pub made_within : n ≤ length (m ++ drop n r)
   made_within = omega (arith, long, length-append m (drop n r))
 

@@ -6,7 +6,7 @@ use native.Mathlib.Omega.{arith}
 use mir.Syntax.{w32}
 use mir.Val.{Fits}
 use lib.ListN.{length, drop, get_or, set, length-drop}
-use Rattle.std.specs.Prelude.{Ok, Err}
+use Rattle.std.specs.Prelude.{Err}
 use Rattle.tables.specs.declared.Reason.TheVariants.{Room}
 use Rattle.residues.specs.Each.{Each}
 use Rattle.residues.specs.laws.Each.{each_append}
@@ -16,11 +16,11 @@ use Rattle.stored.specs.Stored.{poly_records, size_at, inserted, removed, Storab
 use Rattle.stored.specs.laws.Stored.{length_le_polys_records}
 use Rattle.branches.specs.declared.Open.{Open}
 use Rattle.branches.specs.Open.{open_of}
-use Rattle.branches.specs.Area.{Stored, Held, Area, Leaves, size, with_open, stack, systems_records, StorableBranch}
+use Rattle.branches.specs.Area.{Stored, Held, Leaves, size, with_open, stack, systems_records, StorableBranch}
 use Rattle.branches.proofs.AreaLaws.{Lies, lies, place, place_add, place_one, own_is, first_is, size_of, own_set, first_set, put_in, take_out}
 use Rattle.branches.proofs.AreaLaws.{freed, length_freed, all, at_of, end_of, end_is, own_of, control, room_is, held_again}
 use Rattle.branches.proofs.OpenLaws.{p_is, q_is, t_is}
-use Rattle.branches.proofs.LeavesLaws.{size_free, leaves_held, leaves_none}
+use Rattle.branches.proofs.LeavesLaws.{size_free, leaves_none}
 use Rattle.branches.proofs.RowLaws.{ctl_word, own_word, end_row, top_row}
 use Rattle.places.specs.Places.{More, Counts, PutAt, TakeAt, SomeOpen, resized}
 use Rattle.polynomials.specs.declared.Term.{Term as Packed}
@@ -121,12 +121,12 @@ module _ (w : List (List ℕ)) {to : ℕ} {f : List Packed} {p q t : ℕ} {c : S
       into =
           put_in (lies A.held) A.xs A.ys A.adds.less f fits (view w₁) (put ∙ (λ k. inserted (view w) (A.there k) (end_row w A.held k - A.there k) (poly_records f)))
 
-      pub left_put : Storable f → {a₀ : Area} → (w₂ : List (List ℕ)) → view w₂ ≡ resized (view w₁) (ctl_word w 1 + (length f + 1)) p q t
-          → Leaves (length w) a₀ (with_open c bs ss) (Ok tt) (view w₂)
-      left_put k w₂ e =
+      pub held_put : Storable f → (w₂ : List (List ℕ)) → view w₂ ≡ resized (view w₁) (ctl_word w 1 + (length f + 1)) p q t
+          → Held (view w₂) (length w) (with_open c bs ss)
+      held_put k w₂ e =
           let grown : end_of c bs ≡ end_of A.b bs + (length f + 1) = more_ends A.adds bs in
-          leaves_held (held_resized A.held into A.adds.more (omega (arith, fits, length-drop (length f + 1) A.held.free))
-          (storable_more A.adds k A.held.storable.0.0) A.counts (omega (arith, end_row w A.held)) e)
+          held_resized A.held into A.adds.more (omega (arith, fits, length-drop (length f + 1) A.held.free))
+          (storable_more A.adds k A.held.storable.0.0) A.counts (omega (arith, end_row w A.held)) e
 
 -- ── f taken out ──
 module _ (w : List (List ℕ)) {from p q t : ℕ} {b : Stored} {bs ss : List Stored} (A : TakeAt w from p q t b bs ss) where

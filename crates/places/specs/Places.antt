@@ -1,5 +1,5 @@
 -- One polynomial more, or one less, among those of the open branch: where it lies, and which state the work area holds then.
-use Rattle.std.specs.Prelude.{◌≡◌, refl, List, [], ◌∷◌, ◌++◌, ℕ, length, get_or, set}
+use Rattle.std.specs.Prelude.{◌≡◌, refl, List, [], ◌∷◌, ◌++◌, ℕ, ◌-◌, length, get_or, set}
 use Rattle.records.specs.Records.{Rec, record_of, zero_record}
 use Rattle.branches.specs.Area.{Stored, HeldIn, with_open}
 use Rattle.branches.specs.Members.{behind}
@@ -40,6 +40,10 @@ pub record TakeAt (w : List (List ℕ)) (from : ℕ) (p q t : ℕ) (b : Stored) 
 -- Φ is true of some open branch, with some waiting ones and systems.
 abbrev pub SomeOpen : (Stored → List Stored → List Stored → Type 0) → Type 0
 SomeOpen Φ = (b : Stored) × (bs : List Stored) × (ss : List Stored) × Φ b bs ss
+
+-- How many records lie between the open branch and the systems, by the control record.
+abbrev pub free_records : List (List ℕ) → ℕ
+free_records w = get_or (get_or w 0 []) 2 0 - get_or (get_or w 0 []) 1 0
 
 -- The open branch's own record and the control record written anew, with other counts and another end.
 abbrev pub resized : List Rec → ℕ → ℕ → ℕ → ℕ → List Rec

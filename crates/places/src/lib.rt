@@ -1,18 +1,17 @@
 // A polynomial put in among those of the open branch, or taken out, at a record that is known.
 #![tactic(auto)]
 
-ghost use Rattle.std.specs.Prelude.{◌≡◌, List, ◌<◌, length, get_or};
+ghost use Rattle.std.specs.Prelude.{◌≡◌, List, ◌+◌, ◌≤◌, ◌<◌, length, get_or};
 ghost use Rattle.records.specs.Records.{view, zero_record};
 ghost use Rattle.stored.specs.Stored.{Storable};
 ghost use Rattle.branches.specs.Area.{Stored, Held, Leaves, with_open};
-ghost use Rattle.places.specs.Places.{PutAt, TakeAt, SomeOpen, resized};
+ghost use Rattle.places.specs.Places.{PutAt, TakeAt, SomeOpen, free_records, resized};
 
 use polynomials::Term;
 use records::Record;
 use tables::Reason;
 
 // Puts f in at record `to`, so that P, Q and T have p, q and t members; refused if there is no room.
-#[tactic(auto, using(crate::proofs::PlaceLaws::put_start))]
 pub fn put_at(w: &mut [Record], to: usize, f: &[Term], p: u32, q: u32, t: u32) -> Result<(), Reason>
     requires storable { Storable f.now }
     requires some_open { SomeOpen (PutAt w.old to f.now p q t) }
@@ -24,9 +23,22 @@ pub fn put_at(w: &mut [Record], to: usize, f: &[Term], p: u32, q: u32, t: u32) -
     if ((top - end) as usize) < n {
         return Err(Reason::Room);
     }
-    storing::insert(w, to, end as usize, f);
-    resize(w, end + n as u32, p, q, t);
+    put_in(w, to, f, p, q, t);
     Ok(())
+}
+
+// The same where enough records are free.
+#[tactic(auto, using(crate::proofs::PlaceLaws::put_start))]
+pub fn put_in(w: &mut [Record], to: usize, f: &[Term], p: u32, q: u32, t: u32)
+    requires storable { Storable f.now }
+    requires some_open { SomeOpen (PutAt w.old to f.now p q t) }
+    requires room { length f.now + 1 ≤ free_records w.old }
+    ensures held { (c : Stored) (bs ss : List Stored) → PutAt w.old to f.now p q t c bs ss
+        → Held (view w.new) (length w.old) (with_open c bs ss) }
+{
+    let end = w[0][1];
+    storing::insert(w, to, end as usize, f);
+    resize(w, end + (f.len() + 1) as u32, p, q, t);
 }
 
 // Takes the polynomial at record `from` out, so that P, Q and T have p, q and t members.

@@ -1,17 +1,17 @@
 // The jobs on two polynomials.
-ghost use Rattle.std.specs.Prelude.{◌≡◌, ◌&&◌, ◌+◌, ◌≤◌, IfSome, length, take, is_some};
+ghost use Rattle.std.specs.Prelude.{◌≡◌, ◌&&◌, ◌≤◌, IfSome, length, take, is_some};
 ghost use Rattle.std.proofs.Props.{props};
 ghost use Rattle.residues.specs.Prime.{Prime, is_modulus};
-ghost use Rattle.polynomials.specs.Bounds.{standard, bounded_round, bounded_remainder};
-ghost use Rattle.polynomials.specs.Division.{degree, leader, initial, coefficient};
+ghost use Rattle.polynomials.specs.Bounds.{standard, bounded_remainder};
 ghost use Rattle.polynomials.specs.Packed.{terms};
 ghost use Rattle.polynomials.specs.Working.{Holds, Forms, is_held};
-ghost use Rattle.polynomial_jobs.specs.Operands.{Canonical-prop};
+ghost use Rattle.division.specs.Props.{Canonical-prop};
 
 use crate::generator::Generator;
 use crate::operands::ZERO;
 use crate::print;
 use crate::print::Polynomial;
+use division::Pivot;
 use monomials::Variable;
 use polynomials::{Passed, Term};
 use residues::Modulus;
@@ -121,12 +121,19 @@ impl<'a> Operands<'a> {
             return writeln!(out, "no divisor");
         }
         let k = Variable::new(lead - 1);
-        let mut i = [ZERO; 256];
-        let m = terms::initial(self.g, k, &mut i);
-        let mut r = [ZERO; 512];
+        let mut x = [ZERO; 256];
+        let m = terms::initial(self.g, k, &mut x);
+        let pivot = Pivot {
+            p: self.p,
+            k,
+            d: degrees::degree(self.g, k),
+            initial: &x[..m],
+            divisor: self.g,
+        };
+        let mut r = [ZERO; 256];
         let n = self.f.len();
         r[..n].copy_from_slice(self.f);
-        let answer = remainder(self.p, k, &i[..m], self.g, &mut r, n);
+        let answer = remainder(&pivot, &mut r, n);
         print::formed(out, "remainder", answer, &r)
     }
 
@@ -139,50 +146,20 @@ impl<'a> Operands<'a> {
     }
 }
 
-// Rounds on the first m terms of r, until the degree is below that of t: each lowers it, so that there are at most 255.
-fn remainder(
-    p: Modulus,
-    k: Variable,
-    i: &[Term],
-    t: &[Term],
-    r: &mut [Term],
-    m: usize,
-) -> Result<usize, Passed>
-    requires holds { Holds p t.now × (leader (terms t.now) ≡ k + 1) }
-    requires holds_2 { Holds p i.now × (terms i.now ≡ initial k (terms t.now)) }
-    requires m_in_bounds { (m ≤ length r.old) × (512 ≤ length r.old) × Holds p (take m r.old) }
-    ensures { Forms (bounded_remainder standard p k (degree k (terms t.now)) (terms t.now) 256 (terms (take m r.old))) result r.new }
+// Rounds on the first m terms of r, until the degree is below that of the divisor: each lowers it, so that there are at most 255.
+fn remainder(pivot: &Pivot<'_>, r: &mut [Term], m: usize) -> Result<usize, Passed>
+    requires m_within { m ≤ length r.old }
+    requires dividend { Holds pivot.now.p (take m r.old) }
+    requires r_room { 256 ≤ length r.old }
+    ensures { Forms (bounded_remainder standard pivot.now.p pivot.now.k pivot.now.d (terms pivot.now.divisor.now) 256 (terms (take m r.old))) result r.new }
 {
-    let d = degrees::degree(t, k);
     let mut n = m;
     for _round in 0..256u32 {
-        if degrees::degree(&r[..n], k) < d {
+        let e = degrees::degree(&r[..n], pivot.k);
+        if e < pivot.d {
             return Ok(n);
         }
-        n = round(p, k, d, i, t, r, n)?;
+        n = rounds::round_apart(pivot, e, r, n)?;
     }
     Ok(n)
-}
-
-// One round on the first n terms of r, with buffers of its own.
-fn round(
-    p: Modulus,
-    k: Variable,
-    d: u64,
-    i: &[Term],
-    t: &[Term],
-    r: &mut [Term],
-    n: usize,
-) -> Result<usize, Passed>
-    requires d_positive { 1 ≤ d }
-    requires holds { Holds p t.now × (degree k (terms t.now) ≡ d) }
-    requires holds_2 { Holds p i.now × (terms i.now ≡ coefficient k d (terms t.now)) }
-    requires n_in_bounds { (n ≤ length r.old) × (512 ≤ length r.old) × Holds p (take n r.old) × (d ≤ degree k (terms (take n r.old))) }
-    ensures { Forms (bounded_round standard p k d (terms t.now) (terms (take n r.old))) result r.new }
-{
-    let mut x = [ZERO; 512];
-    let mut y = [ZERO; 512];
-    let mut z = [ZERO; 512];
-    let e = degrees::degree(&r[..n], k);
-    division::round(p, k, d, e, i, t, r, n, &mut x, &mut y, &mut z)
 }

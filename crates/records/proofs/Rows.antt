@@ -1,5 +1,5 @@
 -- The laws of `view`: its length, its record at an index, and what becomes of it when a record is written, and when records are copied.
-use Rattle.std.proofs.Common.{◌≡◌, refl, sym, ap, ◌∙◌, ℕ, zero, suc, List, [], ◌∷◌, map, length, get_or, set, take, drop, ◌++◌, ◌+◌, ◌-◌}
+use Rattle.std.proofs.Common.{◌≡◌, sym, ap, ◌∙◌, ℕ, List, [], ◌∷◌, length, get_or, set, take, drop, ◌++◌, ◌+◌, ◌-◌}
 use Rattle.std.specs.List.{copy_within, drop-map}
 use Rattle.std.proofs.Math.Seq.{paste}
 use Rattle.std.proofs.Math.ListN.{get_or-map}

@@ -1,5 +1,6 @@
 -- The work area as a list of records of four words. This file alone says which record the four words are.
-use Rattle.std.specs.Prelude.{ℕ, ◌/◌, List, map, min, length, get_or, drop}
+use Rattle.std.specs.Prelude.{◌≡◌, refl, ℕ, ◌*◌, ◌/◌, List, [], ◌∷◌, map, min, length, get_or, drop}
+use Rattle.std.specs.Simd.{first_chunks}
 use Rattle.std.proofs.Math.Seq.{paste}
 
 -- A record's four words.
@@ -25,9 +26,21 @@ record_at r = record_of (get_or r 0 0) (get_or r 1 0) (get_or r 2 0) (get_or r 3
 abbrev pub view : List (List ℕ) → List Rec
 view = map record_at
 
+-- Words in rows of four, as far as they make whole ones.
+abbrev pub rows : List ℕ → List (List ℕ)
+rows w = first_chunks 4 (length w / 4) w
+
 -- The records that a work area of these words has: "its words divided by 4, rounded down, at most 65,536".
 abbrev pub capacity : List ℕ → ℕ
 capacity w = min (length w / 4) 65536
+
+-- What lies behind them: whole records beyond 65,536, and at most three words.
+abbrev pub outside : List ℕ → List Rec × List ℕ
+outside w = (view (drop (capacity w) (rows w)), drop (4 * (length w / 4)) w)
+
+-- Behind two records, the ninth word.
+nine_words : outside (1 ∷ 2 ∷ 3 ∷ 4 ∷ 5 ∷ 6 ∷ 7 ∷ 8 ∷ 9 ∷ []) ≡ ([], 9 ∷ [])
+nine_words = refl
 
 -- The n records from `from` on, copied over those from `to` on.
 abbrev pub moved : List Rec → ℕ → ℕ → ℕ → List Rec

@@ -10,6 +10,7 @@ ghost use Rattle.representation.specs.Represent.{state_of};
 ghost use Rattle.representation.specs.Ready.{Ready, limits_in};
 ghost use Rattle.run.specs.Stretch.{Stretches};
 
+use division::Pivot;
 use polynomials::{Passed, Term};
 use records::Record;
 use residues::Modulus;
@@ -104,19 +105,14 @@ pub fn run(
                         if !rounds::round_fits(n, initial, pivot, x.len()) {
                             crowded = true;
                         }
-                        match rounds::round_anywhere(
+                        let divisor = Pivot {
                             p,
                             k,
-                            degree,
-                            e,
-                            &i[..initial],
-                            &t[..pivot],
-                            r,
-                            n,
-                            x,
-                            y,
-                            z,
-                        ) {
+                            d: degree,
+                            initial: &i[..initial],
+                            divisor: &t[..pivot],
+                        };
+                        match rounds::round_anywhere(&divisor, e, r, n, x, y, z) {
                             Ok(m) => {
                                 n = m;
                             }

@@ -36,13 +36,6 @@ skip_suc v i (suc k) = skip_suc v (i + 1 + size_at v i) k
 pub skip_more : (v : List Rec) (i k : ℕ) → skip_to v i (k + 1) ≡ skip_to v i k + 1 + size_at v (skip_to v i k)
 skip_more v i k = rw add-one (skip_suc v i k)
 
-polys_suc : (v : List Rec) (i k : ℕ) → polys_at v i (suc k) ≡ polys_at v i k ++ (poly_at v (skip_to v i k) ∷ [])
-polys_suc v i zero = refl
-polys_suc v i (suc k) = ap (λ l. poly_at v i ∷ l) (polys_suc v (i + 1 + size_at v i) k)
-
-pub polys_more : (v : List Rec) (i k : ℕ) → polys_at v i (k + 1) ≡ polys_at v i k ++ (poly_at v (skip_to v i k) ∷ [])
-polys_more v i k = rw add-one (polys_suc v i k)
-
 -- A walk ends where a longer one does, or before.
 skip_mono_to : (v : List Rec) (i k d : ℕ) → skip_to v i k ≤ skip_to v i (k + d)
 skip_mono_to v i k zero = let e : skip_to v i (k + 0) ≡ skip_to v i k = ap (skip_to v i) {x = k + 0} {y = k} (omega arith) in omega arith

@@ -264,3 +264,6 @@ over_terms_refused f x many = go (ltb 256 (length f)) (ltb-false 256 (length f))
     go : (b : Bool) → (b ≡ false → length f ≤ 256) → Forms (elim b [ true ↦ terms_passed | false ↦ within f ]) (Err Terms) x
     go true h = refl
     go false h = absurd (omega (arith, h refl))
+
+pub over_terms_written : (f : Poly) (n : ℕ) (x : List Packed) → Written f n x → 256 < n → Forms (tested standard f) (Err Terms) x
+over_terms_written f n x w many = over_terms_refused f x (omega (arith, many, written_count f n x w))

@@ -1,12 +1,13 @@
 // Sums of polynomials by one merge, f plus a term times g; and the difference.
 #![tactic(auto)]
 
-ghost use Rattle.std.specs.Prelude.{◌+◌, ◌≤◌, ◌<◌, length};
-ghost use Rattle.polynomials.specs.Poly.{add_multiple};
-ghost use Rattle.polynomials.specs.Bounds.{standard, bounded_difference};
+ghost use Rattle.std.specs.Prelude.{◌+◌, ◌≤◌, ◌<◌, List, length};
+ghost use Rattle.polynomials.specs.Poly.{Poly, add_multiple};
+ghost use Rattle.polynomials.specs.Bounds.{standard, tested, bounded_difference};
 ghost use Rattle.polynomials.specs.Canonical.{Canonical};
 ghost use Rattle.polynomials.specs.Packed.{terms, bytes, AllFit};
 ghost use Rattle.polynomials.specs.Working.{Holds, Written, Forms};
+ghost use Rattle.polynomials.specs.declared.Term.{Term as Packed};
 
 use polynomials::{Passed, Term};
 use residues::Modulus;
@@ -57,6 +58,13 @@ pub fn difference(p: Modulus, f: &[Term], g: &[Term], out: &mut [Term]) -> Resul
     requires g_in_bounds { length f.now + length g.now ≤ length out.old }
     ensures { Forms (bounded_difference standard p (terms f.now) (terms g.now)) result out.new }
 {
-    let n = add_multiple(p, p.get() - 1, 0, g, f, out);
+    within(add_multiple(p, p.get() - 1, 0, g, f, out))
+}
+
+// What was formed in n terms, tested: refused where these are more than 256.
+#[tactic(auto, using(crate::proofs::MergeLaws::within_terms_formed, crate::proofs::MergeLaws::over_terms_written))]
+pub fn within(n: usize) -> Result<usize, Passed>
+    ensures { (f : Poly) (s : List Packed) → Written f n s → Forms (tested standard f) result s }
+{
     if n <= 256 { Ok(n) } else { Err(Passed::Terms) }
 }

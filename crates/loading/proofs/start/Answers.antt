@@ -1,16 +1,17 @@
 -- An empty branch, then P's chain, then Q's. All is said of the records that there were at entry.
-use Rattle.std.proofs.Common.{refl, ◌∙◌, length}
+use Rattle.std.proofs.Common.{refl, ◌∙◌, length, arith, rules}
 use Rattle.std.proofs.lemmas.Result.{err_from_is_err_and}
 use Rattle.records.specs.Records.{view}
-use Rattle.loading.proofs.StartLaws.{chains_read, no_polynomial, alone_empty, alone_in, filled_in, with_zeros, zeros_put, start_none, start_fails, start_put}
+use Rattle.words.proofs.Accepted.{chains_read, chain_read}
+use Rattle.loading.proofs.StartLaws.{no_polynomial, alone_empty, alone_in, filled_in, with_zeros, zeros_put, start_none, start_fails, start_put}
 use Rattle.loading.proofs.start.Goals as goal
 
 pub returns-then-work-lt2-clause-started : goal.returns-then-work-lt2-clause-started
-returns-then-work-lt2-clause-started c t e = let w = c.args.work.now in start_none t (length w) (view w) c.if-work-lt2.true
+returns-then-work-lt2-clause-started c t e = let w = c.args.work.now in start_none t (length w) (view w) (omega (arith, c.if-work-lt2.true))
 
 pub put_heads-requires-clause-are_read : goal.put_heads-requires-clause-are_read
 put_heads-requires-clause-are_read c =
-    let q = c.requires.accepted in (q.0.P, rw c.word.ensures (chains_read c.requires.header q.1).zeros)
+    let q = c.requires.accepted in chain_read c.requires.header q.1 (search rules)
 
 pub put_heads-requires-clause-alone : goal.put_heads-requires-clause-alone
 put_heads-requires-clause-alone c = (no_polynomial, alone_in c.begin.auto.w (alone_empty c.begin.ensures.held))
@@ -20,11 +21,11 @@ returns-in_err-put_heads-clause-started c t e =
     let p = err_from_is_err_and c.from_residual.result c.from_residual.ensures.1 in
     let told = chains_read c.requires.header e in
     let zeros = zeros_put c.begin.auto.w told c.begin.ensures.held c.word.ensures c.in_err-put_heads.ensures.filled in
-    rw (p.1, p.2) (start_fails t (length c.args.work.now) (view c.put_heads.new.work) c.args.table.modulus told.modulus c.if-work-lt2.false _ refl zeros)
+    rw (p.1, p.2) (start_fails t (length c.args.work.now) (view c.put_heads.new.work) c.args.table.modulus told.modulus (omega (arith, c.if-work-lt2.false)) _ refl zeros)
 
 pub put_heads-requires-2-clause-are_read : goal.put_heads-requires-2-clause-are_read
 put_heads-requires-2-clause-are_read c =
-    let q = c.requires.accepted in (q.0.Q, rw c.word-2.ensures (chains_read c.requires.header q.1).nonzeros)
+    let q = c.requires.accepted in chain_read c.requires.header q.1 (search rules)
 
 pub put_heads-requires-2-clause-alone : goal.put_heads-requires-2-clause-alone
 put_heads-requires-2-clause-alone c =
@@ -38,6 +39,6 @@ returns-clause-started c t e =
     let told = chains_read c.requires.header e in
     let zeros = zeros_put c.begin.auto.w told c.begin.ensures.held c.word.ensures c.in_ok-put_heads.ensures.filled in
     let puts = c.put_heads-2 in
-    start_put t (length c.args.work.now) (view puts.new.work) c.args.table.modulus told.modulus c.if-work-lt2.false puts.result
+    start_put t (length c.args.work.now) (view puts.new.work) c.args.table.modulus told.modulus (omega (arith, c.if-work-lt2.false)) puts.result
     (filled_in (c.put_heads.auto.work ∙ c.begin.auto.w)
     (puts.ensures.filled t.Q (with_zeros c.args.table.modulus t) (rw c.word-2.ensures told.nonzeros)) (zeros.alone refl))

@@ -1,8 +1,6 @@
 -- The terms are made monic in place, and put.
-use Rattle.std.proofs.Common.{subst, sym, ◌++◌, length, take, drop}
-use Rattle.records.specs.Records.{view}
-use Rattle.branches.specs.Area.{Leaves, with_open}
-use Rattle.members.specs.Members.{HasBehind, put_in}
+use Rattle.std.proofs.Common.{subst}
+use Rattle.members.specs.Members.{HasBehind}
 use Rattle.members.proofs.MadeLaws.{Made, made_by, made_behind, made_monic, made_sound, made_storable}
 use Rattle.members.proofs.put_back.Goals.{After-monic}
 use Rattle.members.proofs.put_back.Goals as goal
@@ -19,12 +17,6 @@ returns-in-InP-clause-sound c =
     let m = made (goal.at.returns-in-InP-clause-sound c).After-monic in
     (made_sound m, made_monic m, made_behind m)
 
-pub returns-in-InP-clause-when_open_2 : goal.returns-in-InP-clause-when_open_2
-returns-in-InP-clause-when_open_2 c b bs ss H =
-    subst (λ d. Leaves (length c.args.w.now) (with_open b bs ss) (with_open (put_in d c.args.left (take c.args.n (c.monic.new.f ++ drop c.args.n c.args.r.now)) b) bs ss)
-    c.put_p.result (view c.put_p.new.w))
-    (sym c.in-InP.is) (c.put_p.ensures.when_open b bs ss H)
-
 pub put_q-requires-clause-when_open : goal.put_q-requires-clause-when_open
 put_q-requires-clause-when_open c b bs ss H = subst (λ d. HasBehind d c.args.left b) c.in-InQ.is (c.requires.when_open b bs ss H)
 
@@ -35,9 +27,3 @@ pub returns-in-InQ-clause-sound : goal.returns-in-InQ-clause-sound
 returns-in-InQ-clause-sound c =
     let m = made (goal.at.returns-in-InQ-clause-sound c).After-monic in
     (made_sound m, made_monic m, made_behind m)
-
-pub returns-in-InQ-clause-when_open_2 : goal.returns-in-InQ-clause-when_open_2
-returns-in-InQ-clause-when_open_2 c b bs ss H =
-    subst (λ d. Leaves (length c.args.w.now) (with_open b bs ss) (with_open (put_in d c.args.left (take c.args.n (c.monic.new.f ++ drop c.args.n c.args.r.now)) b) bs ss)
-    c.put_q.result (view c.put_q.new.w))
-    (sym c.in-InQ.is) (c.put_q.ensures.when_open_2 b bs ss H)

@@ -13,8 +13,8 @@ next : (c : Joined-dividends) (b : Stored) (bs ss : List Stored) → HeldIn c.ar
 next c b bs ss H =
     let has = c.requires.when_open b bs ss H in
     elim c.match-dividends.branch [
-      | in-InP w ↦ next_in_p H.storable.0.0 has w.in-InP.place w.in-InP.is w.member-is
-      | in-InQ w ↦ next_in_q H.storable.0.0 has w.in-InQ.field-0 w.count_q.result w.in-InQ.is (w.count_q.ensures b bs ss H) w.member-is
+      | in-InP w ↦ next_in_p has w.in-InP.place w.in-InP.is w.member-is
+      | in-InQ w ↦ next_in_q has w.in-InQ.field-0 w.count_q.result w.in-InQ.is (w.count_q.ensures b bs ss H) w.member-is
     ]
 
 pub overflow_sub-member : goal.overflow_sub-member
@@ -25,10 +25,6 @@ overflow_sub-member c =
 
 pub load-n-requires-clause-when_open : goal.load-n-requires-clause-when_open
 load-n-requires-clause-when_open c b bs ss H = (next (goal.at.load-n-requires-clause-when_open c).Joined-dividends b bs ss H).there
-
-pub load-n-requires-clause-in_bounds : goal.load-n-requires-clause-in_bounds
-load-n-requires-clause-in_bounds c b bs ss H =
-    omega (arith, (next (goal.at.load-n-requires-clause-in_bounds c).Joined-dividends b bs ss H).few, c.requires.in_bounds)
 
 pub remove-requires-clause-when_open : goal.remove-requires-clause-when_open
 remove-requires-clause-when_open c b bs ss H = (next (goal.at.remove-requires-clause-when_open c).Joined-dividends b bs ss H).there

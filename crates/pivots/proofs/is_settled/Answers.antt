@@ -1,12 +1,7 @@
--- `is_one` tests for 1, and `q_contains` answers for Q.
+-- Of f other than 1 `q_contains` answers.
 use Rattle.std.proofs.Common.{sym, ap, ◌∙◌, Bool, ◌||◌}
 use Rattle.stored.specs.Stored.{member}
 use Rattle.pivots.proofs.is_settled.Goals as goal
-
-pub returns-then-is_one : goal.returns-then-is_one
-returns-then-is_one c b bs ss H =
-    let f = c.args.f.now in
-    c.if-is_one.true ∙ sym (ap (λ (o : Bool). o || member f b.Q) (sym c.is_one.ensures ∙ c.if-is_one.true))
 
 pub returns-else-is_one : goal.returns-else-is_one
 returns-else-is_one c b bs ss H =

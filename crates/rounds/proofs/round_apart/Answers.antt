@@ -6,28 +6,25 @@ use Rattle.polynomials.specs.Packed.{terms}
 use Rattle.polynomials.specs.Working.{Forms}
 use Rattle.polynomials.specs.declared.Term.{Term as Packed}
 use Rattle.polynomials.specs.declared.Passed.{Passed}
-use Rattle.polynomials.specs.laws.Answers.{round_answered}
+use Rattle.division.specs.declared.Pivot.{Pivot}
+use Rattle.division.proofs.PivotLaws.{formed}
 use Rattle.rounds.proofs.round_apart.Goals as goal
 
-formed_few : (p k d : ℕ) (G R : Poly) (m : ℕ) (r : Result ℕ Passed) (s : List Packed) → 1 ≤ p → r ≡ Ok m → Forms (bounded_round standard p k d G R) r s → (m ≤ length s) × (m ≤ 256)
-formed_few p k d G R m r s h q F =
-    let A = round_answered p h m r s q k d G R F in
-    (A.inside, omega (arith, A.holds.few, length-take-le m s A.inside))
+formed_few : (v : Pivot) (R : Poly) (m : ℕ) (r : Result ℕ Passed) (s : List Packed) → r ≡ Ok m → Forms (bounded_round standard v.p v.k v.d (terms v.divisor.now) R) r s
+    → (m ≤ length s) × (m ≤ 256)
+formed_few v R m r s q F = let A = formed v R m r s q F in (A.inside, omega (arith, A.holds.few, length-take-le m s A.inside))
 
 pub slice_bounds-copy_from_slice-end-4 : goal.slice_bounds-copy_from_slice-end-4
 slice_bounds-copy_from_slice-end-4 c =
-    let a = c.args in
-    let few = formed_few a.p a.k a.d (terms a.t.now) _ c.in_ok-m.m c.round.result c.round.new.r (omega (arith, c.well_formed.0)) c.in_ok-m.was c.round.ensures in
+    let few = formed_few c.args.pivot.now _ c.in_ok-m.m c.round.result c.round.new.r c.in_ok-m.was c.round.ensures in
     omega (arith, few, c.requires.r_room)
 
 pub slice_bounds-copy_from_slice-end-5 : goal.slice_bounds-copy_from_slice-end-5
 slice_bounds-copy_from_slice-end-5 c =
-    let a = c.args in
-    let few = formed_few a.p a.k a.d (terms a.t.now) _ c.in_ok-m.m c.round.result c.round.new.r (omega (arith, c.well_formed.0)) c.in_ok-m.was c.round.ensures in
-    sym (length-take-le c.in_ok-m.m a.r.now (omega (arith, few, c.requires.r_room)))
+    let few = formed_few c.args.pivot.now _ c.in_ok-m.m c.round.result c.round.new.r c.in_ok-m.was c.round.ensures in
+    sym (length-take-le c.in_ok-m.m c.args.r.now (omega (arith, few, c.requires.r_room)))
 
 pub copy_from_slice-requires-2 : goal.copy_from_slice-requires-2
 copy_from_slice-requires-2 c =
-    let a = c.args in
-    let few = formed_few a.p a.k a.d (terms a.t.now) _ c.in_ok-m.m c.round.result c.round.new.r (omega (arith, c.well_formed.0)) c.in_ok-m.was c.round.ensures in
-    length-take-le c.in_ok-m.m a.r.now (omega (arith, few, c.requires.r_room)) ∙ sym (length-take-le c.in_ok-m.m c.round.new.r few.0)
+    let few = formed_few c.args.pivot.now _ c.in_ok-m.m c.round.result c.round.new.r c.in_ok-m.was c.round.ensures in
+    length-take-le c.in_ok-m.m c.args.r.now (omega (arith, few, c.requires.r_room)) ∙ sym (length-take-le c.in_ok-m.m c.round.new.r few.0)

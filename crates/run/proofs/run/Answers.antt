@@ -1,5 +1,5 @@
 -- What is asked at each line of the run's code, by what is known where a loop's turn begins and where a call has answered.
-use Rattle.std.specs.Prelude.{◌≡◌, List, true, false, ℕ, ◌-◌, Ok, Err, IsOk, ◌≤◌, ◌<◌, length, take}
+use Rattle.std.specs.Prelude.{◌≡◌, List, true, ℕ, ◌-◌, Ok, Err, IsOk, ◌≤◌, ◌<◌, length, take}
 use Rattle.std.proofs.Common.{refl, sym, ap, subst, ◌∙◌, arith, length-take-le}
 use mathlib.Core.Bool.{false≢true}
 use mathlib.Core.Logic.{inr}
@@ -16,7 +16,7 @@ use Rattle.tables.specs.declared.Reason.{Reason}
 use Rattle.tables.specs.declared.Reason.TheVariants.{Degree, Terms}
 use Rattle.rules.specs.Step.{stopped, remainder_by}
 use Rattle.branches.specs.Area.{Opened}
-use Rattle.steps.specs.declared.Prepared.TheVariants.{Done, Members}
+use Rattle.steps.specs.declared.Prepared.TheVariants.{Members}
 use Rattle.representation.specs.Ready.{limits_in}
 use Rattle.run.specs.declared.Outcome.TheVariants.{Refused}
 use Rattle.run.proofs.Invariants.{AtRun, AtMembers, run_begins, division_begins, round_less, division_goes_on, division_ends, division_passes}
@@ -181,28 +181,22 @@ round_fits-requires c =
       omega (arith, P.pivoted.pivot.few, length-take-le d.pivot c.prepare.new.t P.pivot_inside),
     )
 
-pub slice_bounds-round_anywhere-end : goal.slice_bounds-round_anywhere-end
-slice_bounds-round_anywhere-end c = (pivot_in (goal.at.slice_bounds-round_anywhere-end c).After-count-left).initial_inside
+pub slice_bounds-divisor-end : goal.slice_bounds-divisor-end
+slice_bounds-divisor-end c = (pivot_in (goal.at.slice_bounds-divisor-end c).After-count-left).initial_inside
 
-pub slice_bounds-round_anywhere-end-in-division : goal.slice_bounds-round_anywhere-end-in-division
-slice_bounds-round_anywhere-end-in-division c = sym (length-take-le _ _ (pivot_in (goal.at.slice_bounds-round_anywhere-end-in-division c).After-count-left).initial_inside)
+pub slice_bounds-divisor-end-in-division : goal.slice_bounds-divisor-end-in-division
+slice_bounds-divisor-end-in-division c = sym (length-take-le _ _ (pivot_in (goal.at.slice_bounds-divisor-end-in-division c).After-count-left).initial_inside)
 
-pub slice_bounds-round_anywhere-end-in-division-2 : goal.slice_bounds-round_anywhere-end-in-division-2
-slice_bounds-round_anywhere-end-in-division-2 c = (pivot_in (goal.at.slice_bounds-round_anywhere-end-in-division-2 c).After-count-left).pivot_inside
+pub slice_bounds-divisor-end-in-division-2 : goal.slice_bounds-divisor-end-in-division-2
+slice_bounds-divisor-end-in-division-2 c = (pivot_in (goal.at.slice_bounds-divisor-end-in-division-2 c).After-count-left).pivot_inside
 
-pub slice_bounds-round_anywhere-end-in-division-3 : goal.slice_bounds-round_anywhere-end-in-division-3
-slice_bounds-round_anywhere-end-in-division-3 c = sym (length-take-le _ _ (pivot_in (goal.at.slice_bounds-round_anywhere-end-in-division-3 c).After-count-left).pivot_inside)
+pub slice_bounds-divisor-end-in-division-3 : goal.slice_bounds-divisor-end-in-division-3
+slice_bounds-divisor-end-in-division-3 c = sym (length-take-le _ _ (pivot_in (goal.at.slice_bounds-divisor-end-in-division-3 c).After-count-left).pivot_inside)
 
-pub round_anywhere-requires-clause-degrees : goal.round_anywhere-requires-clause-degrees
-round_anywhere-requires-clause-degrees c =
-    let P = (pivot_in (goal.at.round_anywhere-requires-clause-degrees c).After-count-left).pivoted in
-    (P.some, c.if-e-degree.false)
-
-pub round_anywhere-requires-clause-pivot : goal.round_anywhere-requires-clause-pivot
-round_anywhere-requires-clause-pivot c = let P = (pivot_in (goal.at.round_anywhere-requires-clause-pivot c).After-count-left).pivoted in (P.pivot, P.of_degree)
-
-pub round_anywhere-requires-clause-initial : goal.round_anywhere-requires-clause-initial
-round_anywhere-requires-clause-initial c = let P = (pivot_in (goal.at.round_anywhere-requires-clause-initial c).After-count-left).pivoted in (P.initial, P.of_initial)
+pub invariant_of-divisor : goal.invariant_of-divisor
+invariant_of-divisor c =
+    let P = (pivot_in (goal.at.invariant_of-divisor c).After-count-left).pivoted in
+    record { some = P.some; holds = P.pivot; of_degree = P.of_degree; initial_holds = P.initial; of_initial = P.of_initial }
 
 pub round_anywhere-requires-clause-n_within : goal.round_anywhere-requires-clause-n_within
 round_anywhere-requires-clause-n_within c = c.division.invariant.rounds.inside

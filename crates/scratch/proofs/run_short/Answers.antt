@@ -1,11 +1,12 @@
 -- The stretch ends as the run does, or pauses, and the long stretch goes on.
+use Rattle.std.proofs.Common.{arith}
 use Rattle.scratch.proofs.StretchLaws.{Told, runs_from_0, stretch_ends, pause_within, pause_holds, stretch_goes_on}
 use Rattle.scratch.proofs.run_short.Goals as goal
 
 pub run_long-requires-clause-from_le_limit : goal.run_long-requires-clause-from_le_limit
 run_long-requires-clause-from_le_limit c =
     let S : Told _ _ _ _ _ _ = record { same = c.run_in-steps.auto.work; answers = c.run_in-steps.ensures.stretches } in
-    pause_within S c.in-None.is c.requires.ready
+    omega (arith, pause_within S c.in-None.is c.requires.ready)
 
 pub run_long-requires-clause-ready : goal.run_long-requires-clause-ready
 run_long-requires-clause-ready c =

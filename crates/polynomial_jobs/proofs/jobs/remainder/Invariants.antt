@@ -3,4 +3,4 @@ use Rattle.polynomial_jobs.proofs.Rounds.{AtRound}
 use Rattle.polynomial_jobs.proofs.jobs.remainder.Given as goal
 
 abbrev pub invariant-loop-round : goal.invariant-loop-round
-invariant-loop-round l = AtRound l.p l.k l.d l.t l.fn.r l.m l.r l.n l._round
+invariant-loop-round l = AtRound l.pivot l.fn.r l.m l.r l.n l._round

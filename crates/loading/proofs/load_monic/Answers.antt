@@ -1,15 +1,8 @@
 -- The terms loaded are made monic in place.
-use Rattle.std.proofs.Common.{sym, arith}
-use lib.Seq.{length-take-le}
+use Rattle.std.proofs.Common.{arith}
 use Rattle.tables.specs.laws.Accepted.{readable_numbers}
 use Rattle.loading.proofs.MonicLaws.{loaded_monic}
 use Rattle.loading.proofs.load_monic.Goals as goal
-
-pub slice_bounds-monic-end : goal.slice_bounds-monic-end
-slice_bounds-monic-end c = (c.load_head-m.ensures c.requires.is_read.0 c.requires.is_read.1).0.within
-
-pub slice_bounds-monic-end-2 : goal.slice_bounds-monic-end-2
-slice_bounds-monic-end-2 c = sym (length-take-le c.load_head-m.result c.load_head-m.new.out (c.load_head-m.ensures c.requires.is_read.0 c.requires.is_read.1).0.within)
 
 pub new-requires-clause-positive : goal.new-requires-clause-positive
 new-requires-clause-positive c = omega (arith, c.from.ensures, (readable_numbers _ _ _ c.args.table.readable).prime.two≤)
@@ -19,9 +12,6 @@ new-requires-clause-below c = omega (arith, c.from.ensures, (readable_numbers _ 
 
 pub monic-requires-clause-prime : goal.monic-requires-clause-prime
 monic-requires-clause-prime c = rw (c.new.ensures, c.from.ensures) (readable_numbers _ _ _ c.args.table.readable).prime
-
-pub monic-requires-clause-canonical : goal.monic-requires-clause-canonical
-monic-requires-clause-canonical c = rw (c.new.ensures, c.from.ensures) (let h = (c.load_head-m.ensures c.requires.is_read.0 c.requires.is_read.1).1 in h.canonical)
 
 pub returns : goal.returns
 returns c f e =

@@ -1,8 +1,6 @@
 -- What is asked at each line of the run's code, by what is known where a loop's turn begins and where a call has answered.
 use Rattle.std.specs.Prelude.{◌≡◌, List, true, ℕ, ◌-◌, Ok, Err, IsOk, ◌≤◌, ◌<◌, length, take}
 use Rattle.std.proofs.Common.{refl, sym, ap, subst, ◌∙◌, arith, length-take-le}
-use mathlib.Core.Bool.{false≢true}
-use mathlib.Core.Logic.{inr}
 use borrow.Author.Tests.{leb-false}
 use Rattle.polynomials.specs.Poly.{Poly}
 use Rattle.polynomials.specs.Packed.{terms}
@@ -19,10 +17,10 @@ use Rattle.branches.specs.Area.{Opened}
 use Rattle.steps.specs.declared.Prepared.TheVariants.{Members}
 use Rattle.representation.specs.Ready.{limits_in}
 use Rattle.run.specs.declared.Outcome.TheVariants.{Refused}
-use Rattle.run.proofs.Invariants.{AtRun, AtMembers, run_begins, division_begins, round_less, division_goes_on, division_ends, division_passes}
-use Rattle.run.proofs.MembersLaws.{AtMember, PutBack, ComesTo, members_open, members_left, member_taken, member_inside, member_holds}
+use Rattle.run.proofs.Invariants.{AtRun, AtMembers, division_begins, round_less, division_goes_on, division_ends, division_passes}
+use Rattle.run.proofs.MembersLaws.{AtMember, PutBack, ComesTo, members_left, member_taken, member_inside, member_holds}
 use Rattle.run.proofs.MembersLaws.{member_open, member_behind, member_degree, member_terms, member_put_back}
-use Rattle.run.proofs.RunLaws.{GoesTo, SomeOpen, AllOpen, Answers, run_holds_some, run_open_some, run_finished, run_no_steps}
+use Rattle.run.proofs.RunLaws.{GoesTo, SomeOpen, AllOpen, Answers, run_open_some, run_finished, run_no_steps}
 use Rattle.run.proofs.RunLaws.{run_paused, run_stopped, run_goes_on, Preparation, PivotIn, prepared_as, prepared_done, prepared_stop, prepared_open, prepared_pivot}
 use Rattle.run.proofs.RunLaws.{members_first, members_done, members_stop, ended}
 use Rattle.run.proofs.run.Goals.{After-count-left, After-take-n, After-round_anywhere, After-put_back, Joined-prepared}
@@ -30,25 +28,8 @@ use Rattle.run.proofs.run.Goals.{then-not-round_fits, else-not-round_fits, in-Do
 use Rattle.run.proofs.run.Goals as goal
 
 -- ── the run ──
-pub run-init : goal.run-init
-run-init c =
-    let a = c.args in
-    record {
-      runs = run_begins a.p a.limit a.from a.w.now c.requires.from_le_limit c.requires.ready;
-      crowds = λ e. absurd (false≢true e);
-    }
-
-pub is_open-requires : goal.is_open-requires
-is_open-requires c = run_holds_some c.run.invariant.runs
-
-pub listed_systems-listed-requires : goal.listed_systems-listed-requires
-listed_systems-listed-requires c = run_holds_some c.run.invariant.runs
-
 pub prepare-requires-clause-ready : goal.prepare-requires-clause-ready
 prepare-requires-clause-ready c = run_open_some c.run.invariant.runs (λ a H. sym (c.is_open.ensures a H) ∙ c.if-not-is_open.false)
-
-pub run-smaller : goal.run-smaller
-run-smaller c = omega (arith, c.if-limit-steps.false)
 
 -- The step is done, with members divided or without: what is held then, and what still holds of the rest of the area and of x.
 module _ (c : Joined-prepared) where
@@ -115,9 +96,6 @@ module _ (c : After-take-n) where
 pub members-init : goal.members-init
 members-init c = record { divides = rw c.count-left.ensures (members_first (prepared c) (some_open c)); crowds = c.run.invariant.crowds }
 
-pub take-n-requires-clause-opened : goal.take-n-requires-clause-opened
-take-n-requires-clause-opened c = members_open c.members.invariant.divides
-
 pub take-n-requires-clause-when_open : goal.take-n-requires-clause-when_open
 take-n-requires-clause-when_open c = members_left c.members.invariant.divides c.members-test.true
 
@@ -126,9 +104,6 @@ put_back-requires-clause-opened c = (member_open (member (goal.at.put_back-requi
 
 pub put_back-requires-clause-when_open : goal.put_back-requires-clause-when_open
 put_back-requires-clause-when_open c = member_behind (member (goal.at.put_back-requires-clause-when_open c).After-take-n)
-
-pub put_back-requires-clause-n_in_bounds : goal.put_back-requires-clause-n_in_bounds
-put_back-requires-clause-n_in_bounds c = (c.division.invariant.rounds.inside, c.division.invariant.rounds.holds)
 
 -- The remainder is put back, or there is no room for it.
 module _ (c : After-put_back) (of_pivot : PivotIn c.args.p c.in-Members.d c.prepare.new.t c.prepare.new.i)
@@ -165,12 +140,6 @@ division-init c =
     let M = member (goal.at.division-init c).After-take-n in
     record { rounds = division_begins _ _ _ _ _ _ (member_inside M) (member_holds M); crowds = c.members.invariant.crowds }
 
-pub slice_bounds-degree-end : goal.slice_bounds-degree-end
-slice_bounds-degree-end c = c.division.invariant.rounds.inside
-
-pub slice_bounds-degree-end-in-division : goal.slice_bounds-degree-end-in-division
-slice_bounds-degree-end-in-division c = sym (length-take-le _ _ c.division.invariant.rounds.inside)
-
 pub round_fits-requires : goal.round_fits-requires
 round_fits-requires c =
     let P = pivot_in (goal.at.round_fits-requires c).After-count-left in
@@ -197,12 +166,6 @@ pub invariant_of-divisor : goal.invariant_of-divisor
 invariant_of-divisor c =
     let P = (pivot_in (goal.at.invariant_of-divisor c).After-count-left).pivoted in
     record { some = P.some; holds = P.pivot; of_degree = P.of_degree; initial_holds = P.initial; of_initial = P.of_initial }
-
-pub round_anywhere-requires-clause-n_within : goal.round_anywhere-requires-clause-n_within
-round_anywhere-requires-clause-n_within c = c.division.invariant.rounds.inside
-
-pub round_anywhere-requires-clause-dividend : goal.round_anywhere-requires-clause-dividend
-round_anywhere-requires-clause-dividend c = (c.division.invariant.rounds.holds, sym c.degree-e.ensures)
 
 -- A round was due.
 module _ (c : After-round_anywhere) where
@@ -264,12 +227,6 @@ returns-then-not-is_open-clause-stretches c =
 pub returns-then-limit-steps-clause-stretches : goal.returns-then-limit-steps-clause-stretches
 returns-then-limit-steps-clause-stretches c =
     run_no_steps c.run.invariant.runs (λ a H. sym (c.is_open.ensures a H) ∙ c.if-not-is_open.false) c.if-limit-steps.true
-
-pub returns-then-crowded-clause-stretches : goal.returns-then-crowded-clause-stretches
-returns-then-crowded-clause-stretches c = run_paused c.run.invariant.runs _ refl
-
-pub returns-then-crowded-clause-when_paused : goal.returns-then-crowded-clause-when_paused
-returns-then-crowded-clause-when_paused c e = inr (c.run.invariant.crowds c.if-crowded.true)
 
 pub returns-in-Crowded-clause-stretches : goal.returns-in-Crowded-clause-stretches
 returns-in-Crowded-clause-stretches c = run_paused c.run.invariant.runs _ (c.prepare.ensures.when_crowded (c.in-Ok.is ∙ ap Ok c.in-Crowded.is)).1

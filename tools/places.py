@@ -26,7 +26,7 @@ table_jobs::run_jobs elimination_jobs::run_jobs elimination_bench::run_jobs trie
 table_jobs::main elimination_jobs::main elimination_bench::main"""
 TWIN_TYPES = "Checked ReadOutcome TrialOutcome PlaceOutcome Counted Outcome; Word Filled Words Job; Formed Gathered; Reading Trial Placing"
 ORDER = "monomials::at_most elimination_job::shorter elimination_bench::least at_least_one batches_of branches::count_records"
-COPY = "polynomials::copy polynomial_jobs::copy records::copy moves::move_up move_down append_block clear elimination_job::fill"
+COPY = "polynomials::copy polynomial_jobs::copy records::copy moves::move_up move_down append_block clear storing::append_block elimination_job::fill"
 CONVERT = """numbers::number accepted refused reading_line trial_line place_line decoding::from_bytes word_at decode words::index input::size
 monomials::packed stored::monomial elimination_job::head_of elimination_bench::outcome_number polynomial_jobs::truth"""
 PRINT = """lines::put_byte put_digits put_number put_line print_line responses::put_records put_answer table_jobs::print tries::print

@@ -58,15 +58,21 @@ fn check_terms(table: Table<'_>, head: usize) -> Result<(), Refusal>
     requires { head < records table.words.now }
     ensures { result ≡ checked (read_terms table.entry.words.now table.entry.modulus table.entry.variables (records table.entry.words.now) 0 first head (word table.entry.words.now head 0)) }
 {
-    // No iterator: it would yield a Result for each record, and the loop would stand around it all the same.
-    let mut next = table.follow(head, table.word(head, 0))?;
+    // No iterator: it would yield a Result for each record, and the loop would stand around it all the same. And not `Table::follow`: its Option or
+    // Refusal would be put together in memory at each record and read back, which takes as long as all else here.
+    let Ok(mut next) = words::follow(table.words, head, table.word(head, 0)) else {
+        return Err(table.refusal(Reason::Index, head));
+    };
     let mut m: u32 = 0;
     let mut last = None;
     while let Some(i) = next {
         check_term(table, m, last, i)?;
         last = Some(monomials::packed(table.word(i, 1), table.word(i, 2)));
         m += 1;
-        next = table.follow(i, table.word(i, 3))?;
+        let Ok(behind) = words::follow(table.words, i, table.word(i, 3)) else {
+            return Err(table.refusal(Reason::Index, i));
+        };
+        next = behind;
     }
     Ok(())
 }

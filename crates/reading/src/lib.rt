@@ -50,11 +50,16 @@ pub fn check_heads(table: Table<'_>, from: usize, first: u32) -> Result<(), Refu
     requires { from < records table.words.now }
     ensures { result ≡ checked (read_heads table.entry.words.now table.entry.modulus table.entry.variables (records table.entry.words.now) from first) }
 {
-    // No iterator, as in `checking`: it would yield Results.
-    let mut next = table.follow(from, first)?;
+    // No iterator and no `Table::follow`, as in `checking`.
+    let Ok(mut next) = words::follow(table.words, from, first) else {
+        return Err(table.refusal(Reason::Index, from));
+    };
     while let Some(i) = next {
         checking::check_head(table, i)?;
-        next = table.follow(i, table.word(i, 3))?;
+        let Ok(behind) = words::follow(table.words, i, table.word(i, 3)) else {
+            return Err(table.refusal(Reason::Index, i));
+        };
+        next = behind;
     }
     Ok(())
 }

@@ -32,8 +32,10 @@ fn check_triangle(table: Table<'_>, system: usize) -> Result<(), Refusal>
     requires { system < records table.words.now }
     ensures { result ≡ checked (read_triangle table.entry.words.now table.entry.modulus table.entry.variables (records table.entry.words.now) 0 system (word table.entry.words.now system 0)) }
 {
-    // No iterator, as in `checking`: it would yield Results.
-    let mut next = table.follow(system, table.word(system, 0))?;
+    // No iterator and no `Table::follow`, as in `checking`.
+    let Ok(mut next) = words::follow(table.words, system, table.word(system, 0)) else {
+        return Err(table.refusal(Reason::Index, system));
+    };
     let mut last = 0;
     while let Some(i) = next {
         checking::check_head(table, i)?;
@@ -42,7 +44,10 @@ fn check_triangle(table: Table<'_>, system: usize) -> Result<(), Refusal>
             return Err(table.refusal(Reason::Broken, i));
         }
         last = leader;
-        next = table.follow(i, table.word(i, 3))?;
+        let Ok(behind) = words::follow(table.words, i, table.word(i, 3)) else {
+            return Err(table.refusal(Reason::Index, i));
+        };
+        next = behind;
     }
     Ok(())
 }
@@ -65,13 +70,16 @@ fn check_system(table: Table<'_>, i: usize) -> Result<(), Refusal>
 fn check_systems(table: Table<'_>) -> Result<u32, Refusal>
     ensures { result ≡ counted (read_systems table.entry.words.now table.entry.modulus table.entry.variables (records table.entry.words.now) 0 (word table.entry.words.now 0 2)) }
 {
-    // No iterator, as in `checking`: it would yield Results.
+    // No iterator, and `Table::follow` for the first index alone, as in `checking`.
     let mut next = table.follow(0, table.word(0, 2))?;
     let mut count: u32 = 0;
     while let Some(i) = next {
         check_system(table, i)?;
         count += 1;
-        next = table.follow(i, table.word(i, 3))?;
+        let Ok(behind) = words::follow(table.words, i, table.word(i, 3)) else {
+            return Err(table.refusal(Reason::Index, i));
+        };
+        next = behind;
     }
     Ok(count)
 }

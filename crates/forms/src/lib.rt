@@ -1,10 +1,11 @@
-// Polynomials as terms: whether terms hold one, and whether two are equal.
+// Polynomials as terms: whether terms, or words, hold one, and whether two are equal.
 #![tactic(auto)]
 
 ghost use Rattle.std.specs.Prelude.{◌≡◌, [], ◌∷◌};
 ghost use Rattle.polynomials.specs.Poly.{equal};
 ghost use Rattle.polynomials.specs.Packed.{bytes, term, terms};
 ghost use Rattle.polynomials.specs.Working.{falls, is_held};
+ghost use Rattle.forms.specs.Words.{paired, words_are_held};
 
 use polynomials::Term;
 
@@ -30,6 +31,30 @@ fn is_above(monomial: u64, f: &[Term]) -> bool
     ensures { result ≡ falls (bytes 8 monomial) (terms f.now) }
 {
     f.is_empty() || f[0].monomial < monomial
+}
+
+// Whether the words hold a polynomial: pairs, a term's coefficient and then its monomial, of at most 256 terms. Half a pair is refused.
+pub fn words_are_polynomial(p: u64, words: &[u64]) -> bool
+    ensures { result ≡ words_are_held p words.now }
+{
+    if words.len() % 2 == 1 || 512 < words.len() {
+        return false;
+    }
+    let mut rest = words;
+    while let [coefficient, monomial, behind @ ..] = rest {
+        if *coefficient == 0 || p <= *coefficient || !is_above_pair(*monomial, behind) {
+            return false;
+        }
+        rest = behind;
+    }
+    true
+}
+
+// Whether the monomial is above that of the first pair of the words, where there is one.
+fn is_above_pair(monomial: u64, words: &[u64]) -> bool
+    ensures { result ≡ falls (bytes 8 monomial) (terms (paired words.now)) }
+{
+    words.len() < 2 || words[1] < monomial
 }
 
 // Whether two polynomials are equal.

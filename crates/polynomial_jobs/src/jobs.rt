@@ -6,6 +6,7 @@ ghost use Rattle.polynomials.specs.Bounds.{standard, bounded_remainder};
 ghost use Rattle.polynomials.specs.Packed.{terms};
 ghost use Rattle.polynomials.specs.Working.{Holds, Forms, is_held};
 ghost use Rattle.division.specs.Props.{Canonical-prop};
+ghost use Rattle.forms.specs.Words.{paired};
 
 use crate::generator::Generator;
 use crate::operands::ZERO;
@@ -25,6 +26,33 @@ pub fn run(out: &mut impl Write, p: u32, f: &[Term], g: &[Term]) -> io::Result<(
         Some(operands) => operands.all(out),
         None => writeln!(out, "skip"),
     }
+}
+
+// The same on the polynomials that words hold, if they hold any.
+pub fn run_words(out: &mut impl Write, p: u32, f: &[u64], g: &[u64]) -> io::Result<()> {
+    let number = u64::from(p);
+    if !forms::words_are_polynomial(number, f) || !forms::words_are_polynomial(number, g) {
+        writeln!(out, "p {p}")?;
+        return writeln!(out, "skip");
+    }
+    let mut x = [ZERO; 256];
+    let mut y = [ZERO; 256];
+    run(out, p, paired(f, &mut x), paired(g, &mut y))
+}
+
+// The terms of the words' pairs, in the first terms of `out`: those.
+fn paired<'a>(words: &[u64], out: &'a mut [Term]) -> &'a [Term]
+    requires { length (paired words.now) ≤ length out.old }
+    ensures { result.now ≡ paired words.now }
+{
+    let n = words.len() / 2;
+    for i in 0..n {
+        out[i] = Term {
+            coefficient: words[2 * i],
+            monomial: words[2 * i + 1],
+        };
+    }
+    &out[..n]
 }
 
 // Two polynomials modulo a prime below 2^31.

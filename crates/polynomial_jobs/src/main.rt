@@ -19,6 +19,7 @@ fn main(rt: HostRuntime) -> io::Result<()> {
     let mut writer = BufWriter::new(rt.alloc(), io::writer(&rt))?;
     let out = &mut writer;
     no_polynomials(out)?;
+    half_a_pair(out)?;
     too_many_terms(out)?;
     of_the_document(out)?;
     with_zero(out)?;
@@ -48,18 +49,22 @@ fn run_all(out: &mut impl Write, jobs: &[Job]) -> io::Result<()> {
 
 // Numbers that are no prime, and terms that are no polynomial: each is skipped.
 fn no_polynomials(out: &mut impl Write) -> io::Result<()> {
-    let jobs: [Job; 7] = [
+    let jobs: [Job; 6] = [
         (9, polynomial![1: 1], polynomial![1: 0]),
         (1, polynomial![1: 1], polynomial![1: 0]),
         // A coefficient that is 0, and one that is not below the modulus.
         (7, polynomial![0: 1], polynomial![1: 0]),
         (7, polynomial![1: 1], polynomial![7: 0]),
-        // A monomial twice, monomials that rise, and a monomial twice in the other.
+        // A monomial twice, and monomials that rise.
         (7, polynomial![1: 1, 2: 1], polynomial![1: 0]),
         (7, polynomial![1: 0], polynomial![1: 0, 2: 1]),
-        (7, polynomial![1: 0], polynomial![1: 0, 1: 0]),
     ];
     run_all(out, &jobs)
+}
+
+// Words that are no pairs: a coefficient without its monomial behind v1.
+fn half_a_pair(out: &mut impl Write) -> io::Result<()> {
+    jobs::run_words(out, 7, &[1, 1, 1], &[1, 0])
 }
 
 // 257 terms are skipped too.
@@ -75,9 +80,9 @@ fn too_many_terms(out: &mut impl Write) -> io::Result<()> {
 }
 
 fn of_the_document(out: &mut impl Write) -> io::Result<()> {
-    let jobs: [Job; 6] = [
-        // v1^2 + v1 + 5 by v1^2 + 6.
-        (7, polynomial![1: 2, 1: 1, 5: 0], polynomial![1: 2, 6: 0]),
+    // v1^2 + v1 + 5 by v1^2 + 6, in words.
+    jobs::run_words(out, 7, &[1, 2, 1, 1, 5, 0], &[1, 2, 6, 0])?;
+    let jobs: [Job; 5] = [
         // v1 v2 + 6 by its initial.
         (7, polynomial![1: 257, 6: 0], polynomial![1: 1]),
         // v1^200 v2 + 1 by v1^55 v2 + 1 and by v1^56 v2 + 1.

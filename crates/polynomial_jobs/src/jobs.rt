@@ -4,6 +4,7 @@ ghost use Rattle.std.proofs.Props.{props};
 ghost use Rattle.residues.specs.Prime.{Prime, is_modulus};
 ghost use Rattle.polynomials.specs.Bounds.{standard, bounded_remainder};
 ghost use Rattle.polynomials.specs.Packed.{terms};
+ghost use Rattle.polynomials.specs.Poly.{monic};
 ghost use Rattle.polynomials.specs.Working.{Holds, Forms, is_held};
 ghost use Rattle.division.specs.Props.{Canonical-prop};
 ghost use Rattle.forms.specs.Words.{paired};
@@ -119,11 +120,20 @@ impl<'a> Operands<'a> {
     // f made monic, and whether it was.
     fn monic(&self, out: &mut impl Write) -> io::Result<()> {
         let mut terms = [ZERO; 256];
-        let x = &mut terms[..self.f.len()];
-        x.copy_from_slice(self.f);
-        scaling::monic(self.p, x);
+        let x = self.made_monic(&mut terms);
         writeln!(out, "monic {}", Polynomial(x))?;
         writeln!(out, "equal {}", u8::from(forms::equal(x, self.f)))
+    }
+
+    // f made monic, in the first terms of x: those.
+    fn made_monic<'x>(&self, x: &'x mut [Term]) -> &'x [Term]
+        requires { 256 ≤ length x.old }
+        ensures { terms result.now ≡ monic self.now.p (terms self.now.f.now) }
+    {
+        let x = &mut x[..self.f.len()];
+        x.copy_from_slice(self.f);
+        scaling::monic(self.p, x);
+        x
     }
 
     // Leading variable, initial and rest of f.

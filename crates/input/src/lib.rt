@@ -42,6 +42,23 @@ impl<'a, R: Read> Words<'a, R> {
         }
     }
 
+    // The bytes of the buffer from `at` up to `end` are read already and not yet used. None are where the buffer has no such bytes: the next word
+    // is then read anew.
+    pub fn resume(reader: R, buffer: &'a mut [u8], at: usize, end: usize) -> Words<'a, R>
+        ensures window { (at ≤ end) × (end ≤ length buffer.old) → result ≡ record { bytes = buffer.old; at = at; end = end } }
+        ensures none { ((at ≤ end) × (end ≤ length buffer.old) → ⊥) → result ≡ record { bytes = buffer.old; at = 0; end = 0 } }
+    {
+        if end < at || buffer.len() < end {
+            return Words::new(reader, buffer);
+        }
+        Words {
+            reader,
+            buffer,
+            at,
+            end,
+        }
+    }
+
     // The bytes that are read and not yet used.
     pub fn buffer(&self) -> &[u8]
         ensures { result.now ≡ take (self.now.end - self.now.at) (drop self.now.at self.now.bytes) }

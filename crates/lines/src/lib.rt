@@ -1,7 +1,7 @@
 // Lines of numbers, gathered in a lent buffer.
 #![tactic(auto)]
 
-ghost use Rattle.std.specs.Prelude.{◌≡◌, [], ◌∷◌, ◌++◌, ◌+◌, ◌*◌, ◌≤◌, ◌<◌, length, IsOk, OnOk, OnErr};
+ghost use Rattle.std.specs.Prelude.{◌≡◌, [], ◌∷◌, ◌++◌, ◌+◌, ◌-◌, ◌*◌, ◌≤◌, ◌<◌, length, take, IsOk, OnOk, OnErr};
 ghost use Rattle.std.specs.Fmt.{decimal};
 ghost use Rattle.std.specs.Io.KnownBytes.{Appends};
 ghost use Rattle.lines.specs.Written.{capacity, Adds};
@@ -34,6 +34,14 @@ impl<'a> Text<'a> {
         ensures { result ≡ record { bytes = []; free = length buffer.old } }
     {
         Text { buffer, end: 0 }
+    }
+
+    // The first `end` bytes of the buffer are the text so far.
+    pub fn resume(buffer: &'a mut [u8], end: usize) -> Text<'a>
+        requires { end ≤ length buffer.old }
+        ensures { result ≡ record { bytes = take end buffer.old; free = length buffer.old - end } }
+    {
+        Text { buffer, end }
     }
 
     // Adds a byte.

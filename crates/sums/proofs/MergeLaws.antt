@@ -1,7 +1,7 @@
 -- What the code of `sums` plugs its places into: the merge on terms, what holds at its head and each turn; and the tested difference.
 use Rattle.std.specs.Prelude.{◌≡◌, refl, ◌≢◌, List, [], ◌∷◌, ◌++◌, Bool, true, false, ltb, length, take, drop, get_or, set, Ok, Err}
 use Prim.Native.Nat.{Ordering, ℕ, zero, suc, ◌+◌, ◌-◌, ◌*◌, ◌/◌, ◌%◌, ◌^◌, ◌≤◌, ◌<◌}
-use Rattle.std.proofs.Common.{sym, ◌∙◌, ap, ap₂, subst, arith, ltb-true, ltb-false, length-set, length-append, length-take-le, drop-cons, add-one}
+use Rattle.std.proofs.Common.{sym, ◌∙◌, ap, ap₂, subst, arith, ltb-true, ltb-false, length-set, length-append, length-take-le, length-drop, drop-cons}
 use Rattle.std.proofs.lemmas.List.{drop_all}
 use Rattle.std.proofs.lemmas.Slice.{take-put_mid}
 use borrow.Rule.Slice.PartMut.{put_mid, post_of}
@@ -72,51 +72,56 @@ module _ (p c m : ℕ) (t : Packed) (g : Poly) (small : Word (m + t.monomial)) (
       ∙ ap (λ (x : ℕ). keep ((c * t.coefficient % p + u.coefficient) % p) (bytes 8 x) (add_multiple p c (bytes 8 m) g f)) alike
 
 -- ── the loop, on terms ──
--- What is still to be merged at i and j.
-abbrev pub left : (p c m : ℕ) (g f : List Packed) (i j : ℕ) → Poly
-left p c m g f i j = add_multiple p c (bytes 8 m) (terms (drop j g)) (terms (drop i f))
+-- What is still to be merged: f from i on, and what is left of g.
+abbrev pub left : (p c m : ℕ) (f b : List Packed) (i : ℕ) → Poly
+left p c m f b i = add_multiple p c (bytes 8 m) (terms b) (terms (drop i f))
 
--- At the loop's head: k terms are written.
-pub record Head (p c m : ℕ) (g f out : List Packed) (i j k : ℕ) : Type 0 where
+-- At the loop's head: k terms are written, and b is left of g.
+pub record Head (p c m : ℕ) (g f out b : List Packed) (i k : ℕ) : Type 0 where
   pub i≤ : i ≤ length f
-  pub j≤ : j ≤ length g
-  pub k≤ : k ≤ i + j
+  pub k≤ : k + length b ≤ i + length g
   pub f_canonical : Canonical p (terms (drop i f))
-  pub g_canonical : Canonical p (terms (drop j g))
-  pub fits : AllFit m (drop j g)
-  pub same : terms (take k out) ++ left p c m g f i j ≡ left p c m g f 0 0
+  pub g_canonical : Canonical p (terms b)
+  pub fits : AllFit m b
+  pub same : terms (take k out) ++ left p c m f b i ≡ left p c m f g 0
 
 -- The next term of the multiple is taken: with the sum s of coefficients and the monomial e, and i' behind the term of f that it met.
-pub record Taken (p c m : ℕ) (g f : List Packed) (i j e i' s : ℕ) : Type 0 where
+pub record Taken (p c m : ℕ) (f b : List Packed) (i e i' s : ℕ) : Type 0 where
   pub above : i ≤ i'
   pub within : i' ≤ length f
   pub canonical : Canonical p (terms (drop i' f))
-  pub sum : left p c m g f i j ≡ keep s (bytes 8 e) (left p c m g f i' (j + 1))
+  pub sum : left p c m f b i ≡ keep s (bytes 8 e) (left p c m f (drop 1 b) i')
 
-pub subst_taken : {p c m : ℕ} {g f : List Packed} {i j e i' s x y : ℕ} → Taken p c m g f i j e i' s → x ≡ i' → y ≡ s → Taken p c m g f i j e x y
-subst_taken {p} {c} {m} {g} {f} {i} {j} {e} {i'} {s} {x} {y} K a b = subst (λ x. Taken p c m g f i j e x y) (sym a) (subst (λ y. Taken p c m g f i j e i' y) (sym b) K)
+pub subst_taken : {p c m : ℕ} {f b : List Packed} {i e i' s x y : ℕ} → Taken p c m f b i e i' s → x ≡ i' → y ≡ s → Taken p c m f b i e x y
+subst_taken {p} {c} {m} {f} {b} {i} {e} {i'} {s} {x} {y} K a q = subst (λ x. Taken p c m f b i e x y) (sym a) (subst (λ y. Taken p c m f b i e i' y) (sym q) K)
 
-subst_head : {p c m : ℕ} {g f out x : List Packed} {i j k y : ℕ} → Head p c m g f out i j k → x ≡ out → y ≡ k → Head p c m g f x i j y
-subst_head {p} {c} {m} {g} {f} {out} {x} {i} {j} {k} {y} H e q = subst (λ x. Head p c m g f x i j y) (sym e) (subst (λ y. Head p c m g f out i j y) (sym q) H)
+subst_head : {p c m : ℕ} {g f out b x : List Packed} {i k y : ℕ} → Head p c m g f out b i k → x ≡ out → y ≡ k → Head p c m g f x b i y
+subst_head {p} {c} {m} {g} {f} {out} {b} {x} {i} {k} {y} H e q = subst (λ x. Head p c m g f x b i y) (sym e) (subst (λ y. Head p c m g f out b i y) (sym q) H)
 
-pub start : (p c m : ℕ) (g f out : List Packed) → Canonical p (terms f) → Canonical p (terms g) → AllFit m g → Head p c m g f out 0 0 0
+pub start : (p c m : ℕ) (g f out : List Packed) → Canonical p (terms f) → Canonical p (terms g) → AllFit m g → Head p c m g f out g 0 0
 unfolding terms
-start p c m g f out n h a = record { i≤ = omega arith; j≤ = omega arith; k≤ = omega arith; f_canonical = n; g_canonical = h; fits = a; same = refl }
+start p c m g f out n h a = record { i≤ = omega arith; k≤ = omega arith; f_canonical = n; g_canonical = h; fits = a; same = refl }
 
 -- d stands for what is read past the end: never here.
-module _ {p c m : ℕ} {g f out : List Packed} {i j k : ℕ} (H : Head p c m g f out i j k) (in_g : j < length g) (d : Packed) where
+module _ {p c m : ℕ} {g f out b : List Packed} {i k : ℕ} (H : Head p c m g f out b i k) (more : 1 ≤ length b) (d : Packed) where
   abbrev of_g : Packed
-  of_g = get_or g j d
+  of_g = get_or b 0 d
 
   abbrev of_f : Packed
   of_f = get_or f i d
 
-  -- the next term of the multiple, and of f
-  pub next_canonical : Canonical p (term of_g ∷ terms (drop (j + 1) g))
-  next_canonical = subst (Canonical p) (terms_at g j d in_g) H.g_canonical
+  first : terms b ≡ term of_g ∷ terms (drop 1 b)
+  first = terms_at b 0 d (omega (arith, more))
 
-  pub next_fits : Fits 8 m of_g.monomial × AllFit m (drop (j + 1) g)
-  next_fits = subst (AllFit m) (drop-cons g j d in_g ∙ ap (λ (n : ℕ). of_g ∷ drop n g) (sym (add-one j))) H.fits
+  fewer : length (drop 1 b) + 1 ≡ length b
+  fewer = omega (arith, length-drop 1 b, more)
+
+  -- the next term of the multiple, and of f
+  pub next_canonical : Canonical p (term of_g ∷ terms (drop 1 b))
+  next_canonical = subst (Canonical p) first H.g_canonical
+
+  pub next_fits : Fits 8 m of_g.monomial × AllFit m (drop 1 b)
+  next_fits = subst (AllFit m) (drop-cons b 0 d (omega (arith, more))) H.fits
 
   pub front_canonical : i < length f → Canonical p (term of_f ∷ terms (drop (i + 1) f))
   front_canonical in_f = subst (Canonical p) (terms_at f i d in_f) H.f_canonical
@@ -127,40 +132,39 @@ module _ {p c m : ℕ} {g f out : List Packed} {i j k : ℕ} (H : Head p c m g f
 
   module _ (small : Word (m + of_g.monomial)) where
     -- The term of f goes first.
-    pub turn_f : i < length f → k < length out → Word of_f.monomial → m + of_g.monomial < of_f.monomial → Head p c m g f (set out k of_f) (i + 1) j (k + 1)
+    pub turn_f : i < length f → k < length out → Word of_f.monomial → m + of_g.monomial < of_f.monomial → Head p c m g f (set out k of_f) b (i + 1) (k + 1)
     turn_f in_f room word less = record {
       i≤ = omega arith;
-      j≤ = H.j≤;
       k≤ = omega (arith, H.k≤);
       f_canonical = (front_canonical in_f).3;
       g_canonical = H.g_canonical;
       fits = H.fits;
-      same = terms_push_before out k of_f (left p c m g f i j) (left p c m g f (i + 1) j) room ahead ∙ H.same;
+      same = terms_push_before out k of_f (left p c m f b i) (left p c m f b (i + 1)) room ahead ∙ H.same;
     }
       where
-        ahead : left p c m g f i j ≡ term of_f ∷ left p c m g f (i + 1) j
+        ahead : left p c m f b i ≡ term of_f ∷ left p c m f b (i + 1)
         ahead =
-            ap₂ (add_multiple p c (bytes 8 m)) (terms_at g j d in_g) (terms_at f i d in_f)
-            ∙ turn_left p c m of_g (terms (drop (j + 1) g)) small next_fits.0 (places_terms (drop (j + 1) g)) next_canonical.2
+            ap₂ (add_multiple p c (bytes 8 m)) first (terms_at f i d in_f)
+            ∙ turn_left p c m of_g (terms (drop 1 b)) small next_fits.0 (places_terms (drop 1 b)) next_canonical.2
             of_f (terms (drop (i + 1) f)) word less
-            ∙ ap (λ z. term of_f ∷ add_multiple p c (bytes 8 m) z (terms (drop (i + 1) f))) (sym (terms_at g j d in_g))
+            ∙ ap (λ z. term of_f ∷ add_multiple p c (bytes 8 m) z (terms (drop (i + 1) f))) (sym first)
 
-    alone : Under (bytes 8 (m + of_g.monomial)) (terms (drop i f)) → Taken p c m g f i j (m + of_g.monomial) i (c * of_g.coefficient % p)
+    alone : Under (bytes 8 (m + of_g.monomial)) (terms (drop i f)) → Taken p c m f b i (m + of_g.monomial) i (c * of_g.coefficient % p)
     alone u = record {
       above = omega arith;
       within = H.i≤;
       canonical = H.f_canonical;
-      sum = ap (λ z. add_multiple p c (bytes 8 m) z (terms (drop i f))) (terms_at g j d in_g)
-          ∙ turn_right p c m of_g (terms (drop (j + 1) g)) small next_fits.0 (places_terms (drop (j + 1) g)) next_canonical.2 (terms (drop i f)) u;
+      sum = ap (λ z. add_multiple p c (bytes 8 m) z (terms (drop i f))) first
+          ∙ turn_right p c m of_g (terms (drop 1 b)) small next_fits.0 (places_terms (drop 1 b)) next_canonical.2 (terms (drop i f)) u;
     }
 
     -- f is at its end.
-    pub taken_last : length f ≤ i → Taken p c m g f i j (m + of_g.monomial) i (c * of_g.coefficient % p)
+    pub taken_last : length f ≤ i → Taken p c m f b i (m + of_g.monomial) i (c * of_g.coefficient % p)
     unfolding terms
     taken_last l = alone (subst (λ z. Under (bytes 8 (m + of_g.monomial)) (terms z)) (sym (drop_all i f l)) tt)
 
     -- The term of f is below.
-    pub taken_alone : i < length f → Word of_f.monomial → of_f.monomial < m + of_g.monomial → Taken p c m g f i j (m + of_g.monomial) i (c * of_g.coefficient % p)
+    pub taken_alone : i < length f → Word of_f.monomial → of_f.monomial < m + of_g.monomial → Taken p c m f b i (m + of_g.monomial) i (c * of_g.coefficient % p)
     taken_alone in_f word less =
         alone
         (subst (Under (bytes 8 (m + of_g.monomial))) (sym (terms_at f i d in_f))
@@ -168,63 +172,61 @@ module _ {p c m : ℕ} {g f out : List Packed} {i j k : ℕ} (H : Head p c m g f
         (front_canonical in_f) (words_below of_f.monomial (m + of_g.monomial) word small less)))
 
     -- The two are alike.
-    pub taken_both : i < length f → of_f.monomial ≡ m + of_g.monomial → Taken p c m g f i j (m + of_g.monomial) (i + 1) ((c * of_g.coefficient % p + of_f.coefficient) % p)
+    pub taken_both : i < length f → of_f.monomial ≡ m + of_g.monomial → Taken p c m f b i (m + of_g.monomial) (i + 1) ((c * of_g.coefficient % p + of_f.coefficient) % p)
     taken_both in_f alike = record {
       above = omega arith;
       within = omega arith;
       canonical = (front_canonical in_f).3;
-      sum = ap₂ (add_multiple p c (bytes 8 m)) (terms_at g j d in_g) (terms_at f i d in_f)
-          ∙ turn_both p c m of_g (terms (drop (j + 1) g)) small next_fits.0 (places_terms (drop (j + 1) g)) next_canonical.2 of_f (terms (drop (i + 1) f)) alike;
+      sum = ap₂ (add_multiple p c (bytes 8 m)) first (terms_at f i d in_f)
+          ∙ turn_both p c m of_g (terms (drop 1 b)) small next_fits.0 (places_terms (drop 1 b)) next_canonical.2 of_f (terms (drop (i + 1) f)) alike;
     }
 
   -- The sum is zero, and nothing is written.
-  turn_none : {e i' s : ℕ} → Taken p c m g f i j e i' s → s ≡ 0 → Head p c m g f out i' (j + 1) k
+  turn_none : {e i' s : ℕ} → Taken p c m f b i e i' s → s ≡ 0 → Head p c m g f out (drop 1 b) i' k
   turn_none {e} {i'} {s} K z = record {
     i≤ = K.within;
-    j≤ = omega arith;
-    k≤ = omega (arith, H.k≤, K.above);
+    k≤ = omega (arith, H.k≤, K.above, fewer);
     f_canonical = K.canonical;
     g_canonical = next_canonical.3;
     fits = next_fits.1;
-    same = ap (λ z. terms (take k out) ++ z) (sym (K.sum ∙ keep_none s (bytes 8 e) (left p c m g f i' (j + 1)) z)) ∙ H.same;
+    same = ap (λ z. terms (take k out) ++ z) (sym (K.sum ∙ keep_none s (bytes 8 e) (left p c m f (drop 1 b) i') z)) ∙ H.same;
   }
 
   -- It is not, and is written.
-  turn_sum : {e i' s : ℕ} → Taken p c m g f i j e i' s → s ≢ 0 → k < length out → Head p c m g f (set out k (record { coefficient = s; monomial = e })) i' (j + 1) (k + 1)
+  turn_sum : {e i' s : ℕ} → Taken p c m f b i e i' s → s ≢ 0 → k < length out → Head p c m g f (set out k (record { coefficient = s; monomial = e })) (drop 1 b) i' (k + 1)
   turn_sum {e} {i'} {s} K z room = record {
     i≤ = K.within;
-    j≤ = omega arith;
-    k≤ = omega (arith, H.k≤, K.above);
+    k≤ = omega (arith, H.k≤, K.above, fewer);
     f_canonical = K.canonical;
     g_canonical = next_canonical.3;
     fits = next_fits.1;
-    same = terms_push_before out k (record { coefficient = s; monomial = e }) (left p c m g f i j) (left p c m g f i' (j + 1)) room
-        (K.sum ∙ keep_some s (bytes 8 e) (left p c m g f i' (j + 1)) z) ∙ H.same;
+    same = terms_push_before out k (record { coefficient = s; monomial = e }) (left p c m f b i) (left p c m f (drop 1 b) i') room
+        (K.sum ∙ keep_some s (bytes 8 e) (left p c m f (drop 1 b) i') z) ∙ H.same;
   }
 
   -- What is written goes by the sum.
-  pub turn_taken : {e i' s k' : ℕ} {out' : List Packed} → Taken p c m g f i j e i' s → k < length out
+  pub turn_taken : {e i' s k' : ℕ} {out' rest : List Packed} → Taken p c m f b i e i' s → rest ≡ drop 1 b → k < length out
       → (s ≢ 0 → (out' ≡ set out k (record { coefficient = s; monomial = e })) × (k' ≡ k + 1)) → (s ≡ 0 → (out' ≡ out) × (k' ≡ k))
-      → (length out' ≡ length out) × Head p c m g f out' i' (j + 1) k'
-  turn_taken {e} {i'} {s} K room some none = elim (ℕ_discrete s 0) [
+      → (length out' ≡ length out) × Head p c m g f out' rest i' k'
+  turn_taken {e} {i'} {s} {k'} {out'} K is room some none = subst (λ z. (length out' ≡ length out) × Head p c m g f out' z i' k') (sym is) (elim (ℕ_discrete s 0) [
     | yes z ↦ let e = none z in (ap length e.0, subst_head (turn_none K z) e.0 e.1)
     | no n ↦ let e = some n in (ap length e.0 ∙ simp length-set refl, subst_head (turn_sum K n room) e.0 e.1)
-  ]
+  ])
 
 -- After the loop, with the rest of f copied behind the k terms.
-module _ {p c m : ℕ} {g f out : List Packed} {i j k : ℕ} (H : Head p c m g f out i j k) (end : length g ≤ j) where
-  finish : (n : ℕ) (last : List Packed) → n ≤ length last → take n last ≡ take k out ++ drop i f → Written (left p c m g f 0 0) n last
+module _ {p c m : ℕ} {g f out b : List Packed} {i k : ℕ} (H : Head p c m g f out b i k) (end : length b ≡ 0) where
+  finish : (n : ℕ) (last : List Packed) → n ≤ length last → take n last ≡ take k out ++ drop i f → Written (left p c m f g 0) n last
   unfolding terms add_multiple
   finish n last room copied = record {
     within = room;
     holds = ap terms copied ∙ terms_append (take k out) (drop i f) ∙ ap (λ z. terms (take k out) ++ z) (sym nothing) ∙ H.same;
   }
     where
-      nothing : left p c m g f i j ≡ terms (drop i f)
-      nothing = ap (λ z. add_multiple p c (bytes 8 m) (terms z) (terms (drop i f))) (drop_all j g end)
+      nothing : left p c m f b i ≡ terms (drop i f)
+      nothing = ap (λ z. add_multiple p c (bytes 8 m) (terms z) (terms (drop i f))) (drop_all 0 b (omega (arith, end)))
 
   pub rest_copied : (n : ℕ) (rest part : List Packed) → rest ≡ drop i f → part ≡ rest → n ≡ k + length rest → n ≤ length out
-      → Written (left p c m g f 0 0) n (put_mid k (n - k) out part)
+      → Written (left p c m f g 0) n (put_mid k (n - k) out part)
   rest_copied n rest part is copy count room =
       let same : part ≡ drop i f = copy ∙ is in
       let post = post_of k (n - k) out in

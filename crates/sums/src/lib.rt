@@ -21,16 +21,19 @@ pub fn add_multiple(p: Modulus, c: u64, m: u64, g: &[Term], f: &[Term], out: &mu
     ensures { Written (add_multiple p c (bytes 8 m) (terms g.now) (terms f.now)) result out.new }
 {
     let mut i = 0;
-    let mut j = 0;
     let mut k = 0;
-    while j < g.len() {
-        let e = m + g[j].monomial;
+    let mut left = g;
+    while 0 < left.len() {
+        let e = m + left[0].monomial;
         if i < f.len() && e < f[i].monomial {
-            out[k] = f[i];
+            out[k] = Term {
+                coefficient: f[i].coefficient,
+                monomial: f[i].monomial,
+            };
             k += 1;
             i += 1;
         } else {
-            let mut s = p.multiply(c, g[j].coefficient);
+            let mut s = p.multiply(c, left[0].coefficient);
             if i < f.len() && f[i].monomial == e {
                 s = p.add(s, f[i].coefficient);
                 i += 1;
@@ -42,7 +45,7 @@ pub fn add_multiple(p: Modulus, c: u64, m: u64, g: &[Term], f: &[Term], out: &mu
                 };
                 k += 1;
             }
-            j += 1;
+            left = &left[1..];
         }
     }
     let rest = &f[i..];

@@ -1,7 +1,7 @@
 -- What the code of `sums` plugs its places into: the merge on terms, what holds at its head and each turn; and the tested difference.
 use Rattle.std.specs.Prelude.{◌≡◌, refl, ◌≢◌, List, [], ◌∷◌, ◌++◌, Bool, true, false, ltb, length, take, drop, get_or, set, Ok, Err}
 use Prim.Native.Nat.{Ordering, ℕ, zero, suc, ◌+◌, ◌-◌, ◌*◌, ◌/◌, ◌%◌, ◌^◌, ◌≤◌, ◌<◌}
-use Rattle.std.proofs.Common.{sym, ◌∙◌, ap, ap₂, subst, arith, ltb-true, ltb-false, length-set, length-append, length-take-le, length-drop, drop-cons}
+use Rattle.std.proofs.Common.{sym, ◌∙◌, ap, ap₂, subst, arith, ltb-true, ltb-false, length-set, length-append, length-take-le, length-drop, drop-cons, append-nil}
 use Rattle.std.proofs.lemmas.List.{drop_all}
 use Rattle.std.proofs.lemmas.Slice.{take-put_mid}
 use borrow.Rule.Slice.PartMut.{put_mid, post_of}
@@ -233,6 +233,13 @@ module _ {p c m : ℕ} {g f out b : List Packed} {i k : ℕ} (H : Head p c m g f
       let size : length part ≡ n - k = omega (arith, ap length copy, count) in
       finish n (put_mid k (n - k) out part) (omega (arith, size, count, room, length-append (take k out) (part ++ post), length-append part post, length-take-le k out (omega arith)))
       (take-put_mid k (n - k) out part n (omega (arith, size, count)) (omega (arith, count, room)) ∙ ap (λ z. take k out ++ z) same)
+
+  -- Nothing is left of f.
+  pub nothing_left : (n : ℕ) (rest : List Packed) → rest ≡ drop i f → n ≡ k + length rest → length f ≤ i → k ≤ length out → Written (left p c m f g 0) n out
+  nothing_left n rest is count all room =
+      let none : drop i f ≡ [] = drop_all i f all in
+      let same : n ≡ k = omega (arith, count, ap length (is ∙ none)) in
+      finish n out (omega (arith, same, room)) (ap (λ z. take z out) same ∙ sym (append-nil (take k out)) ∙ ap (λ z. take k out ++ z) (sym none))
 
 -- ── the difference ──
 fits_zero : (n v : ℕ) → Fits n 0 v

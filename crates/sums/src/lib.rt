@@ -50,7 +50,10 @@ pub fn add_multiple(p: Modulus, c: u64, m: u64, g: &[Term], f: &[Term], out: &mu
     }
     let rest = &f[i..];
     let end = k + rest.len();
-    out[k..end].copy_from_slice(rest);
+    // A call that copies nothing would take as long as a turn or two.
+    if i < f.len() {
+        out[k..end].copy_from_slice(rest);
+    }
     end
 }
 

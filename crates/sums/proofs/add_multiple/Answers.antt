@@ -5,7 +5,7 @@ use Rattle.std.proofs.lemmas.Slice.{between_to_end}
 use native.Mathlib.Nat.{mod-lt}
 use Rattle.residues.specs.Residue.{product, sum}
 use Rattle.polynomials.specs.declared.Term.{Term as Packed}
-use Rattle.sums.proofs.MergeLaws.{Taken, start, next_canonical, front_canonical, small_next, turn_f, subst_taken, taken_last, taken_alone, taken_both, turn_taken, rest_copied}
+use Rattle.sums.proofs.MergeLaws.{Taken, start, next_canonical, front_canonical, small_next, turn_f, subst_taken, taken_last, taken_alone, taken_both, turn_taken, rest_copied, nothing_left}
 use Rattle.sums.proofs.add_multiple.Goals as goal
 use Rattle.sums.proofs.add_multiple.Goals.{else-i-f-via-then-i-f+else-e-f, else-i-f-via-else-i-f, then-i-f-2+then-f-i, else-i-f-2, else-i-f-2-via-then-i-f-2+else-f-i, else-i-f-2-via-else-i-f-2}
 
@@ -66,8 +66,15 @@ loop-left-preserved c =
     let turn = turn_taken H more none taken (between_to_end l.left.now 1 (length l.left.now) (omega arith)) (omega (arith, H.k≤, more)) (λ h. (search rules, search rules)) (λ h. (search rules, search rules)) in
     (turn.0 ∙ l.invariant.0, turn.1)
 
-pub returns : goal.returns
-returns c =
+pub returns-then-i-f-3 : goal.returns-then-i-f-3
+returns-then-i-f-3 c =
     let f = c.args.f.now in
     let i = c.loop-left.i in
     rest_copied c.loop-left.invariant.1 (omega (arith, c.loop-left-test.false)) _ _ _ (between_to_end f i (length f) (omega arith)) c.copy_from_slice.ensures.after refl (omega arith)
+
+pub returns-else-i-f-3 : goal.returns-else-i-f-3
+returns-else-i-f-3 c =
+    let f = c.args.f.now in
+    let i = c.loop-left.i in
+    let H = c.loop-left.invariant.1 in
+    nothing_left H (omega (arith, c.loop-left-test.false)) _ _ (between_to_end f i (length f) (omega arith)) refl c.if-i-f-3.false (omega (arith, H.k≤))

@@ -51,7 +51,7 @@ impl<'a, R: Read> Words<'a, R> {
         if end < at || buffer.len() < end {
             return Words::new(reader, buffer);
         }
-        Words {
+        Self {
             reader,
             buffer,
             at,

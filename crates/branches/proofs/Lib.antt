@@ -8,5 +8,6 @@ pub mod LeavesLaws
 pub mod LengthLaws
 pub mod MemberLaws
 pub mod OpenLaws
+pub mod BeyondLaws
 pub mod RowLaws
 pub mod Unique

@@ -2,7 +2,7 @@
 use Rattle.std.proofs.Common.{◌≡◌, sym, ap, ◌∙◌, ℕ, ◌+◌, ◌<◌, ◌≤◌, List, [], length, get_or, arith}
 use Rattle.records.specs.Records.{Rec, record_of}
 use Rattle.records.proofs.Rows.{view_at}
-use Rattle.branches.specs.Area.{Stored, HeldIn, with_open}
+use Rattle.branches.specs.Area.{Stored, HeldIn, with_open, used}
 use Rattle.branches.specs.declared.Open.{Open}
 use Rattle.branches.specs.Open.{open_of}
 use Rattle.branches.proofs.AreaLaws.{lies, first_is, own_of, control, at_of, end_of, own_read, room_is}
@@ -38,5 +38,5 @@ module _ (w : List (List ℕ)) {b : Stored} {bs ss : List Stored} (H : HeldIn w 
   systems_row = ap (λ (r : Rec). r.w3) control_row
 
   -- The open branch and the free records behind it lie inside.
-  pub rows_inside : (ctl_word w 0 < ctl_word w 1) × (ctl_word w 1 ≤ ctl_word w 2) × (ctl_word w 2 ≤ length w)
+  pub rows_inside : (ctl_word w 0 < ctl_word w 1) × (ctl_word w 1 ≤ ctl_word w 2) × (ctl_word w 2 ≤ used w)
   rows_inside = (omega (arith, start_row, end_row), omega (arith, end_row, top_row), omega (arith, top_row, room_is H))

@@ -1,9 +1,9 @@
 -- The whole state of a run in the work area:
 --
---     [control] [waiting branches, oldest .. newest] [open branch] [free] [systems, newest .. oldest]
+--     [control] [waiting branches, oldest .. newest] [open branch] [free] [systems, newest .. oldest] [records beyond 65,536]
 --
 -- The control record holds where the open branch starts and ends, where the systems start, and how many there are.
-use Rattle.std.specs.Prelude.{◌≡◌, Bool, true, false, List, [], ◌∷◌, ◌++◌, ℕ, ◌+◌, ◌-◌, ◌≤◌, leb, length, get_or, take, drop, Result, Ok, Err, IsOk, IsErr}
+use Rattle.std.specs.Prelude.{◌≡◌, min, Bool, true, false, List, [], ◌∷◌, ◌++◌, ℕ, ◌+◌, ◌-◌, ◌≤◌, leb, length, get_or, take, drop, Result, Ok, Err, IsOk, IsErr}
 use Rattle.residues.specs.Each.{Each}
 use Rattle.records.specs.Records.{Rec, record_of, view}
 use Rattle.stored.specs.Stored.{polys_records, Storable}
@@ -118,9 +118,17 @@ unfinished_split most i initial rest b bs ss =
     (with_open (aside i initial rest b) bs ss)
 
 -- ── what a lent work area holds, before and after a call ──
+-- How many of its records are used: 65,536 at most.
+abbrev pub used : List (List ℕ) → ℕ
+used w = min (length w) 65536
+
+-- The records beyond those: every operation leaves them as they are.
+abbrev pub beyond : List (List ℕ) → List Rec
+beyond w = drop 65536 (view w)
+
 -- Its records, each of four words, hold the state a.
 abbrev pub HeldIn : List (List ℕ) → Area → Type 0
-HeldIn w a = Held (view w) (length w) a
+HeldIn w a = Held (view w) (used w) a
 
 -- Some state with an open branch is held.
 abbrev pub Opened : List (List ℕ) → Type 0
@@ -132,4 +140,4 @@ WhenOpen w Φ = (b : Stored) (bs ss : List Stored) → HeldIn w (with_open b bs 
 
 -- The open branch b becomes g b; the waiting branches and the systems stay.
 abbrev pub OpenBecomes : (Stored → Stored) → List (List ℕ) → List (List ℕ) → Type 0
-OpenBecomes g w w' = WhenOpen w (λ b bs ss. Held (view w') (length w) (with_open (g b) bs ss))
+OpenBecomes g w w' = WhenOpen w (λ b bs ss. Held (view w') (used w) (with_open (g b) bs ss))

@@ -5,7 +5,7 @@
 
 ghost use Rattle.std.specs.Prelude.{◌≡◌, [], ◌≤◌, ◌<◌, length, get_or, take, drop};
 ghost use Rattle.stored.specs.Stored.{member, Storable};
-ghost use Rattle.branches.specs.Area.{Area, HeldIn, Opened, WhenOpen};
+ghost use Rattle.branches.specs.Area.{Area, HeldIn, Opened, WhenOpen, used};
 ghost use Rattle.branches.specs.Listed.{listed_of};
 ghost use Rattle.branches.specs.Members.{HasMember, member_of, members_before, behind};
 ghost use Rattle.branches.specs.Open.{open_of};
@@ -13,6 +13,13 @@ ghost use Rattle.branches.specs.Words.{is_one};
 
 use polynomials::Term;
 use records::Record;
+
+// How many of the records of a work area are used: 65,536 at most.
+pub fn count_records(w: &[Record]) -> usize
+    ensures { result ≡ used w.now }
+{
+    w.len().min(65536)
+}
 
 // The listed systems: the record at which they start, and how many there are.
 #[derive(Clone, Copy)]
@@ -25,7 +32,7 @@ pub struct Listed {
 #[tactic(auto, using(records::proofs::Rows::word_2, records::proofs::Rows::word_3, crate::proofs::ControlLaws::listed_is))]
 pub fn listed_systems(w: &[Record]) -> Listed
     requires { (a : Area) × HeldIn w.now a }
-    ensures { (a : Area) → HeldIn w.now a → result ≡ listed_of (length w.now) a }
+    ensures { (a : Area) → HeldIn w.now a → result ≡ listed_of (used w.now) a }
 {
     let [_, _, top, count] = w[0];
     Listed {

@@ -4,7 +4,7 @@
 ghost use Rattle.std.specs.Prelude.{◌≡◌, [], ◌<◌, length, get_or};
 ghost use Rattle.stored.specs.Stored.{Storable};
 ghost use Rattle.branches.specs.Members.{HasMember, without};
-ghost use Rattle.branches.specs.Area.{Opened, closed, WhenOpen, OpenBecomes};
+ghost use Rattle.branches.specs.Area.{Opened, closed, WhenOpen, OpenBecomes, beyond};
 
 use branches::Member;
 use polynomials::Term;
@@ -15,6 +15,7 @@ pub fn remove(w: &mut [Record], member: Member)
     requires opened { Opened w.old }
     requires when_open { WhenOpen w.old (λ b bs ss. HasMember member b) }
     ensures open_becomes { OpenBecomes (without member) w.old w.new }
+    ensures beyond_stays { beyond w.new ≡ beyond w.old }
 {
     let from = branches::head_of(w, member);
     let b = branches::open_branch(w);
@@ -30,6 +31,7 @@ pub fn close(w: &mut [Record], i: usize, f: &[Term])
     requires when_open { WhenOpen w.old (λ b bs ss. (i < length b.P) × (get_or b.P i [] ≡ f.now)) }
     requires storable { Storable f.now }
     ensures open_becomes { OpenBecomes (closed i) w.old w.new }
+    ensures beyond_stays { beyond w.new ≡ beyond w.old }
 {
     remove(w, Member::P(i));
     let b = branches::open_branch(w);

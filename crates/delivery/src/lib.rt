@@ -7,7 +7,7 @@ ghost use Rattle.tables.specs.Read.{Input, good, read_table};
 ghost use Rattle.rules.specs.Written.{list_records};
 ghost use Rattle.rules.specs.Run.{Ended};
 ghost use Rattle.rules.specs.Eliminate.{delivered};
-ghost use Rattle.branches.specs.Area.{Stored, HeldIn};
+ghost use Rattle.branches.specs.Area.{Stored, HeldIn, used};
 ghost use Rattle.representation.specs.Represent.{AllListed, system_of};
 ghost use Rattle.run.specs.Stretch.{Ran};
 ghost use Rattle.delivery.specs.Delivered.{Delivered};
@@ -23,14 +23,14 @@ fn list_size(work: &[Record]) -> usize
         → AllListed ss → result ≡ list_records (reverse (map system_of ss)) }
 {
     let listed = branches::listed_systems(work);
-    1 + (work.len() - listed.top)
+    1 + (branches::count_records(work) - listed.top)
 }
 
 // The answer of a run on an accepted table, with its list of systems in the first words of the output.
 pub fn deliver(table: &[u32], work: &[Record], output: &mut [u32], ran: Answer) -> Answer
-    requires { (t : Input) × (e : Ended) × (read_table table.now ≡ good t) × Ran e t.modulus ran.steps ran.outcome (view work.now) (length work.now) }
+    requires { (t : Input) × (e : Ended) × (read_table table.now ≡ good t) × Ran e t.modulus ran.steps ran.outcome (view work.now) (used work.now) }
     ensures { (t : Input) (e : Ended) → read_table table.now ≡ good t
-        → Ran e t.modulus ran.steps ran.outcome (view work.now) (length work.now)
+        → Ran e t.modulus ran.steps ran.outcome (view work.now) (used work.now)
         → Delivered (delivered (length output.old / 4) t e) result output.old output.new }
 {
     let Outcome::Systems(_) = ran.outcome else {

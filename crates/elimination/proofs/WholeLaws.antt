@@ -51,6 +51,13 @@ module _ (t : Input) (most limit : ℕ) (r : Result (Unit {0}) Reason) (v : List
     ran = λ s starts. left;
   }
 
+  -- What it holds where the run does not start.
+  pub refused_leaves : (why : Reason) → r ≡ Err why → Worked t limit most v
+  refused_leaves why e = record {
+    unstarted = λ none. let y = subst (λ (s : Stepped). Started t s most r v) none x in (refl, y.1, y.2);
+    ran = λ s starts. let y = subst (λ (s : Stepped). Started t s most r v) starts x in absurd (false≢true (sym (ap is_ok e) ∙ ap is_ok y.0));
+  }
+
   pub started_in_two : IsOk r → 2 ≤ most
   started_in_two e = (held_first t (start (limits_in most) t) r x e).0
 

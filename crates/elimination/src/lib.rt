@@ -7,7 +7,7 @@ ghost use Rattle.tables.specs.Read.{Input, good, read_table};
 ghost use Rattle.words.specs.Table.{TableOf};
 ghost use Rattle.rules.specs.Run.{run, run_of};
 ghost use Rattle.rules.specs.Eliminate.{delivered, limits_of};
-ghost use Rattle.branches.specs.Area.{Area, HeldIn};
+ghost use Rattle.branches.specs.Area.{Area, HeldIn, used, beyond};
 ghost use Rattle.representation.specs.Represent.{state_of};
 ghost use Rattle.representation.specs.Ready.{Ready, limits_in};
 ghost use Rattle.run.specs.Stretch.{Ran};
@@ -27,7 +27,8 @@ fn run_started(table: Table<'_>, work: &mut [Record], limit: u32, divided: &mut 
     requires ready { (a : Area) × HeldIn work.old a × Ready table.modulus a }
     requires in_bounds { 256 ≤ length divided.old }
     ensures ran { (a : Area) → HeldIn work.old a → Ready table.entry.modulus a
-        → Ran (run (limits_in (length work.old)) table.entry.modulus limit 0 (state_of a)) table.entry.modulus result.steps result.outcome (view work.new) (length work.old) }
+        → Ran (run (limits_in (used work.old)) table.entry.modulus limit 0 (state_of a)) table.entry.modulus result.steps result.outcome (view work.new) (used work.old) }
+    ensures beyond_stays { beyond work.new ≡ beyond work.old }
 {
     let p = Modulus::new(u64::from(table.modulus));
     // 32 records: the largest table that is run in short scratch first (docs/DECISIONS.md, 16).
@@ -47,11 +48,11 @@ fn eliminate_accepted(
 ) -> Answer
     requires header { TableOf table.words.now table }
     requires accepted { (t : Input) × (read_table table.words.now ≡ good t) }
-    requires few { length work.old ≤ 65536 }
     ensures delivered { (t : Input) → read_table table.entry.words.now ≡ good t
-        → Delivered (delivered (length output.old / 4) t (run_of (limits_in (length work.old)) limit t)) result output.old output.new }
-    ensures worked { (t : Input) → read_table table.entry.words.now ≡ good t → Worked t limit (length work.old) (view work.new) }
+        → Delivered (delivered (length output.old / 4) t (run_of (limits_in (used work.old)) limit t)) result output.old output.new }
+    ensures worked { (t : Input) → read_table table.entry.words.now ≡ good t → Worked t limit (used work.old) (view work.new) }
     ensures too_small { length work.old < 2 → work.new ≡ work.old }
+    ensures beyond_stays { beyond work.new ≡ beyond work.old }
 {
     let mut divided = [Term {
         coefficient: 0,

@@ -227,8 +227,8 @@ module _ {v : List Rec} {most : ℕ} {c : Stored} {bs ss : List Stored} (H : Hel
       omega (arith, ap length q_in_order, length_to_new, length-append to_new q_t, length-append (polys_records c.Q) (polys_records c.T))
 
   -- All of it lies inside.
-  pub parts_inside : {x : ℕ} → x ≤ end_q i n c bs → x ≤ most
-  parts_inside h = omega (arith, length_parts, H.fits)
+  pub all_inside : end_q i n c bs ≤ most
+  all_inside = omega (arith, length_parts, H.fits)
 
   few_members : (n ≤ length (front_p i c) + length (back_p i n c)) × (length c.Q ≤ length (polys_records c.Q))
   few_members =

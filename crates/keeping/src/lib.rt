@@ -4,7 +4,7 @@
 ghost use Rattle.std.specs.Prelude.{◌≡◌, ◌∷◌, ◌≤◌, length};
 ghost use Rattle.records.specs.Records.{view};
 ghost use Rattle.stored.specs.Stored.{Storable};
-ghost use Rattle.branches.specs.Area.{Leaves, Opened, with_open, kept_open, WhenOpen};
+ghost use Rattle.branches.specs.Area.{Leaves, Opened, with_open, kept_open, WhenOpen, used, beyond};
 
 use polynomials::Term;
 use records::Record;
@@ -24,8 +24,9 @@ pub fn keep_open(
     requires storable { Storable f.now }
     requires storable_2 { Storable initial.now }
     ensures when_open_2 { WhenOpen w.old (λ c bs ss.
-        Leaves (length w.old) (with_open c bs ss) (with_open (kept_open i n f.now initial.now c) (c ∷ bs) ss)
+        Leaves (used w.old) (with_open c bs ss) (with_open (kept_open i n f.now initial.now c) (c ∷ bs) ss)
         result (view w.new)) }
+    ensures beyond_stays { beyond w.new ≡ beyond w.old }
 {
     let [at, end, top, systems] = w[0];
     let [p, q, t, _] = w[at as usize];

@@ -11,7 +11,7 @@ ghost use Rattle.tables.specs.Read.{Input, good, read_head, read_heads, read_tab
 ghost use Rattle.words.specs.Table.{TableOf};
 ghost use Rattle.rules.specs.Branch.{Branch};
 ghost use Rattle.rules.specs.Run.{start};
-ghost use Rattle.branches.specs.Area.{Opened, Leaves, with_open, WhenOpen};
+ghost use Rattle.branches.specs.Area.{Opened, Leaves, with_open, WhenOpen, used, beyond};
 ghost use Rattle.representation.specs.Ready.{limits_in};
 ghost use Rattle.loading.specs.Started.{Loaded, put_into, Alone, Filled, Started};
 
@@ -34,7 +34,8 @@ impl Target {
         requires opened { Opened work.old }
         requires storable { Storable f.now }
         ensures when_open { WhenOpen work.old (λ b bs ss.
-            Leaves (length work.old) (with_open b bs ss) (with_open (put_into self f.now b) bs ss) result (view work.new)) }
+            Leaves (used work.old) (with_open b bs ss) (with_open (put_into self f.now b) bs ss) result (view work.new)) }
+        ensures beyond_stays { beyond work.new ≡ beyond work.old }
     {
         match self {
             Target::P => puts::put_p(work, f),
@@ -87,12 +88,13 @@ fn put_heads(
     r: &mut [Term],
 ) -> Result<(), Reason>
     requires are_read { (fs : List Poly) × (read_heads table.words.now table.modulus table.variables (records table.words.now) 0 first ≡ good fs) }
-    requires alone { (c : Branch) × Alone table.modulus (length work.old) c (view work.old) }
+    requires alone { (c : Branch) × Alone table.modulus (used work.old) c (view work.old) }
     requires in_bounds { 256 ≤ length r.old }
     ensures filled { (fs : List Poly) (c : Branch)
         → read_heads table.entry.words.now table.entry.modulus table.entry.variables (records table.entry.words.now) 0 first ≡ good fs
-        → Alone table.entry.modulus (length work.old) c (view work.old)
-        → Filled table.entry.modulus (length work.old) target fs c result (view work.new) }
+        → Alone table.entry.modulus (used work.old) c (view work.old)
+        → Filled table.entry.modulus (used work.old) target fs c result (view work.new) }
+    ensures beyond_stays { beyond work.new ≡ beyond work.old }
 {
     // The chain is accepted: no index is tested again.
     let mut i = first as usize;
@@ -109,11 +111,11 @@ fn put_heads(
 pub fn start(table: Table<'_>, work: &mut [Record], r: &mut [Term]) -> Result<(), Reason>
     requires header { TableOf table.words.now table }
     requires accepted { (t : Input) × (read_table table.words.now ≡ good t) }
-    requires few { length work.old ≤ 65536 }
     requires in_bounds { 256 ≤ length r.old }
     ensures started { (t : Input) → read_table table.entry.words.now ≡ good t
-        → Started t (start (limits_in (length work.old)) t) (length work.old) result (view work.new) }
+        → Started t (start (limits_in (used work.old)) t) (used work.old) result (view work.new) }
     ensures too_small { length work.old < 2 → work.new ≡ work.old }
+    ensures beyond_stays { beyond work.new ≡ beyond work.old }
 {
     // Fewer than two records: no room for the control record and the branch's own.
     if work.len() < 2 {

@@ -7,7 +7,7 @@ ghost use Rattle.polynomials.specs.Poly.{monic};
 ghost use Rattle.polynomials.specs.Packed.{terms};
 ghost use Rattle.polynomials.specs.Working.{Holds};
 ghost use Rattle.records.specs.Records.{view};
-ghost use Rattle.branches.specs.Area.{Held, Leaves, Opened, with_open, WhenOpen};
+ghost use Rattle.branches.specs.Area.{Held, Leaves, Opened, with_open, WhenOpen, used, beyond};
 ghost use Rattle.representation.specs.Represent.{Sound};
 ghost use Rattle.members.specs.Members.{count, HasLeft, HasBehind, next_member, taken_out, put_in};
 
@@ -52,8 +52,9 @@ pub fn take(w: &mut [Record], dividends: Dividends, left: usize, r: &mut [Term])
     requires in_bounds { 256 ≤ length r.old }
     ensures when_open_2 { WhenOpen w.old (λ b bs ss.
         (result ≡ length (next_member dividends left b)) × (take result r.new ≡ next_member dividends left b)
-        × Held (view w.new) (length w.old) (with_open (taken_out dividends left b) bs ss)) }
+        × Held (view w.new) (used w.old) (with_open (taken_out dividends left b) bs ss)) }
     ensures behind_stays { drop result r.new ≡ drop result r.old }
+    ensures beyond_stays { beyond w.new ≡ beyond w.old }
 {
     let member = match dividends {
         Dividends::InP(place) => Member::P(place),
@@ -79,7 +80,8 @@ pub fn put_back(
     ensures sound { Sound p (take n r.new) × (terms (take n r.new) ≡ monic p (terms (take n r.old)))
         × (drop n r.new ≡ drop n r.old) }
     ensures when_open_2 { WhenOpen w.old (λ b bs ss.
-        Leaves (length w.old) (with_open b bs ss) (with_open (put_in dividends left (take n r.new) b) bs ss) result (view w.new)) }
+        Leaves (used w.old) (with_open b bs ss) (with_open (put_in dividends left (take n r.new) b) bs ss) result (view w.new)) }
+    ensures beyond_stays { beyond w.new ≡ beyond w.old }
 {
     // That p is below 2^31 is a fact of its type: so residues are words.
     let _ = p.get();

@@ -9,7 +9,7 @@ ghost use Rattle.polynomials.specs.Division.{degree, leader, initial, rest};
 ghost use Rattle.records.specs.Records.{view};
 ghost use Rattle.stored.specs.Stored.{Storable, member};
 ghost use Rattle.branches.specs.Words.{is_one};
-ghost use Rattle.branches.specs.Area.{Held, Leaves, Opened, with_open, split_area, unfinished_split, WhenOpen};
+ghost use Rattle.branches.specs.Area.{Held, Leaves, Opened, with_open, split_area, unfinished_split, WhenOpen, used, beyond};
 ghost use Rattle.rules.specs.Branch.{other};
 ghost use Rattle.heads.specs.Heads.{AllHold};
 ghost use Rattle.representation.specs.Represent.{Sound, branch_of};
@@ -45,7 +45,8 @@ pub fn prepare_division(
     requires when_open_2 { WhenOpen w.old (λ b bs ss. (place < length b.P) × (get_or b.P place [] ≡ t.now)) }
     ensures when_open_3 { WhenOpen w.old (λ b bs ss.
         (result ≡ division_of (other k place (branch_of b).P) k (degree k (terms t.now)) (length t.now) initial b)
-        × Held (view w.new) (length w.old) (with_open (aimed (other k place (branch_of b).P) place b) bs ss)) }
+        × Held (view w.new) (used w.old) (with_open (aimed (other k place (branch_of b).P) place b) bs ss)) }
+    ensures beyond_stays { beyond w.new ≡ beyond w.old }
 {
     let degree = degrees::degree(t, k);
     let pivot = t.len();
@@ -95,9 +96,10 @@ pub fn apply_split(
         × (terms (rest_terms t.now i.now r.new) ≡ monic p (rest k (terms t.now)))
         × (behind_rest t.now i.now r.new ≡ behind_rest t.now i.now r.old) }
     ensures when_open_2 { WhenOpen w.old (λ b bs ss.
-        Leaves (length w.old)
-        (unfinished_split (length w.old) place i.now (rest_terms t.now i.now r.new) b bs ss)
+        Leaves (used w.old)
+        (unfinished_split (used w.old) place i.now (rest_terms t.now i.now r.new) b bs ss)
         (split_area place i.now (rest_terms t.now i.now r.new) b bs ss) result (view w.new)) }
+    ensures beyond_stays { beyond w.new ≡ beyond w.old }
 {
     // That p is below 2^31 is a fact of its type: so residues are words.
     let _ = p.get();

@@ -11,14 +11,15 @@ use Rattle.tables.specs.declared.Reason.TheVariants.{Room}
 use Rattle.residues.specs.Each.{Each}
 use Rattle.residues.specs.laws.Each.{each_append}
 use Rattle.records.specs.Records.{Rec, record_of, zero_record, record_at, view}
-use Rattle.records.proofs.Rows.{view_at, view_set}
+use Rattle.records.proofs.Rows.{length_view, view_at, view_set}
 use Rattle.stored.specs.Stored.{poly_records, size_at, inserted, removed, Storable}
-use Rattle.stored.specs.laws.Stored.{length_le_polys_records}
+use Rattle.stored.specs.laws.Stored.{length_poly_records, length_le_polys_records}
 use Rattle.branches.specs.declared.Open.{Open}
 use Rattle.branches.specs.Open.{open_of}
-use Rattle.branches.specs.Area.{Stored, Held, Leaves, size, with_open, stack, systems_records, StorableBranch}
+use Rattle.branches.specs.Area.{Stored, Held, Leaves, size, with_open, stack, systems_records, StorableBranch, used, beyond}
 use Rattle.branches.proofs.AreaLaws.{Lies, lies, place, place_add, place_one, own_is, first_is, size_of, own_set, first_set, put_in, take_out}
 use Rattle.branches.proofs.AreaLaws.{freed, length_freed, all, at_of, end_of, end_is, own_of, control, room_is, held_again}
+use Rattle.branches.proofs.BeyondLaws.{set_stays, inserted_stays, removed_stays}
 use Rattle.branches.proofs.OpenLaws.{p_is, q_is, t_is}
 use Rattle.branches.proofs.LeavesLaws.{size_free, leaves_none}
 use Rattle.branches.proofs.RowLaws.{ctl_word, own_word, end_row, top_row}
@@ -35,6 +36,12 @@ rewritten w end p q t =
     view_set _ 0 _ _ _ _ ∙ ap (λ (v : List Rec). set v 0 (record_of (ctl_word w 0) end (ctl_word w 2) (ctl_word w 3))) (view_set w (ctl_word w 0) _ _ _ _)
     ∙ ap (λ (o : Rec). set (set (view w) (ctl_word w 0) (record_of p q t o.w3)) 0 (record_of (ctl_word w 0) end (ctl_word w 2) (ctl_word w 3))) own
     ∙ ap (λ (c : Rec). set (set (view w) c.w0 (record_of p q t (get_or (view w) c.w0 zero_record).w3)) 0 (record_of c.w0 end c.w2 c.w3)) first
+
+resized_stays : (v : List Rec) (end p q t : ℕ) → (get_or v 0 zero_record).w0 < 65536 → drop 65536 (resized v end p q t) ≡ drop 65536 v
+resized_stays v end p q t h =
+    let first : Rec = get_or v 0 zero_record in
+    let own : Rec = record_of p q t (get_or v first.w0 zero_record).w3 in
+    set_stays (set v first.w0 own) 0 (record_of first.w0 end first.w2 first.w3) (omega arith) ∙ set_stays v first.w0 own h
 
 -- ── the polynomials of a branch ──
 storable_all : (b : Stored) → StorableBranch b → Each Storable (all b)
@@ -109,7 +116,7 @@ module _ {v : List Rec} {most : ℕ} {b : Stored} {bs ss : List Stored} (H : Hel
 
 -- ── f put in ──
 module _ (w : List (List ℕ)) {to : ℕ} {f : List Packed} {p q t : ℕ} {c : Stored} {bs ss : List Stored} (A : PutAt w to f p q t c bs ss) where
-  pub no_room : ctl_word w 2 - ctl_word w 1 < length f + 1 → Leaves (length w) (with_open A.b bs ss) (with_open c bs ss) (Err Room) (view w)
+  pub no_room : ctl_word w 2 - ctl_word w 1 < length f + 1 → Leaves (used w) (with_open A.b bs ss) (with_open c bs ss) (Err Room) (view w)
   no_room h = leaves_none A.held (omega (arith, more_size A.adds bs ss, size_free A.held, end_row w A.held, top_row w A.held))
 
   module _ (room : length f + 1 ≤ ctl_word w 2 - ctl_word w 1) where
@@ -122,7 +129,7 @@ module _ (w : List (List ℕ)) {to : ℕ} {f : List Packed} {p q t : ℕ} {c : S
           put_in (lies A.held) A.xs A.ys A.adds.less f fits (view w₁) (put ∙ (λ k. inserted (view w) (A.there k) (end_row w A.held k - A.there k) (poly_records f)))
 
       pub held_put : Storable f → (w₂ : List (List ℕ)) → view w₂ ≡ resized (view w₁) (ctl_word w 1 + (length f + 1)) p q t
-          → Held (view w₂) (length w) (with_open c bs ss)
+          → Held (view w₂) (used w) (with_open c bs ss)
       held_put k w₂ e =
           let grown : end_of c bs ≡ end_of A.b bs + (length f + 1) = more_ends A.adds bs in
           held_resized A.held into A.adds.more (omega (arith, fits, length-drop (length f + 1) A.held.free))
@@ -143,7 +150,7 @@ module _ (w : List (List ℕ)) {from p q t : ℕ} {b : Stored} {bs ss : List Sto
         (gone ∙ (λ k. removed (view w) (A.there k) (whole k) (end_row w A.held k - A.there k - whole k)))
 
     pub held_take : (w₂ : List (List ℕ)) → view w₂ ≡ resized (view w₁) (ctl_word w 1 - (get_or (get_or w from []) 0 0 + 1)) p q t
-        → Held (view w₂) (length w) (with_open b bs ss)
+        → Held (view w₂) (used w) (with_open b bs ss)
     held_take w₂ e =
         let shrunk : end_of A.c bs ≡ end_of b bs + (length A.f + 1) = more_ends A.takes bs in
         held_resized A.held out A.takes.less (omega (arith, length_freed (lies A.held) A.xs A.f A.ys A.takes.more))
@@ -158,13 +165,23 @@ module _ (w : List (List ℕ)) {to : ℕ} {f : List Packed} {p q t : ℕ} (o : S
   )
 
   pub put_start : (w₁ : List (List ℕ)) → view w₁ ≡ inserted (view w) to (ctl_word w 1 - to) (poly_records f) → (get_or (view w₁) 0 zero_record).w0 < length w
-  put_start w₁ e = start_inside o.3.held (into w o.3 room w₁ e)
+  put_start w₁ e = omega (arith, start_inside o.3.held (into w o.3 room w₁ e))
+
+  pub put_beyond : (w₁ w₂ : List (List ℕ)) (end : ℕ) → view w₁ ≡ inserted (view w) to (ctl_word w 1 - to) (poly_records f) → view w₂ ≡ resized (view w₁) end p q t → beyond w₂ ≡ beyond w
+  put_beyond w₁ w₂ end e e₂ =
+      let i = put_inside in
+      let n = length_view w in
+      let first = start_inside o.3.held (into w o.3 room w₁ e) in
+      ap (drop 65536) e₂ ∙ resized_stays (view w₁) end p q t (omega (arith, first, o.3.held.few))
+      ∙ ap (drop 65536) e
+      ∙ inserted_stays (view w) to (ctl_word w 1 - to) (poly_records f) (omega (arith, i, n))
+      (omega (arith, i, length_poly_records f, end_row w o.3.held, room_is o.3.held, fits w o.3 room, o.3.held.few))
 
 module _ (w : List (List ℕ)) {from p q t : ℕ} (o : SomeOpen (TakeAt w from p q t)) where
-  pub take_first : (from < length w) × (length w ≤ 65536)
-  take_first = (omega (arith, o.3.there, ap (place (at_of o.1)) o.3.takes.more, place_one (at_of o.1) o.3.xs o.3.f o.3.ys, room_is o.3.held), o.3.held.few)
+  pub take_first : from < used w
+  take_first = omega (arith, o.3.there, ap (place (at_of o.1)) o.3.takes.more, place_one (at_of o.1) o.3.xs o.3.f o.3.ys, room_is o.3.held)
 
-  pub take_inside : (from + (get_or (get_or w from []) 0 0 + 1) ≤ ctl_word w 1) × (ctl_word w 1 ≤ length w)
+  pub take_inside : (from + (get_or (get_or w from []) 0 0 + 1) ≤ ctl_word w 1) × (ctl_word w 1 ≤ used w)
   take_inside = (
     omega (arith, end_row w o.3.held, o.3.there, whole w o.3, ap (place (at_of o.1)) o.3.takes.more, place_one (at_of o.1) o.3.xs o.3.f o.3.ys),
     omega (arith, end_row w o.3.held, room_is o.3.held),
@@ -172,4 +189,14 @@ module _ (w : List (List ℕ)) {from p q t : ℕ} (o : SomeOpen (TakeAt w from p
 
   pub take_start : (w₁ : List (List ℕ)) → view w₁ ≡ removed (view w) from (get_or (get_or w from []) 0 0 + 1) (ctl_word w 1 - from - (get_or (get_or w from []) 0 0 + 1))
       → (get_or (view w₁) 0 zero_record).w0 < length w
-  take_start w₁ e = start_inside o.3.held (out w o.3 w₁ e)
+  take_start w₁ e = omega (arith, start_inside o.3.held (out w o.3 w₁ e))
+
+  pub take_beyond : (w₁ w₂ : List (List ℕ)) (end : ℕ) → view w₁ ≡ removed (view w) from (get_or (get_or w from []) 0 0 + 1) (ctl_word w 1 - from - (get_or (get_or w from []) 0 0 + 1))
+      → view w₂ ≡ resized (view w₁) end p q t → beyond w₂ ≡ beyond w
+  take_beyond w₁ w₂ end e e₂ =
+      let n : ℕ = get_or (get_or w from []) 0 0 + 1 in
+      let i = take_inside in
+      let first = start_inside o.3.held (out w o.3 w₁ e) in
+      ap (drop 65536) e₂ ∙ resized_stays (view w₁) end p q t (omega (arith, first, o.3.held.few))
+      ∙ ap (drop 65536) e
+      ∙ removed_stays (view w) from n (ctl_word w 1 - from - n) (omega (arith, i, length_view w)) (omega (arith, i))

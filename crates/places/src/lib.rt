@@ -4,7 +4,7 @@
 ghost use Rattle.std.specs.Prelude.{◌≡◌, List, ◌+◌, ◌≤◌, ◌<◌, length, get_or};
 ghost use Rattle.records.specs.Records.{view, zero_record};
 ghost use Rattle.stored.specs.Stored.{Storable};
-ghost use Rattle.branches.specs.Area.{Stored, Held, Leaves, with_open};
+ghost use Rattle.branches.specs.Area.{Stored, Held, Leaves, with_open, used, beyond};
 ghost use Rattle.places.specs.Places.{PutAt, TakeAt, SomeOpen, free_records, resized};
 
 use polynomials::Term;
@@ -16,7 +16,8 @@ pub fn put_at(w: &mut [Record], to: usize, f: &[Term], p: u32, q: u32, t: u32) -
     requires storable { Storable f.now }
     requires some_open { SomeOpen (PutAt w.old to f.now p q t) }
     ensures leaves { (c : Stored) (bs ss : List Stored) (put : PutAt w.old to f.now p q t c bs ss)
-        → Leaves (length w.old) (with_open put.b bs ss) (with_open c bs ss) result (view w.new) }
+        → Leaves (used w.old) (with_open put.b bs ss) (with_open c bs ss) result (view w.new) }
+    ensures beyond_stays { beyond w.new ≡ beyond w.old }
 {
     let [_, end, top, _] = w[0];
     let n = f.len() + 1;
@@ -34,7 +35,8 @@ pub fn put_in(w: &mut [Record], to: usize, f: &[Term], p: u32, q: u32, t: u32)
     requires some_open { SomeOpen (PutAt w.old to f.now p q t) }
     requires room { length f.now + 1 ≤ free_records w.old }
     ensures held { (c : Stored) (bs ss : List Stored) → PutAt w.old to f.now p q t c bs ss
-        → Held (view w.new) (length w.old) (with_open c bs ss) }
+        → Held (view w.new) (used w.old) (with_open c bs ss) }
+    ensures beyond_stays { beyond w.new ≡ beyond w.old }
 {
     let end = w[0][1];
     storing::insert(w, to, end as usize, f);
@@ -46,7 +48,8 @@ pub fn put_in(w: &mut [Record], to: usize, f: &[Term], p: u32, q: u32, t: u32)
 pub fn take_at(w: &mut [Record], from: usize, p: u32, q: u32, t: u32)
     requires { SomeOpen (TakeAt w.old from p q t) }
     ensures held { (b : Stored) (bs ss : List Stored) → TakeAt w.old from p q t b bs ss
-        → Held (view w.new) (length w.old) (with_open b bs ss) }
+        → Held (view w.new) (used w.old) (with_open b bs ss) }
+    ensures beyond_stays { beyond w.new ≡ beyond w.old }
 {
     let end = w[0][1] as usize;
     let n = w[from][0] as usize + 1;

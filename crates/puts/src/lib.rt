@@ -4,7 +4,7 @@
 ghost use Rattle.std.specs.Prelude.{◌≡◌, ◌≤◌, length};
 ghost use Rattle.records.specs.Records.{view};
 ghost use Rattle.stored.specs.Stored.{Storable};
-ghost use Rattle.branches.specs.Area.{Leaves, Opened, with_open, put_into_p, put_into_q, WhenOpen};
+ghost use Rattle.branches.specs.Area.{Leaves, Opened, with_open, put_into_p, put_into_q, WhenOpen, used, beyond};
 
 use polynomials::Term;
 use records::Record;
@@ -15,7 +15,8 @@ pub fn put_p(w: &mut [Record], f: &[Term]) -> Result<(), Reason>
     requires opened { Opened w.old }
     requires storable { Storable f.now }
     ensures when_open { WhenOpen w.old (λ b bs ss.
-        Leaves (length w.old) (with_open b bs ss) (with_open (put_into_p f.now b) bs ss) result (view w.new)) }
+        Leaves (used w.old) (with_open b bs ss) (with_open (put_into_p f.now b) bs ss) result (view w.new)) }
+    ensures beyond_stays { beyond w.new ≡ beyond w.old }
 {
     let zero = f.is_empty();
     if zero {
@@ -35,7 +36,8 @@ pub fn put_q(w: &mut [Record], left: usize, f: &[Term]) -> Result<(), Reason>
     requires when_open { WhenOpen w.old (λ b bs ss. left ≤ length b.Q) }
     requires storable { Storable f.now }
     ensures when_open_2 { WhenOpen w.old (λ b bs ss.
-        Leaves (length w.old) (with_open b bs ss) (with_open (put_into_q left f.now b) bs ss) result (view w.new)) }
+        Leaves (used w.old) (with_open b bs ss) (with_open (put_into_q left f.now b) bs ss) result (view w.new)) }
+    ensures beyond_stays { beyond w.new ≡ beyond w.old }
 {
     let dropped = branches::is_one(f);
     if dropped {

@@ -19,7 +19,7 @@ use Rattle.rules.specs.Room.{Limits}
 use Rattle.rules.specs.Step.{Stepped, remainder_by, step}
 use Rattle.rules.specs.Run.{Ended, finished, refused, after_step, run}
 use Rattle.records.specs.Records.{view}
-use Rattle.branches.specs.Area.{Stored, Area, Held, with_open, HeldIn}
+use Rattle.branches.specs.Area.{Stored, Area, Held, with_open, HeldIn, used}
 use Rattle.representation.specs.Represent.{branch_of, system_of, state_of}
 use Rattle.representation.specs.Ready.{Ready, limits_in}
 use Rattle.members.specs.declared.Dividends.{Dividends}
@@ -38,23 +38,23 @@ rest_in most = rest_of_step (limits_in most)
 pub record AtRun (p limit from : ℕ) (w₀ w : List (List ℕ)) (steps : ℕ) : Type 0 where
   pub same : length w ≡ length w₀
   pub within : steps ≤ limit
-  pub some : (a : Area) × Held (view w) (length w₀) a × Ready p a
+  pub some : (a : Area) × Held (view w) (used w₀) a × Ready p a
   pub all :
       (a₀ : Area) → HeldIn w₀ a₀ → Ready p a₀
-      → (a : Area) × Held (view w) (length w₀) a × Ready p a
-      × (run_in (length w₀) p (limit - steps) steps a ≡ run_in (length w₀) p (limit - from) from a₀)
+      → (a : Area) × Held (view w) (used w₀) a × Ready p a
+      × (run_in (used w₀) p (limit - steps) steps a ≡ run_in (used w₀) p (limit - from) from a₀)
 
 -- What is left of the step is the step, by the pivot f in v(k+1).
 pub record AtMembers (p k : ℕ) (f : Poly) (d : Dividends) (left₀ : ℕ) (w₀ w : List (List ℕ)) (left : ℕ) : Type 0 where
   pub same : length w ≡ length w₀
   pub some :
-      (b : Stored) × (bs : List Stored) × (ss : List Stored) × Held (view w) (length w₀) (with_open b bs ss) × Ready p (with_open b bs ss)
+      (b : Stored) × (bs : List Stored) × (ss : List Stored) × Held (view w) (used w₀) (with_open b bs ss) × Ready p (with_open b bs ss)
       × HasMembers d left b
   pub all :
       (b₀ : Stored) (bs ss : List Stored) → HeldIn w₀ (with_open b₀ bs ss) → Ready p (with_open b₀ bs ss)
       → HasMembers d left₀ b₀
-      → (b : Stored) × Held (view w) (length w₀) (with_open b bs ss) × Ready p (with_open b bs ss) × HasMembers d left b
-      × (rest_in (length w₀) p d left k f b bs ss ≡ rest_in (length w₀) p d left₀ k f b₀ bs ss)
+      → (b : Stored) × Held (view w) (used w₀) (with_open b bs ss) × Ready p (with_open b bs ss) × HasMembers d left b
+      × (rest_in (used w₀) p d left k f b bs ss ≡ rest_in (used w₀) p d left₀ k f b₀ bs ss)
 
 -- What the rounds left form is what all form. The first n words of r are divided.
 pub record AtDivision (p k d : ℕ) (f : Poly) (r₀ : List Packed) (n₀ : ℕ) (r : List Packed) (n : ℕ) : Type 0 where

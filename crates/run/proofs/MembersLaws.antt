@@ -20,8 +20,8 @@ use Rattle.rules.specs.Room.{Limits}
 use Rattle.rules.specs.Step.{Stepped, next, stopped, after_division, remainder_by, state, replace}
 use Rattle.records.specs.Records.{view}
 use Rattle.branches.specs.Words.{put_q, put_q_before, remove}
-use Rattle.branches.specs.Area.{Stored, Held, Leaves, Opened, with_open, without_p, without_q, size, HeldIn}
-use Rattle.branches.proofs.LengthLaws.{held_by}
+use Rattle.branches.specs.Area.{Stored, Held, Leaves, Opened, with_open, without_p, without_q, size, HeldIn, used}
+use Rattle.branches.proofs.LengthLaws.{held_by, same_used}
 use Rattle.branches.specs.laws.Fitted.{has_room, lacks_room, reason_is}
 use Rattle.branches.specs.laws.Words.{length_remove, each_remove}
 use Rattle.representation.specs.Represent.{Sound, branch_of, system_of, state_of, with_new, Monic}
@@ -98,13 +98,13 @@ pub record AtMember (p k : ℕ) (f : Poly) (d : Dividends) (left₀ : ℕ) (w₀
   pub same : length w ≡ length w₀
   pub one : 1 ≤ left
   pub some :
-      (b : Stored) × (bs : List Stored) × (ss : List Stored) × Took d left b bs ss n r (view w) (length w₀) × Ready p (with_open b bs ss)
+      (b : Stored) × (bs : List Stored) × (ss : List Stored) × Took d left b bs ss n r (view w) (used w₀) × Ready p (with_open b bs ss)
       × HasMembers d left b
   pub all :
       (b₀ : Stored) (bs ss : List Stored) → HeldIn w₀ (with_open b₀ bs ss) → Ready p (with_open b₀ bs ss)
       → HasMembers d left₀ b₀
-      → (b : Stored) × Took d left b bs ss n r (view w) (length w₀) × Ready p (with_open b bs ss) × HasMembers d left b
-      × (rest_in (length w₀) p d left k f b bs ss ≡ rest_in (length w₀) p d left₀ k f b₀ bs ss)
+      → (b : Stored) × Took d left b bs ss n r (view w) (used w₀) × Ready p (with_open b bs ss) × HasMembers d left b
+      × (rest_in (used w₀) p d left k f b bs ss ≡ rest_in (used w₀) p d left₀ k f b₀ bs ss)
 
 -- The terms s were made monic, as the terms u, and put into the area w. The answer is q, and v is the area then.
 pub record PutBack (p : ℕ) (d : Dividends) (left : ℕ) (s u : List Packed) (w : List (List ℕ)) (q : Result (Unit {0}) Reason) (v : List (List ℕ)) : Type 0 where
@@ -113,33 +113,33 @@ pub record PutBack (p : ℕ) (d : Dividends) (left : ℕ) (s u : List Packed) (w
   pub monic_of : terms u ≡ monic p (terms s)
   pub puts :
       (b : Stored) (bs ss : List Stored) → HeldIn w (with_open b bs ss)
-      → Leaves (length w) (with_open b bs ss) (with_open (put_in d left u b) bs ss) q (view v)
+      → Leaves (used w) (with_open b bs ss) (with_open (put_in d left u b) bs ss) q (view v)
 
 -- What is left of the step comes to S, from whatever state was held where the loop began.
 abbrev pub ComesTo : ℕ → ℕ → Poly → Dividends → ℕ → List (List ℕ) → Stepped → Type 0
 ComesTo p k f d left₀ w₀ S =
     (b₀ : Stored) (bs ss : List Stored) → HeldIn w₀ (with_open b₀ bs ss) → Ready p (with_open b₀ bs ss)
     → HasMembers d left₀ b₀
-    → rest_in (length w₀) p d left₀ k f b₀ bs ss ≡ S
+    → rest_in (used w₀) p d left₀ k f b₀ bs ss ≡ S
 
 module _ {p k : ℕ} {f : Poly} {d : Dividends} {left₀ : ℕ} {w₀ w : List (List ℕ)} {left : ℕ} where
   module _ (A : AtMembers p k f d left₀ w₀ w left) where
     pub members_open : Opened w
-    members_open = let s = A.some in (s.0, s.1, s.2, subst (λ (m : ℕ). Held (view w) m (with_open s.0 s.1 s.2)) (sym A.same) s.3)
+    members_open = let s = A.some in (s.0, s.1, s.2, subst (λ (m : ℕ). Held (view w) m (with_open s.0 s.1 s.2)) (sym (same_used w w₀ A.same)) s.3)
 
     pub members_left : 1 ≤ left → (b : Stored) (bs ss : List Stored) → HeldIn w (with_open b bs ss) → HasLeft d left b
     members_left one b bs ss H =
         let s = A.some in
-        of_left d (subst (λ (m : ℕ). Held (view w) m (with_open b bs ss)) A.same H) s.3 (has_left p left s.0 s.1 s.2 one d s.5)
+        of_left d (subst (λ (m : ℕ). Held (view w) m (with_open b bs ss)) (same_used w w₀ A.same) H) s.3 (has_left p left s.0 s.1 s.2 one d s.5)
       where
-        of_left : (d : Dividends) {b c : Stored} {bs ss cs us : List Stored} → Held (view w) (length w₀) (with_open b bs ss)
-            → Held (view w) (length w₀) (with_open c cs us)
+        of_left : (d : Dividends) {b c : Stored} {bs ss cs us : List Stored} → Held (view w) (used w₀) (with_open b bs ss)
+            → Held (view w) (used w₀) (with_open c cs us)
             → HasLeft d left c → HasLeft d left b
         of_left (InP place) {b} {c} {bs} {ss} {cs} {us} H K h = of_every (λ P Q. place < length P) K h b bs ss H
         of_left (InQ n) {b} {c} {bs} {ss} {cs} {us} H K h = of_every (λ P Q. (1 ≤ left) × (left ≤ length Q)) K h b bs ss H
 
     pub member_taken : 1 ≤ left → (v : List (List ℕ)) (n : ℕ) (r : List Packed) → length v ≡ length w
-        → ((b : Stored) (bs ss : List Stored) → HeldIn w (with_open b bs ss) → Took d left b bs ss n r (view v) (length w))
+        → ((b : Stored) (bs ss : List Stored) → HeldIn w (with_open b bs ss) → Took d left b bs ss n r (view v) (used w))
         → AtMember p k f d left₀ w₀ v left n r
     member_taken one v n r e took = record {
       same = e ∙ A.same;
@@ -148,11 +148,11 @@ module _ {p k : ℕ} {f : Poly} {d : Dividends} {left₀ : ℕ} {w₀ w : List (
       all = λ b₀ bs ss H R M. let s = A.all b₀ bs ss H R M in (s.0, taken s.0 bs ss s.1, s.2, s.3, s.4);
     }
       where
-        taken : (b : Stored) (bs ss : List Stored) → Held (view w) (length w₀) (with_open b bs ss)
-            → Took d left b bs ss n r (view v) (length w₀)
+        taken : (b : Stored) (bs ss : List Stored) → Held (view w) (used w₀) (with_open b bs ss)
+            → Took d left b bs ss n r (view v) (used w₀)
         taken b bs ss H =
-            subst (λ (m : ℕ). Took d left b bs ss n r (view v) m) A.same
-            (took b bs ss (subst (λ (m : ℕ). Held (view w) m (with_open b bs ss)) (sym A.same) H))
+            subst (λ (m : ℕ). Took d left b bs ss n r (view v) m) (same_used w w₀ A.same)
+            (took b bs ss (subst (λ (m : ℕ). Held (view w) m (with_open b bs ss)) (sym (same_used w w₀ A.same)) H))
 
   -- ── its remainder put ──
   module _ {n : ℕ} {r : List Packed} (A : AtMember p k f d left₀ w₀ w left n r) where
@@ -167,28 +167,28 @@ module _ {p k : ℕ} {f : Poly} {d : Dividends} {left₀ : ℕ} {w₀ w : List (
     member_open =
         let s = A.some in
         let b = taken_out d left s.0 in
-        (b, s.1, s.2, subst (λ (m : ℕ). Held (view w) m (with_open b s.1 s.2)) (sym A.same) s.3.2)
+        (b, s.1, s.2, subst (λ (m : ℕ). Held (view w) m (with_open b s.1 s.2)) (sym (same_used w w₀ A.same)) s.3.2)
 
     pub member_behind : (b : Stored) (bs ss : List Stored) → HeldIn w (with_open b bs ss) → HasBehind d (left - 1) b
     member_behind b bs ss H =
         let s = A.some in
-        let H₀ = subst (λ (m : ℕ). Held (view w) m (with_open b bs ss)) A.same H in
+        let H₀ = subst (λ (m : ℕ). Held (view w) m (with_open b bs ss)) (same_used w w₀ A.same) H in
         of_behind d H₀ s.3.2 (has_behind p left s.0 s.1 s.2 A.one d s.5)
       where
-        of_behind : (d : Dividends) {b c : Stored} {bs ss cs us : List Stored} → Held (view w) (length w₀) (with_open b bs ss)
-            → Held (view w) (length w₀) (with_open c cs us) → HasBehind d (left - 1) c → HasBehind d (left - 1) b
+        of_behind : (d : Dividends) {b c : Stored} {bs ss cs us : List Stored} → Held (view w) (used w₀) (with_open b bs ss)
+            → Held (view w) (used w₀) (with_open c cs us) → HasBehind d (left - 1) c → HasBehind d (left - 1) b
         of_behind (InP place) H K h = tt
         of_behind (InQ n) {b} {c} {bs} {ss} {cs} {us} H K h = of_every (λ P Q. left - 1 ≤ length Q) K h b bs ss H
 
     abbrev remainder : Bounded
-    remainder = remainder_by (limits_in (length w₀)) p k f (terms (take n r))
+    remainder = remainder_by (limits_in (used w₀)) p k f (terms (take n r))
 
     -- A limit met in the division stops the step.
     member_stops : (why : Reason) (B : Bounded) → ((k : Poly → Stepped) → after_division B k ≡ stopped why) → remainder ≡ B
         → ComesTo p k f d left₀ w₀ (stopped why)
     member_stops why B stop e b₀ bs ss H R M =
         let s = A.all b₀ bs ss H R M in
-        let l = limits_in (length w₀) in
+        let l = limits_in (used w₀) in
         let on = onward l p k f s.0 bs ss d left in
         let met = ap (λ (g : List Packed). remainder_by l p k f (terms g)) (sym s.1.1) ∙ e in
         sym s.4 ∙ takes l p k f s.0 bs ss d left A.one (has_left p left s.0 bs ss A.one d s.3)
@@ -204,16 +204,16 @@ module _ {p k : ℕ} {f : Poly} {d : Dividends} {left₀ : ℕ} {w₀ w : List (
     module _ (prime : Prime p) {s u : List Packed} (holds : Holds p s) (e : remainder ≡ within (terms s)) {v : List (List ℕ)} {q : Result (Unit {0}) Reason}
         (B : PutBack p d (left - 1) s u w q v) where
       -- b is the branch where the member was taken.
-      module _ (b : Stored) (bs ss : List Stored) (T : Took d left b bs ss n r (view w) (length w₀)) (R : Ready p (with_open b bs ss))
+      module _ (b : Stored) (bs ss : List Stored) (T : Took d left b bs ss n r (view w) (used w₀)) (R : Ready p (with_open b bs ss))
           (M : HasMembers d left b) where
         abbrev after : Stored
         after = put_in d (left - 1) u (taken_out d left b)
 
-        was_put : Leaves (length w₀) (with_open (taken_out d left b) bs ss) (with_open after bs ss) q (view v)
+        was_put : Leaves (used w₀) (with_open (taken_out d left b) bs ss) (with_open after bs ss) q (view v)
         was_put =
             let c = taken_out d left b in
-            subst (λ (m : ℕ). Leaves m (with_open c bs ss) (with_open after bs ss) q (view v)) A.same
-            (B.puts c bs ss (subst (λ (m : ℕ). Held (view w) m (with_open c bs ss)) (sym A.same) T.2))
+            subst (λ (m : ℕ). Leaves m (with_open c bs ss) (with_open after bs ss) q (view v)) (same_used w w₀ A.same)
+            (B.puts c bs ss (subst (λ (m : ℕ). Held (view w) m (with_open c bs ss)) (sym (same_used w w₀ A.same)) T.2))
 
         ready_after : Ready p (with_open after bs ss)
         ready_after = ready_put p left b bs ss d R u B.sound (stored_monic p u (terms s) prime holds.canonical B.monic_of)
@@ -222,12 +222,12 @@ module _ {p k : ℕ} {f : Poly} {d : Dividends} {left₀ : ℕ} {w₀ w : List (
         has_after = has_put p left b bs ss A.one d u M
 
         -- The step goes on if there is room.
-        goes_as : (o : Bool) → leb (size (with_open after bs ss)) (length w₀) ≡ o
-            → rest_in (length w₀) p d left k f b bs ss ≡ if_fits o (rest_in (length w₀) p d (left - 1) k f after bs ss)
+        goes_as : (o : Bool) → leb (size (with_open after bs ss)) (used w₀) ≡ o
+            → rest_in (used w₀) p d left k f b bs ss ≡ if_fits o (rest_in (used w₀) p d (left - 1) k f after bs ss)
         goes_as o t =
-            step_put (limits_in (length w₀)) p k f b bs ss left u (terms s) B.sound B.monic_of R.sound.branches.0 (length w₀) refl
-            (omega (arith, T.2.fits)) R.listed A.one d M (ap (λ (g : List Packed). remainder_by (limits_in (length w₀)) p k f (terms g)) (sym T.1) ∙ e)
-            ∙ ap (λ (o : Bool). if_fits o (rest_in (length w₀) p d (left - 1) k f after bs ss)) t
+            step_put (limits_in (used w₀)) p k f b bs ss left u (terms s) B.sound B.monic_of R.sound.branches.0 (used w₀) refl
+            (omega (arith, T.2.fits)) R.listed A.one d M (ap (λ (g : List Packed). remainder_by (limits_in (used w₀)) p k f (terms g)) (sym T.1) ∙ e)
+            ∙ ap (λ (o : Bool). if_fits o (rest_in (used w₀) p d (left - 1) k f after bs ss)) t
 
       member_put : IsOk q → AtMembers p k f d left₀ w₀ v (left - 1)
       member_put t = record {

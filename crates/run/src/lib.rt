@@ -4,7 +4,7 @@
 ghost use Rattle.std.specs.Prelude.{◌≡◌, ◌⊎◌, ◌-◌, ◌≤◌, ◌<◌, length, None};
 ghost use Rattle.residues.specs.Prime.{Prime};
 ghost use Rattle.records.specs.Records.{view};
-ghost use Rattle.branches.specs.Area.{Area, HeldIn};
+ghost use Rattle.branches.specs.Area.{Area, HeldIn, used, beyond};
 ghost use Rattle.rules.specs.Run.{run};
 ghost use Rattle.representation.specs.Represent.{state_of};
 ghost use Rattle.representation.specs.Ready.{Ready, limits_in};
@@ -61,8 +61,9 @@ pub fn run(
     requires t_in_bounds { (length t.old ≤ length i.old) × (256 ≤ length r.old)
         × (length x.old ≤ length r.old) × (length x.old ≤ length y.old) × (length x.old ≤ length z.old) }
     ensures stretches { (a : Area) → HeldIn w.old a → Ready p a
-        → Stretches (run (limits_in (length w.old)) p (limit - from) from (state_of a)) p limit result (view w.new) (length w.old) }
+        → Stretches (run (limits_in (used w.old)) p (limit - from) from (state_of a)) p limit result (view w.new) (used w.old) }
     ensures when_paused { result.outcome ≡ None → (length t.old < 256) ⊎ (length x.old < 512) }
+    ensures beyond_stays { beyond w.new ≡ beyond w.old }
 {
     let mut steps: u32 = from;
     let mut crowded = false;

@@ -9,7 +9,8 @@ use lib.ListN.{length}
 use Rattle.std.specs.Prelude.{Option, Some, None}
 use Rattle.std.specs.Option.{unwrap_or}
 use Rattle.records.specs.Records.{view}
-use Rattle.branches.specs.Area.{Area, Held, HeldIn}
+use Rattle.branches.specs.Area.{Area, Held, HeldIn, used}
+use Rattle.branches.proofs.LengthLaws.{same_used}
 use Rattle.rules.specs.Run.{Ended, run}
 use Rattle.representation.specs.Represent.{state_of}
 use Rattle.representation.specs.Ready.{Ready, limits_in}
@@ -23,17 +24,17 @@ use Rattle.run.proofs.RunLaws.{Answers}
 abbrev pub RunsTo : ℕ → ℕ → ℕ → List (List ℕ) → Answer → List (List ℕ) → Type 0
 RunsTo p limit from w q v =
     (a : Area) → HeldIn w a → Ready p a
-    → Ran (run (limits_in (length w)) p (limit - from) from (state_of a)) p q.steps q.outcome (view v) (length w)
+    → Ran (run (limits_in (used w)) p (limit - from) from (state_of a)) p q.steps q.outcome (view v) (used w)
 
 -- The same, from the run's first step.
 abbrev pub Runs : ℕ → ℕ → List (List ℕ) → Answer → List (List ℕ) → Type 0
 Runs p limit w q v =
-    (a : Area) → HeldIn w a → Ready p a → Ran (run (limits_in (length w)) p limit 0 (state_of a)) p q.steps q.outcome (view v) (length w)
+    (a : Area) → HeldIn w a → Ready p a → Ran (run (limits_in (used w)) p limit 0 (state_of a)) p q.steps q.outcome (view v) (used w)
 
 pub runs_from_0 : (p limit : ℕ) (w : List (List ℕ)) (q : Answer) (v : List (List ℕ)) → RunsTo p limit 0 w q v → Runs p limit w q v
 runs_from_0 p limit w q v =
     subst (λ (n : ℕ). (a : Area) → HeldIn w a → Ready p a
-    → Ran (run (limits_in (length w)) p n 0 (state_of a)) p q.steps q.outcome (view v) (length w)) (sub-zero limit)
+    → Ran (run (limits_in (used w)) p n 0 (state_of a)) p q.steps q.outcome (view v) (used w)) (sub-zero limit)
 
 -- What a call of `run` has told.
 pub record Told (p limit from : ℕ) (w : List (List ℕ)) (q : Stretch) (v : List (List ℕ)) : Type 0 where
@@ -42,10 +43,10 @@ pub record Told (p limit from : ℕ) (w : List (List ℕ)) (q : Stretch) (v : Li
 
 module _ {p limit from : ℕ} {w : List (List ℕ)} {q : Stretch} {v : List (List ℕ)} (S : Told p limit from w q v) where
   by_outcome : (e : Option Outcome) → q.outcome ≡ e → (a : Area) → HeldIn w a → Ready p a
-      → Stretched (run (limits_in (length w)) p (limit - from) from (state_of a)) p limit q.steps e (view v) (length w)
+      → Stretched (run (limits_in (used w)) p (limit - from) from (state_of a)) p limit q.steps e (view v) (used w)
   by_outcome e k a H R =
-      let E = run (limits_in (length w)) p (limit - from) from (state_of a) in
-      subst (λ (e : Option Outcome). Stretched E p limit q.steps e (view v) (length w)) k (S.answers a H R)
+      let E = run (limits_in (used w)) p (limit - from) from (state_of a) in
+      subst (λ (e : Option Outcome). Stretched E p limit q.steps e (view v) (used w)) k (S.answers a H R)
 
   pub stretch_ends : {o : Outcome} → q.outcome ≡ Some o → RunsTo p limit from w (record { steps = q.steps; outcome = o }) v
   stretch_ends {o} k = by_outcome (Some o) k
@@ -58,15 +59,15 @@ module _ {p limit from : ℕ} {w : List (List ℕ)} {q : Stretch} {v : List (Lis
     pub pause_holds : ((a : Area) × HeldIn w a × Ready p a) → (a : Area) × HeldIn v a × Ready p a
     pause_holds s =
         let b = (by_outcome None k s.0 s.1 s.2).1 in
-        (b.0, subst (λ (m : ℕ). Held (view v) m b.0) (sym S.same) b.1, b.2)
+        (b.0, subst (λ (m : ℕ). Held (view v) m b.0) (sym (same_used v w S.same)) b.1, b.2)
 
     pub stretch_goes_on : (r : Answer) (u : List (List ℕ)) → RunsTo p limit q.steps v r u → RunsTo p limit from w r u
     stretch_goes_on r u G a H R =
         let b = (by_outcome None k a H R).1 in
         let on =
-        subst (λ (m : ℕ). Held (view v) m b.0 → Ran (run (limits_in m) p (limit - q.steps) q.steps (state_of b.0)) p r.steps r.outcome (view u) m) S.same
+        subst (λ (m : ℕ). Held (view v) m b.0 → Ran (run (limits_in m) p (limit - q.steps) q.steps (state_of b.0)) p r.steps r.outcome (view u) m) (same_used v w S.same)
         (λ h. G b.0 h b.2) in
-        subst (λ (E : Ended). Ran E p r.steps r.outcome (view u) (length w)) b.3 (on b.1)
+        subst (λ (E : Ended). Ran E p r.steps r.outcome (view u) (used w)) b.3 (on b.1)
 
 -- In long scratch a stretch doesn't pause: it ends with the outcome of the run.
 pub long_ends : (e : Option Outcome) {o : Outcome} (d : Outcome) → (e ≡ None → (256 < 256) ⊎ (512 < 512)) → o ≡ unwrap_or e d → e ≡ Some o

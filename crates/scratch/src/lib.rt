@@ -4,7 +4,7 @@
 ghost use Rattle.std.specs.Prelude.{◌≡◌, ◌⊎◌, ◌-◌, ◌≤◌, ◌<◌, length, None};
 ghost use Rattle.residues.specs.Prime.{Prime};
 ghost use Rattle.records.specs.Records.{view};
-ghost use Rattle.branches.specs.Area.{Area, HeldIn};
+ghost use Rattle.branches.specs.Area.{Area, HeldIn, used, beyond};
 ghost use Rattle.rules.specs.Run.{run};
 ghost use Rattle.representation.specs.Represent.{state_of};
 ghost use Rattle.representation.specs.Ready.{Ready, limits_in};
@@ -35,8 +35,9 @@ fn run_in<const T: usize, const X: usize>(
     requires in_bounds { (256 ≤ length divided.old) × (X ≤ length divided.old) }
     requires room { T ≤ 256 }
     ensures stretches { (a : Area) → HeldIn work.old a → Ready p a
-        → Stretches (run (limits_in (length work.old)) p (limit - from) from (state_of a)) p limit result (view work.new) (length work.old) }
+        → Stretches (run (limits_in (used work.old)) p (limit - from) from (state_of a)) p limit result (view work.new) (used work.old) }
     ensures when_paused { result.outcome ≡ None → (T < 256) ⊎ (X < 512) }
+    ensures beyond_stays { beyond work.new ≡ beyond work.old }
 {
     let mut pivot = [ZERO; T];
     let mut initial = [ZERO; T];
@@ -63,7 +64,8 @@ pub fn run_short(work: &mut [Record], p: Modulus, limit: u32, divided: &mut [Ter
     requires ready { (a : Area) × HeldIn work.old a × Ready p a }
     requires in_bounds { 256 ≤ length divided.old }
     ensures ran { (a : Area) → HeldIn work.old a → Ready p a
-        → Ran (run (limits_in (length work.old)) p limit 0 (state_of a)) p result.steps result.outcome (view work.new) (length work.old) }
+        → Ran (run (limits_in (used work.old)) p limit 0 (state_of a)) p result.steps result.outcome (view work.new) (used work.old) }
+    ensures beyond_stays { beyond work.new ≡ beyond work.old }
 {
     let Stretch { steps, outcome } = run_in::<16, 32>(work, p, limit, 0, divided);
     match outcome {
@@ -78,7 +80,8 @@ pub fn run_long(work: &mut [Record], p: Modulus, limit: u32, from: u32) -> Answe
     requires from_le_limit { from ≤ limit }
     requires ready { (a : Area) × HeldIn work.old a × Ready p a }
     ensures ran { (a : Area) → HeldIn work.old a → Ready p a
-        → Ran (run (limits_in (length work.old)) p (limit - from) from (state_of a)) p result.steps result.outcome (view work.new) (length work.old) }
+        → Ran (run (limits_in (used work.old)) p (limit - from) from (state_of a)) p result.steps result.outcome (view work.new) (used work.old) }
+    ensures beyond_stays { beyond work.new ≡ beyond work.old }
 {
     let mut divided = [ZERO; 512];
     let Stretch { steps, outcome } = run_in::<256, 512>(work, p, limit, from, &mut divided);

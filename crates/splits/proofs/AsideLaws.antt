@@ -15,7 +15,7 @@ use Rattle.stored.specs.Stored.{polys_records, member}
 use Rattle.stored.specs.laws.Stored.{polys_records_append}
 use Rattle.branches.specs.Words.{put_p, remove, unless, is_zero, is_one}
 use Rattle.branches.specs.laws.Words.{put_q_before_none}
-use Rattle.branches.specs.Area.{Stored, Area, Leaves, stack, branch_records, with_open, size, HeldIn, WhenOpen, OpenBecomes}
+use Rattle.branches.specs.Area.{Stored, Area, Leaves, stack, branch_records, with_open, size, HeldIn, WhenOpen, OpenBecomes, used}
 use Rattle.branches.specs.Area.{kept_open, aside, put_into_p, put_into_q, without_p, split_area, fitting, unfinished_split}
 use Rattle.branches.specs.laws.Words.{remove_in_parts, length_remove}
 use Rattle.branches.proofs.LeavesLaws.{leaves_fits, leaves_over, larger_none}
@@ -152,7 +152,7 @@ pub record Taken (w : List (List ℕ)) (i : ℕ) (w₁ : List (List ℕ)) : Type
 -- f is put into P of the records w, with the answer r; they become w₁.
 pub record Put (w : List (List ℕ)) (f : List Packed) (r : Result (Unit {0}) Reason) (w₁ : List (List ℕ)) : Type 0 where
   pub same : length w₁ ≡ length w
-  pub put : WhenOpen w (λ b bs ss. Leaves (length w) (with_open b bs ss) (with_open (put_into_p f b) bs ss) r (view w₁))
+  pub put : WhenOpen w (λ b bs ss. Leaves (used w) (with_open b bs ss) (with_open (put_into_p f b) bs ss) r (view w₁))
 
 module _ {w w₁ : List (List ℕ)} {i : ℕ} (out : Taken w i w₁) {b : Stored} {bs ss : List Stored} (H : HeldIn w (with_open b bs ss)) where
   pub removed : HeldIn w₁ (with_open (without_p i b) bs ss)
@@ -162,7 +162,7 @@ module _ {w w₁ : List (List ℕ)} {i : ℕ} (out : Taken w i w₁) {b : Stored
     same_initial : length w₂ ≡ length w
     same_initial = first.same ∙ out.same
 
-    pub initial_leaves : Leaves (length w) (with_open (without_p i b) bs ss) (with_open (put_into_p initial (without_p i b)) bs ss) r (view w₂)
+    pub initial_leaves : Leaves (used w) (with_open (without_p i b) bs ss) (with_open (put_into_p initial (without_p i b)) bs ss) r (view w₂)
     initial_leaves = left_by _ _ w₁ w out.same refl refl (first.put _ bs ss removed)
 
     module _ (e : IsOk r) where
@@ -173,7 +173,7 @@ module _ {w w₁ : List (List ℕ)} {i : ℕ} (out : Taken w i w₁) {b : Stored
         pub same_rest : length w₃ ≡ length w
         same_rest = second.same ∙ same_initial
 
-        pub rest_leaves : Leaves (length w) (with_open (put_into_p initial (without_p i b)) bs ss) (with_open (aside i initial rest b) bs ss) r₁ (view w₃)
+        pub rest_leaves : Leaves (used w) (with_open (put_into_p initial (without_p i b)) bs ss) (with_open (aside i initial rest b) bs ss) r₁ (view w₃)
         rest_leaves = left_by _ _ w₂ w same_initial refl refl (second.put _ bs ss initial_put)
 
         pub rest_put : IsOk r₁ → HeldIn w₃ (with_open (aside i initial rest b) bs ss)

@@ -5,7 +5,7 @@ ghost use Rattle.std.specs.Prelude.{◌≡◌, false, [], ◌<◌, length, get_o
 ghost use Rattle.records.specs.Records.{view};
 ghost use Rattle.stored.specs.Stored.{member, Storable};
 ghost use Rattle.branches.specs.Words.{is_one};
-ghost use Rattle.branches.specs.Area.{Leaves, Opened, split_area, unfinished_split, WhenOpen};
+ghost use Rattle.branches.specs.Area.{Leaves, Opened, split_area, unfinished_split, WhenOpen, used, beyond};
 
 use branches::Member;
 use polynomials::Term;
@@ -29,8 +29,9 @@ pub fn split(
     requires storable_2 { Storable initial.now }
     requires storable_3 { Storable rest.now }
     ensures when_open_2 { WhenOpen w.old (λ b bs ss.
-        Leaves (length w.old) (unfinished_split (length w.old) i initial.now rest.now b bs ss)
+        Leaves (used w.old) (unfinished_split (used w.old) i initial.now rest.now b bs ss)
         (split_area i initial.now rest.now b bs ss) result (view w.new)) }
+    ensures beyond_stays { beyond w.new ≡ beyond w.old }
 {
     let b = branches::open_branch(w);
     changes::remove(w, Member::P(i));

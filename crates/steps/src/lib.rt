@@ -4,7 +4,7 @@
 ghost use Rattle.std.specs.Prelude.{◌≡◌, List, map, reverse, ◌≤◌, ◌<◌, length, Ok};
 ghost use Rattle.residues.specs.Prime.{Prime};
 ghost use Rattle.records.specs.Records.{view};
-ghost use Rattle.branches.specs.Area.{Stored, with_open, HeldIn, WhenOpen};
+ghost use Rattle.branches.specs.Area.{Stored, with_open, HeldIn, WhenOpen, used, beyond};
 ghost use Rattle.rules.specs.Rule.{rule_with};
 ghost use Rattle.rules.specs.Step.{apply, step};
 ghost use Rattle.representation.specs.Represent.{branch_of, system_of, chosen};
@@ -45,10 +45,11 @@ fn with_pivot(
     requires t_in_bounds { (length t.old ≤ length i.old) × (256 ≤ length r.old) }
     ensures when_open { WhenOpen w.old (λ b bs ss.
         Ready p (with_open b bs ss) → Leads k place b
-        → Prepares (limits_in (length w.old)) p
-        (apply (limits_in (length w.old)) p (map branch_of bs) (reverse (map system_of ss)) (rule_with k (chosen b place) (branch_of b)) (branch_of b))
-        result t.new i.new (view w.new) (length w.old) bs ss) }
+        → Prepares (limits_in (used w.old)) p
+        (apply (limits_in (used w.old)) p (map branch_of bs) (reverse (map system_of ss)) (rule_with k (chosen b place) (branch_of b)) (branch_of b))
+        result t.new i.new (view w.new) (used w.old) bs ss) }
     ensures when_crowded { result ≡ Ok Crowded → (length t.old < 256) × (w.new ≡ w.old) }
+    ensures beyond_stays { beyond w.new ≡ beyond w.old }
 {
     if t.len() < branches::count_terms(w, Member::P(place)) {
         return Ok(Prepared::Crowded);
@@ -75,10 +76,11 @@ pub fn prepare(
     requires ready { (b : Stored) × (bs : List Stored) × (ss : List Stored) × HeldIn w.old (with_open b bs ss) × Ready p (with_open b bs ss) }
     requires t_in_bounds { (length t.old ≤ length i.old) × (256 ≤ length r.old) }
     ensures when_open { WhenOpen w.old (λ b bs ss. Ready p (with_open b bs ss)
-        → Prepares (limits_in (length w.old)) p
-        (step (limits_in (length w.old)) p (branch_of b) (map branch_of bs) (reverse (map system_of ss)))
-        result t.new i.new (view w.new) (length w.old) bs ss) }
+        → Prepares (limits_in (used w.old)) p
+        (step (limits_in (used w.old)) p (branch_of b) (map branch_of bs) (reverse (map system_of ss)))
+        result t.new i.new (view w.new) (used w.old) bs ss) }
     ensures when_crowded { result ≡ Ok Crowded → (length t.old < 256) × (w.new ≡ w.old) }
+    ensures beyond_stays { beyond w.new ≡ beyond w.old }
 {
     match survey::choose(w) {
         Choice::Drop => {

@@ -58,10 +58,10 @@ leaders_at_most_8 (s ∷ ss) = omega (arith, leader_places 8 (terms s) (places_t
 -- ── the open branch, by its own record ──
 module _ (w : List (List ℕ)) (o : Open) (opens : Opened w) (is : WhenOpen w (λ b bs ss. o ≡ open_of b bs)) where
   pub end_p_in : skip_to (view w) o.first o.p ≤ length w
-  end_p_in = end_p_inside opens.3 (is opens.0 opens.1 opens.2 opens.3)
+  end_p_in = omega (arith, end_p_inside opens.3 (is opens.0 opens.1 opens.2 opens.3))
 
   pub end_q_in : (from : ℕ) → from ≡ skip_to (view w) o.first o.p → skip_to (view w) from o.q ≤ length w
-  end_q_in from at = end_q_inside opens.3 (is opens.0 opens.1 opens.2 opens.3) at
+  end_q_in from at = omega (arith, end_q_inside opens.3 (is opens.0 opens.1 opens.2 opens.3) at)
 
   pub hold_p : WhenOpen w (λ b bs ss. (p : ℕ) × AllHold p b.P) → (p : ℕ) × AllHold p (polys_at (view w) o.first o.p)
   hold_p h =

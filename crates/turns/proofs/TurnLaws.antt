@@ -1,16 +1,18 @@
 -- What is held once the open branch is dropped or listed, and at the beginning of a run.
 use mathlib.Core.Path.{◌≡◌, sym, ap, ◌∙◌}
-use mathlib.Core.List.{List, [], ◌∷◌, ◌++◌, append_assoc, append-nil}
+use mathlib.Core.List.{List, [], ◌∷◌, ◌++◌, append_assoc}
 use Prim.Native.Nat.{ℕ, ◌+◌, ◌-◌, ◌≤◌, ◌<◌}
 use native.Mathlib.Omega.{arith}
 use lib.ListN.{length, take, drop, set, length-append}
+use Rattle.std.proofs.lemmas.List.{take-append-drop}
 use lib.Seq.{set_at, take_at, drop_at, take-append-le, take-append-add, length-take-le}
 use Rattle.std.specs.List.{copy_within}
 use Rattle.records.specs.Records.{Rec, record_of, view, moved}
 use Rattle.records.proofs.Rows.{length_view, view_set, view_copied}
 use Rattle.stored.specs.Stored.{polys_records}
-use Rattle.branches.specs.Area.{Stored, Held, HeldIn, Opened, stack, branch_records, systems_records, with_open, empty}
+use Rattle.branches.specs.Area.{Stored, Held, HeldIn, Opened, stack, branch_records, systems_records, with_open, empty, used, beyond}
 use Rattle.branches.proofs.AreaLaws.{at_of, own_of, end_of, end_is}
+use Rattle.branches.proofs.BeyondLaws.{set_beyond, moved_beyond}
 use Rattle.branches.proofs.RowLaws.{ctl_word, own_word, control_row, own_row, start_row, end_row, top_row, systems_row, rows_inside}
 
 -- A system takes a record or more.
@@ -78,7 +80,7 @@ module _ {v : List Rec} {most : ℕ} {b : Stored} {bs ss : List Stored} (H : Hel
       }
 
 module _ (w : List (List ℕ)) {b : Stored} {bs ss : List Stored} (H : HeldIn w (with_open b bs ss)) where
-  pub dropped : Held (view (set w 0 (own_word w 3 ∷ ctl_word w 0 ∷ ctl_word w 2 ∷ ctl_word w 3 ∷ []))) (length w) (record { branches = bs; systems = ss })
+  pub dropped : Held (view (set w 0 (own_word w 3 ∷ ctl_word w 0 ∷ ctl_word w 2 ∷ ctl_word w 3 ∷ []))) (used w) (record { branches = bs; systems = ss })
   unfolding behind
   dropped =
       let B : List Rec = branch_records (stack bs).1 b in
@@ -97,7 +99,7 @@ module _ (w : List (List ℕ)) {b : Stored} {bs ss : List Stored} (H : HeldIn w 
 
   -- The branch's records copied up to the end of the free ones, and its own record made a system's.
   pub listed : (w₁ : List (List ℕ)) (to : ℕ) → to ≡ ctl_word w 2 - (ctl_word w 1 - ctl_word w 0) → w₁ ≡ copy_within w (ctl_word w 0) (ctl_word w 1) to
-      → Held (view (set (set w₁ to (own_word w 0 ∷ own_word w 1 ∷ own_word w 2 ∷ 0 ∷ [])) 0 (own_word w 3 ∷ ctl_word w 0 ∷ to ∷ (ctl_word w 3 + 1) ∷ []))) (length w)
+      → Held (view (set (set w₁ to (own_word w 0 ∷ own_word w 1 ∷ own_word w 2 ∷ 0 ∷ [])) 0 (own_word w 3 ∷ ctl_word w 0 ∷ to ∷ (ctl_word w 3 + 1) ∷ []))) (used w)
       (record { branches = bs; systems = b ∷ ss })
   listed w₁ to is e =
       let own = own_row w H in
@@ -112,19 +114,41 @@ pub counted : (w : List (List ℕ)) → Opened w → ctl_word w 3 + 1 < 42949672
 counted w o = omega (arith, systems_row w o.3, few_systems o.3)
 
 -- An empty first branch.
-pub begun : (w : List (List ℕ)) → 2 ≤ length w → length w ≤ 65536
-    → Held (view (set (set w 0 (1 ∷ 2 ∷ length w ∷ 0 ∷ [])) 1 (0 ∷ 0 ∷ 0 ∷ 0 ∷ []))) (length w) (with_open empty [] [])
+pub begun : (w : List (List ℕ)) → 2 ≤ length w
+    → Held (view (set (set w 0 (1 ∷ 2 ∷ used w ∷ 0 ∷ [])) 1 (0 ∷ 0 ∷ 0 ∷ 0 ∷ []))) (used w) (with_open empty [] [])
 unfolding systems_records polys_records
-begun [] h f = absurd (omega arith)
-begun (r ∷ []) h f = absurd (omega arith)
-begun (r ∷ (s ∷ w)) h f =
+begun [] h = absurd (omega arith)
+begun (r ∷ []) h = absurd (omega arith)
+begun (r ∷ (s ∷ w)) h =
+    let most : ℕ = used (r ∷ (s ∷ w)) in
     let n = length_view w in
-    let top : length (r ∷ (s ∷ w)) ≡ 2 + length (view w) = omega arith in
+    let lf : length (take (most - 2) (view w)) ≡ most - 2 = length-take-le (most - 2) (view w) (omega arith) in
+    let top : most ≡ 2 + length (take (most - 2) (view w)) = omega arith in
     record {
-      free = view w;
-      beyond = [];
-      is = λ i. record_of 1 2 (top i) 0 ∷ (record_of 0 0 0 0 ∷ sym (append-nil (view w)) i);
+      free = take (most - 2) (view w);
+      beyond = drop (most - 2) (view w);
+      is = λ i. record_of 1 2 (top i) 0 ∷ (record_of 0 0 0 0 ∷ sym (take-append-drop (most - 2) (view w)) i);
       fits = omega arith;
-      few = f;
+      few = omega arith;
       storable = (((tt, tt, tt), tt), tt);
     }
+
+-- ── the records beyond ──
+-- One record is written, before them.
+pub set_stays : (w : List (List ℕ)) (i a b c d : ℕ) → i < 65536 → beyond (set w i (a ∷ b ∷ c ∷ d ∷ [])) ≡ beyond w
+set_stays w i a b c d h = set_beyond (view w) (view (set w i (a ∷ b ∷ c ∷ d ∷ []))) i (record_of a b c d) (view_set w i a b c d) h
+
+-- Two are written.
+pub begun_stays : (w : List (List ℕ)) (most : ℕ) → beyond (set (set w 0 (1 ∷ 2 ∷ most ∷ 0 ∷ [])) 1 (0 ∷ 0 ∷ 0 ∷ 0 ∷ [])) ≡ beyond w
+begun_stays w most = set_stays (set w 0 (1 ∷ 2 ∷ most ∷ 0 ∷ [])) 1 0 0 0 0 (omega arith) ∙ set_stays w 0 1 2 most 0 (omega arith)
+
+-- The branch's records are copied up, and two are written.
+pub listed_stays : (w : List (List ℕ)) → Opened w → (w₁ : List (List ℕ)) (to : ℕ) → to ≡ ctl_word w 2 - (ctl_word w 1 - ctl_word w 0) → w₁ ≡ copy_within w (ctl_word w 0) (ctl_word w 1) to
+    → beyond (set (set w₁ to (own_word w 0 ∷ own_word w 1 ∷ own_word w 2 ∷ 0 ∷ [])) 0 (own_word w 3 ∷ ctl_word w 0 ∷ to ∷ (ctl_word w 3 + 1) ∷ [])) ≡ beyond w
+listed_stays w o w₁ to is e =
+    let h = rows_inside w o.3 in
+    let first : List (List ℕ) = set w₁ to (own_word w 0 ∷ own_word w 1 ∷ own_word w 2 ∷ 0 ∷ []) in
+    set_stays first 0 (own_word w 3) (ctl_word w 0) to (ctl_word w 3 + 1) (omega arith)
+    ∙ set_stays w₁ to (own_word w 0) (own_word w 1) (own_word w 2) 0 (omega (arith, h))
+    ∙ moved_beyond (view w) (view w₁) (ctl_word w 0) (ctl_word w 1 - ctl_word w 0) to (ap view e ∙ view_copied w (ctl_word w 0) (ctl_word w 1) to) (omega (arith, h))
+    (omega (arith, h, length_view w)) (omega (arith, h))

@@ -3,17 +3,19 @@
 
 ghost use Rattle.std.specs.Prelude.{◌≡◌, [], ◌∷◌, ◌≤◌, length};
 ghost use Rattle.records.specs.Records.{view};
-ghost use Rattle.branches.specs.Area.{Area, Held, Opened, with_open, empty, has_branch, HeldIn, WhenOpen};
+ghost use Rattle.branches.specs.Area.{Area, Held, Opened, with_open, empty, has_branch, HeldIn, WhenOpen, used, beyond};
 
 use records::Record;
 
-// An empty first branch, whatever the words were.
+// An empty first branch, whatever the records were.
 #[tactic(auto, using(crate::proofs::TurnLaws::begun))]
 pub fn begin(w: &mut [Record])
-    requires { (2 ≤ length w.old) × (length w.old ≤ 65536) }
-    ensures held { Held (view w.new) (length w.old) (with_open empty [] []) }
+    requires { 2 ≤ length w.old }
+    ensures held { Held (view w.new) (used w.old) (with_open empty [] []) }
+    ensures beyond_stays { beyond w.new ≡ beyond w.old }
 {
-    w[0] = [1, 2, w.len() as u32, 0];
+    let most = branches::count_records(w);
+    w[0] = [1, 2, most as u32, 0];
     w[1] = [0, 0, 0, 0];
 }
 
@@ -30,7 +32,8 @@ pub fn is_open(w: &[Record]) -> bool
 pub fn drop(w: &mut [Record])
     requires { Opened w.old }
     ensures when_open { WhenOpen w.old (λ b bs ss.
-        Held (view w.new) (length w.old) (record { branches = bs; systems = ss })) }
+        Held (view w.new) (used w.old) (record { branches = bs; systems = ss })) }
+    ensures beyond_stays { beyond w.new ≡ beyond w.old }
 {
     let [at, _, top, systems] = w[0];
     let [_, _, _, under] = w[at as usize];
@@ -42,7 +45,8 @@ pub fn drop(w: &mut [Record])
 pub fn list(w: &mut [Record])
     requires { Opened w.old }
     ensures when_open { WhenOpen w.old (λ b bs ss.
-        Held (view w.new) (length w.old) (record { branches = bs; systems = b ∷ ss })) }
+        Held (view w.new) (used w.old) (record { branches = bs; systems = b ∷ ss })) }
+    ensures beyond_stays { beyond w.new ≡ beyond w.old }
 {
     let [at, end, top, systems] = w[0];
     let [p, q, t, under] = w[at as usize];

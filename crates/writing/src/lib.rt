@@ -52,7 +52,7 @@ pub fn write_list(w: &[Record], p: u32, n: u32, out: &mut [u32])
     let first = if count == 0 { 0 } else { 1 };
     records::write(out, 0, [p, n, first, count]);
     let mut i = top;
-    let mut end = 1 + (w.len() - top);
+    let mut end = 1 + (branches::count_records(w) - top);
     let mut next = 0;
     for _i in 0..count {
         let size = system_size(w, i);

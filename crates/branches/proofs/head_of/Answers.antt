@@ -7,17 +7,17 @@ pub skip-requires : goal.skip-requires
 skip-requires c =
     let o = c.requires.opened in
     let has = rw c.in-P.is at (c.requires.when_open o.0 o.1 o.2 o.3) in
-    skip_p_inside o.3 (c.open_branch-b.ensures o.0 o.1 o.2 o.3) c.in-P.i (omega (arith, has))
+    omega (arith, skip_p_inside o.3 (c.open_branch-b.ensures o.0 o.1 o.2 o.3) c.in-P.i (omega (arith, has)))
 
 pub skip-requires-in-Q : goal.skip-requires-in-Q
 skip-requires-in-Q c =
-    let o = c.requires.opened in end_p_inside o.3 (c.open_branch-b.ensures o.0 o.1 o.2 o.3)
+    let o = c.requires.opened in omega (arith, end_p_inside o.3 (c.open_branch-b.ensures o.0 o.1 o.2 o.3))
 
 pub skip-requires-in-Q-2 : goal.skip-requires-in-Q-2
 skip-requires-in-Q-2 c =
     let o = c.requires.opened in
     let has = rw c.in-Q.is at (c.requires.when_open o.0 o.1 o.2 o.3) in
-    skip_q_inside o.3 (c.open_branch-b.ensures o.0 o.1 o.2 o.3) c.skip-in-Q.ensures c.in-Q.i (omega (arith, has))
+    omega (arith, skip_q_inside o.3 (c.open_branch-b.ensures o.0 o.1 o.2 o.3) c.skip-in-Q.ensures c.in-Q.i (omega (arith, has)))
 
 pub returns-in-P : goal.returns-in-P
 returns-in-P c b bs ss H =

@@ -7,7 +7,7 @@ pub load-requires-clause-at_bound : goal.load-requires-clause-at_bound
 load-requires-clause-at_bound c =
     let o = c.requires.opened in
     let F = found_member o.3 c.args.member (c.requires.when_open o.0 o.1 o.2 o.3) (c.head_of-from.ensures o.0 o.1 o.2 o.3) in
-    (omega (arith, F.inside), F.inside)
+    (omega (arith, F.inside), omega (arith, F.inside))
 
 pub load-requires-clause-at_in_bounds : goal.load-requires-clause-at_in_bounds
 load-requires-clause-at_in_bounds c =

@@ -1,5 +1,5 @@
 -- The member is taken out of P, and put in before T, where there is room for it then.
-use Rattle.std.proofs.Common.{ap, length, arith}
+use Rattle.std.proofs.Common.{◌∙◌, ap, length, arith}
 use Rattle.branches.proofs.LengthLaws.{held_by}
 use Rattle.branches.proofs.OpenLaws.{end_p_inside, end_q_inside}
 use Rattle.places.proofs.PlaceLaws.{counts_are, counts_fit}
@@ -15,12 +15,12 @@ open_branch-b-requires c = (_, _, _, taken c.args.w.now c.remove.new.w c.remove.
 pub skip-requires : goal.skip-requires
 skip-requires c =
     let out = taken c.args.w.now c.remove.new.w c.remove.auto.w c.args.i c.remove.ensures.open_becomes c.requires.opened.3 in
-    end_p_inside out (c.open_branch-b.ensures _ _ _ out)
+    omega (arith, end_p_inside out (c.open_branch-b.ensures _ _ _ out))
 
 pub skip-to-requires : goal.skip-to-requires
 skip-to-requires c =
     let out = taken c.args.w.now c.remove.new.w c.remove.auto.w c.args.i c.remove.ensures.open_becomes c.requires.opened.3 in
-    end_q_inside out (c.open_branch-b.ensures _ _ _ out) c.skip.ensures
+    omega (arith, end_q_inside out (c.open_branch-b.ensures _ _ _ out) c.skip.ensures)
 
 pub overflow_add-b : goal.overflow_add-b
 overflow_add-b c =
@@ -50,4 +50,5 @@ returns c = record {
       let out = taken w w₁ c.remove.auto.w c.args.i c.remove.ensures.open_becomes H in
       let is = c.open_branch-b.ensures _ _ _ out in
       held_by _ _ w₁ w c.remove.auto.w (c.put_in.ensures.held _ _ _ (put_t b c.args.i out is c.args.f.now member.1 c.skip.ensures c.skip-to.ensures));
+  beyond_stays = c.put_in.ensures.beyond_stays ∙ c.remove.ensures.beyond_stays;
 }

@@ -27,10 +27,12 @@ pub returns-in-P : goal.returns-in-P
 returns-in-P c = record {
   open_becomes = λ b bs ss H. c.take_at.ensures.held _ _ _
       (take_p H (c.open_branch-b.ensures b bs ss H) c.args.member (c.requires.when_open b bs ss H) (c.head_of-from.ensures b bs ss H) c.in-P.is);
+  beyond_stays = c.take_at.ensures.beyond_stays;
 }
 
 pub returns-in-Q : goal.returns-in-Q
 returns-in-Q c = record {
   open_becomes = λ b bs ss H. c.take_at-in-Q.ensures.held _ _ _
       (take_q H (c.open_branch-b.ensures b bs ss H) c.args.member (c.requires.when_open b bs ss H) (c.head_of-from.ensures b bs ss H) c.in-Q.is);
+  beyond_stays = c.take_at-in-Q.ensures.beyond_stays;
 }

@@ -1,5 +1,5 @@
 -- A refusal of reading as it is, else the accepted table eliminated; and the work area cleared.
-use Rattle.std.proofs.Common.{sym, ap, ◌∙◌, ◌/◌, ℕ, length, replicate}
+use Rattle.std.proofs.Common.{sym, ap, ◌∙◌, ◌/◌, ℕ, length, replicate, arith}
 use Rattle.rules.specs.Eliminate.{Eliminated, output_after}
 use Rattle.rules.proofs.laws.Calls.{call_not_read, call_read}
 use Rattle.tables.specs.Read.{read_table}
@@ -18,7 +18,7 @@ returns c =
           let read = w.in-Ok.ensures.ok in
           let is_delivered = call_read a.table.now (length a.work.now) (length a.output.now) a.limit read.1.0 read.1.1 in
           let d =
-          in_words a.work.now _ (length a.output.now / 4) a.limit read.1.0 w.area.ensures.length
+          in_words a.work.now _ (length a.output.now / 4) a.limit read.1.0 (omega (arith, w.area.ensures.length))
           (w.eliminate_accepted-answer.ensures.delivered read.1.0 (rw read.0.words read.1.1)) in
           record {
             answer = w.answer-is ∙ d.answer ∙ sym (ap answer_of is_delivered);

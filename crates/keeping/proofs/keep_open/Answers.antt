@@ -1,12 +1,13 @@
 -- The numbers that the code reads lie as `Placed` says, and so in order; there is room for each piece where the ones before it are in; and what is
 -- held at the end is `kept`.
-use Rattle.std.proofs.Common.{refl, List, ℕ, length, length-set, arith}
+use Rattle.std.proofs.Common.{refl, sym, List, ℕ, length, length-set, arith}
 use Rattle.records.specs.Records.{view}
 use Rattle.records.proofs.Rows.{length_view, view_set}
 use Rattle.branches.specs.Area.{Stored, with_open, HeldIn}
 use Rattle.branches.proofs.OpenLaws.{p_is, skip_p_inside}
 use Rattle.branches.proofs.RowLaws.{ctl_word, own_word, open_row, systems_row}
-use Rattle.keeping.proofs.KeptLaws.{Placed, Ordered, placed, ordered, parts_inside, back_ends, p_ends, q_ends, no_room, kept}
+use Rattle.keeping.proofs.BeyondKept.{copied_beyond}
+use Rattle.keeping.proofs.KeptLaws.{Placed, Ordered, Copied, placed, ordered, all_inside, back_ends, p_ends, q_ends, no_room, kept}
 use Rattle.keeping.proofs.keep_open.Goals as goal
 use Rattle.keeping.proofs.keep_open.Goals.{After-skip-from_t}
 
@@ -27,7 +28,7 @@ in_order k =
 pub skip-front-requires : goal.skip-front-requires
 skip-front-requires c =
     let o = c.requires.opened in
-    skip_p_inside o.3 (open_row c.args.w.now o.3) c.args.i (omega (arith, c.requires.when_open _ _ _ o.3))
+    omega (arith, skip_p_inside o.3 (open_row c.args.w.now o.3) c.args.i (omega (arith, c.requires.when_open _ _ _ o.3)))
 
 pub overflow_sub-n : goal.overflow_sub-n
 overflow_sub-n c = let o = c.requires.opened in (c.requires.when_open _ _ _ o.3).0
@@ -38,7 +39,7 @@ skip-back-requires c =
     let h = c.requires.when_open _ _ _ o.3 in
     let i = c.args.i in
     let n = c.args.n in
-    parts_inside o.3 i n h (omega (arith, back_ends o.3 i n h (open_row c.args.w.now o.3) c.skip-front.ensures refl))
+    omega (arith, back_ends o.3 i n h (open_row c.args.w.now o.3) c.skip-front.ensures refl, all_inside o.3 i n h)
 
 pub overflow_sub-p : goal.overflow_sub-p
 overflow_sub-p c = let o = c.requires.opened in omega (arith, p_is o.3 (open_row c.args.w.now o.3), (c.requires.when_open _ _ _ o.3).1)
@@ -49,7 +50,7 @@ skip-from_q-requires c =
     let h = c.requires.when_open _ _ _ o.3 in
     let i = c.args.i in
     let n = c.args.n in
-    parts_inside o.3 i n h (omega (arith, p_ends o.3 i n h (open_row c.args.w.now o.3) c.skip-front.ensures c.skip-back.ensures refl))
+    omega (arith, p_ends o.3 i n h (open_row c.args.w.now o.3) c.skip-front.ensures c.skip-back.ensures refl, all_inside o.3 i n h)
 
 pub skip-from_t-requires : goal.skip-from_t-requires
 skip-from_t-requires c =
@@ -57,7 +58,7 @@ skip-from_t-requires c =
     let h = c.requires.when_open _ _ _ o.3 in
     let i = c.args.i in
     let n = c.args.n in
-    parts_inside o.3 i n h (omega (arith, q_ends o.3 i n h (open_row c.args.w.now o.3) c.skip-front.ensures c.skip-back.ensures c.skip-from_q.ensures refl))
+    omega (arith, q_ends o.3 i n h (open_row c.args.w.now o.3) c.skip-front.ensures c.skip-back.ensures c.skip-from_q.ensures refl, all_inside o.3 i n h)
 
 -- ── the numbers ──
 pub overflow_sub-size : goal.overflow_sub-size
@@ -130,37 +131,42 @@ returns-then-top-end c = record {
   when_open_2 = λ b bs ss H.
       let a = c.args in
       no_room H a.i a.n (c.requires.when_open b bs ss H) a.f.now a.initial.now (lie (goal.at.returns-then-top-end c).After-skip-from_t H) c.if-top-end.true;
+  beyond_stays = refl;
 }
 
 pub returns : goal.returns
-returns c = record {
-  when_open_2 = λ b bs ss H.
-      let a = c.args in
-      let w = a.w.now in
-      let k = (goal.at.returns c).After-skip-from_t in
-      kept H a.i a.n (c.requires.when_open b bs ss H) a.f.now a.initial.now (lie k H) c.if-top-end.false c.requires.storable c.requires.storable_2
-      (systems_row w H)
-      (record {
-        v₁ = _;
-        own_put = view_set w (ctl_word w 1) _ _ _ _;
-        a₁ = c.append_block-to.result;
-        v₂ = view c.append_block-to.new.w;
-        front_copied = c.append_block-to.ensures;
-        a₂ = c.append-to.result;
-        v₃ = view c.append-to.new.w;
-        f_put = c.append-to.ensures;
-        a₃ = c.append_block-to-2.result;
-        v₄ = view c.append_block-to-2.new.w;
-        back_copied = c.append_block-to-2.ensures;
-        a₄ = c.append_block-to-3.result;
-        v₅ = view c.append_block-to-3.new.w;
-        q_copied = c.append_block-to-3.ensures;
-        a₅ = c.append-to-2.result;
-        v₆ = view c.append-to-2.new.w;
-        initial_put = c.append-to-2.ensures;
-        a₆ = c.append_block-to-4.result;
-        v₇ = view c.append_block-to-4.new.w;
-        t_copied = c.append_block-to-4.ensures;
-        control_put = view_set c.append_block-to-4.new.w 0 _ _ _ _;
-      });
-}
+returns c =
+    let a = c.args in
+    let w = a.w.now in
+    let k = (goal.at.returns c).After-skip-from_t in
+    let pieces : Copied (view w) a.n (ctl_word w 0) (ctl_word w 1) (ctl_word w 2) (ctl_word w 3) (own_word w 1) (own_word w 2) k.skip-front.result k.skip-back.result
+    k.skip-from_q.result k.skip-from_t.result a.f.now a.initial.now _ =
+    record {
+      v₁ = _;
+      own_put = view_set w (ctl_word w 1) _ _ _ _;
+      a₁ = c.append_block-to.result;
+      v₂ = view c.append_block-to.new.w;
+      front_copied = c.append_block-to.ensures;
+      a₂ = c.append-to.result;
+      v₃ = view c.append-to.new.w;
+      f_put = c.append-to.ensures;
+      a₃ = c.append_block-to-2.result;
+      v₄ = view c.append_block-to-2.new.w;
+      back_copied = c.append_block-to-2.ensures;
+      a₄ = c.append_block-to-3.result;
+      v₅ = view c.append_block-to-3.new.w;
+      q_copied = c.append_block-to-3.ensures;
+      a₅ = c.append-to-2.result;
+      v₆ = view c.append-to-2.new.w;
+      initial_put = c.append-to-2.ensures;
+      a₆ = c.append_block-to-4.result;
+      v₇ = view c.append_block-to-4.new.w;
+      t_copied = c.append_block-to-4.ensures;
+      control_put = view_set c.append_block-to-4.new.w 0 _ _ _ _;
+    } in
+    record {
+      when_open_2 = λ b bs ss H.
+          kept H a.i a.n (c.requires.when_open b bs ss H) a.f.now a.initial.now (lie k H) c.if-top-end.false c.requires.storable c.requires.storable_2
+          (systems_row w H) pieces;
+      beyond_stays = copied_beyond (in_order k) (sym (length_view w)) c.if-top-end.false pieces;
+    }

@@ -27,3 +27,9 @@ pub returns-in-InQ-clause-sound : goal.returns-in-InQ-clause-sound
 returns-in-InQ-clause-sound c =
     let m = made (goal.at.returns-in-InQ-clause-sound c).After-monic in
     (made_sound m, made_monic m, made_behind m)
+
+pub returns-in-InP-clause-when_open_2 : goal.returns-in-InP-clause-when_open_2
+returns-in-InP-clause-when_open_2 c b bs ss H = rw c.in-InP.is (c.put_p.ensures.when_open b bs ss H)
+
+pub returns-in-InQ-clause-when_open_2 : goal.returns-in-InQ-clause-when_open_2
+returns-in-InQ-clause-when_open_2 c b bs ss H = rw c.in-InQ.is (c.put_q.ensures.when_open_2 b bs ss H)

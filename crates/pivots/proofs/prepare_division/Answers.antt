@@ -3,7 +3,7 @@ use Rattle.std.proofs.Common.{sym, ap, ◌∙◌, map}
 use Rattle.polynomials.specs.Packed.{terms}
 use Rattle.rules.specs.Branch.{other}
 use Rattle.records.specs.Records.{view}
-use Rattle.branches.specs.Area.{Stored}
+use Rattle.branches.specs.Area.{Stored, beyond}
 use Rattle.branches.proofs.LengthLaws.{held_by}
 use Rattle.pivots.proofs.AimLaws.{aims_at, aims_all}
 use Rattle.pivots.proofs.prepare_division.Goals.{in-Some, in-None}
@@ -28,5 +28,9 @@ returns c =
             let there = held_by _ _ a.w.now w.close.new.w (sym w.close.auto.w) moved in
             aims_all a.k _ _ a.initial a.place b bs ss _ _ (O b) _ _ w.dividends-is (ap view w.w-is) (sym (c.find_other.ensures b bs ss H) ∙ w.in-None.is)
             c.degree-degree.ensures (w.count_q.ensures _ _ _ there) moved
+      ];
+      beyond_stays = elim c.match-find_other.branch [
+        | in-Some w ↦ ap beyond w.w-is
+        | in-None w ↦ ap beyond w.w-is ∙ w.close.ensures.beyond_stays
       ];
     }

@@ -1,6 +1,7 @@
 -- What is asked at each line of the run's code, by what is known where a loop's turn begins and where a call has answered.
 use Rattle.std.specs.Prelude.{◌≡◌, List, true, ℕ, ◌-◌, Ok, Err, IsOk, ◌≤◌, ◌<◌, length, take}
-use Rattle.std.proofs.Common.{refl, sym, ap, subst, ◌∙◌, arith, length-take-le}
+use Rattle.std.proofs.Common.{refl, sym, ap, subst, ◌∙◌, inl, inr, arith, length-take-le}
+use Rattle.std.proofs.lemmas.Bool.{false≢true}
 use borrow.Author.Tests.{leb-false}
 use Rattle.polynomials.specs.Poly.{Poly}
 use Rattle.polynomials.specs.Packed.{terms}
@@ -13,14 +14,14 @@ use Rattle.division.specs.Lent.{lent_for_round}
 use Rattle.tables.specs.declared.Reason.{Reason}
 use Rattle.tables.specs.declared.Reason.TheVariants.{Degree, Terms}
 use Rattle.rules.specs.Step.{stopped, remainder_by}
-use Rattle.branches.specs.Area.{Opened}
+use Rattle.branches.specs.Area.{Opened, used, beyond}
 use Rattle.steps.specs.declared.Prepared.TheVariants.{Members}
 use Rattle.representation.specs.Ready.{limits_in}
 use Rattle.run.specs.declared.Outcome.TheVariants.{Refused}
-use Rattle.run.proofs.Invariants.{AtRun, AtMembers, division_begins, round_less, division_goes_on, division_ends, division_passes}
-use Rattle.run.proofs.MembersLaws.{AtMember, PutBack, ComesTo, members_left, member_taken, member_inside, member_holds}
+use Rattle.run.proofs.Invariants.{AtRun, AtMembers, run_begins, division_begins, round_less, division_goes_on, division_ends, division_passes}
+use Rattle.run.proofs.MembersLaws.{AtMember, PutBack, ComesTo, members_open, members_left, member_taken, member_inside, member_holds}
 use Rattle.run.proofs.MembersLaws.{member_open, member_behind, member_degree, member_terms, member_put_back}
-use Rattle.run.proofs.RunLaws.{GoesTo, SomeOpen, AllOpen, Answers, run_open_some, run_finished, run_no_steps}
+use Rattle.run.proofs.RunLaws.{GoesTo, SomeOpen, AllOpen, Answers, run_holds_some, run_open_some, run_finished, run_no_steps}
 use Rattle.run.proofs.RunLaws.{run_paused, run_stopped, run_goes_on, Preparation, PivotIn, prepared_as, prepared_done, prepared_stop, prepared_open, prepared_pivot}
 use Rattle.run.proofs.RunLaws.{members_first, members_done, members_stop, ended}
 use Rattle.run.proofs.run.Goals.{After-count-left, After-take-n, After-round_anywhere, After-put_back, Joined-prepared}
@@ -28,6 +29,19 @@ use Rattle.run.proofs.run.Goals.{then-not-round_fits, else-not-round_fits, in-Do
 use Rattle.run.proofs.run.Goals as goal
 
 -- ── the run ──
+pub run-init : goal.run-init
+run-init c = record {
+  runs = run_begins c.args.p c.args.limit c.args.from c.args.w.now c.requires.from_le_limit c.requires.ready;
+  stays = refl;
+  crowds = λ e. absurd (false≢true e);
+}
+
+pub is_open-requires : goal.is_open-requires
+is_open-requires c = run_holds_some c.run.invariant.runs
+
+pub listed_systems-listed-requires : goal.listed_systems-listed-requires
+listed_systems-listed-requires c = run_holds_some c.run.invariant.runs
+
 pub prepare-requires-clause-ready : goal.prepare-requires-clause-ready
 prepare-requires-clause-ready c = run_open_some c.run.invariant.runs (λ a H. sym (c.is_open.ensures a H) ∙ c.if-not-is_open.false)
 
@@ -35,19 +49,24 @@ prepare-requires-clause-ready c = run_open_some c.run.invariant.runs (λ a H. sy
 module _ (c : Joined-prepared) where
   abbrev Came : Type 0
   Came =
-      GoesTo (length c.run.w) c.args.p c.run.w c.match-prepared.w
+      GoesTo (used c.run.w) c.args.p c.run.w c.match-prepared.w
       × (c.match-prepared.crowded ≡ true → length c.args.x.now < 512)
+      × (beyond c.match-prepared.w ≡ beyond c.args.w.now)
 
   came : Came
   came = elim c.match-prepared.branch [
     | in-Done w ↦
-        let P = prepared_as c.prepare.auto.w c.prepare.ensures.when_open (c.in-Ok.is ∙ ap Ok w.in-Done.is) in
-        (subst (GoesTo (length c.run.w) c.args.p c.run.w) (sym w.w-is) (prepared_done P), λ e. c.run.invariant.crowds (sym w.crowded-is ∙ e))
+        let P = prepared_as c.prepare.auto.w c.prepare.ensures.when_open (c.in-Ok.is ∙ ap Ok w.in-Done.is) in (
+          subst (GoesTo (used c.run.w) c.args.p c.run.w) (sym w.w-is) (prepared_done P),
+          λ e. c.run.invariant.crowds (sym w.crowded-is ∙ e),
+          ap beyond w.w-is ∙ c.prepare.ensures.beyond_stays ∙ c.run.invariant.stays,
+        )
     | in-Members+else-members-test w ↦
         let P = prepared_as c.prepare.auto.w c.prepare.ensures.when_open (c.in-Ok.is ∙ ap Ok w.in-Members.is) in
         let A = rw w.count-left.ensures at w.members.invariant.divides in (
-          subst (GoesTo (length c.run.w) c.args.p c.run.w) (sym w.w-is) (members_done P A (omega (arith, w.members-test.false))),
+          subst (GoesTo (used c.run.w) c.args.p c.run.w) (sym w.w-is) (members_done P A (omega (arith, w.members-test.false))),
           λ e. w.members.invariant.crowds (sym w.crowded-is ∙ e),
+          ap beyond w.w-is ∙ w.members.invariant.stays,
         )
   ]
 
@@ -61,6 +80,7 @@ run-preserved c =
     record {
       runs = subst (AtRun a.p a.limit a.from a.w.now c.match-prepared.w) (omega arith) runs;
       crowds = step.1;
+      stays = step.2;
     }
 
 -- ── the members ──
@@ -94,7 +114,14 @@ module _ (c : After-take-n) where
   member = member_taken c.members.invariant.divides c.members-test.true _ _ _ c.take-n.auto.w c.take-n.ensures.when_open_2
 
 pub members-init : goal.members-init
-members-init c = record { divides = rw c.count-left.ensures (members_first (prepared c) (some_open c)); crowds = c.run.invariant.crowds }
+members-init c = record {
+  divides = rw c.count-left.ensures (members_first (prepared c) (some_open c));
+  crowds = c.run.invariant.crowds;
+  stays = c.prepare.ensures.beyond_stays ∙ c.run.invariant.stays;
+}
+
+pub take-n-requires-clause-opened : goal.take-n-requires-clause-opened
+take-n-requires-clause-opened c = members_open c.members.invariant.divides
 
 pub take-n-requires-clause-when_open : goal.take-n-requires-clause-when_open
 take-n-requires-clause-when_open c = members_left c.members.invariant.divides c.members-test.true
@@ -132,6 +159,7 @@ members-preserved c =
     record {
       divides = (member_goes z.After-put_back (pivot_in z.After-count-left) (member z.After-take-n)).0 (subst IsOk (sym c.in_default.is) refl);
       crowds = c.division.invariant.crowds;
+      stays = c.put_back.ensures.beyond_stays ∙ c.take-n.ensures.beyond_stays ∙ c.members.invariant.stays;
     }
 
 -- ── the division ──
@@ -200,7 +228,7 @@ module _ (c : After-round_anywhere) where
   passed_as e F = formed_passed next_round e (Err e) c.round_anywhere.new.r refl F
 
   passed : PivotIn c.args.p c.in-Members.d c.prepare.new.t c.prepare.new.i → (B : Bounded) → ((g : Poly → Bounded) → and_then B g ≡ B) → next_round ≡ B
-      → remainder_by (limits_in (length c.prepare.new.w)) c.args.p c.in-Members.d.k pivot_then (terms (take c.take-n.result c.take-n.new.r)) ≡ B
+      → remainder_by (limits_in (used c.prepare.new.w)) c.args.p c.in-Members.d.k pivot_then (terms (take c.take-n.result c.take-n.new.r)) ≡ B
   passed P B stays e = division_passes P.pivoted c.division.invariant.rounds _ B stays degree_left e
 
 pub division-smaller : goal.division-smaller
@@ -227,6 +255,15 @@ returns-then-not-is_open-clause-stretches c =
 pub returns-then-limit-steps-clause-stretches : goal.returns-then-limit-steps-clause-stretches
 returns-then-limit-steps-clause-stretches c =
     run_no_steps c.run.invariant.runs (λ a H. sym (c.is_open.ensures a H) ∙ c.if-not-is_open.false) c.if-limit-steps.true
+
+pub returns-then-crowded-clause-stretches : goal.returns-then-crowded-clause-stretches
+returns-then-crowded-clause-stretches c = run_paused c.run.invariant.runs _ refl
+
+pub returns-then-crowded-clause-when_paused : goal.returns-then-crowded-clause-when_paused
+returns-then-crowded-clause-when_paused c e = inr (c.run.invariant.crowds c.if-crowded.true)
+
+pub returns-in-Crowded-clause-when_paused : goal.returns-in-Crowded-clause-when_paused
+returns-in-Crowded-clause-when_paused c e = inl (omega (arith, (c.prepare.ensures.when_crowded (c.in-Ok.is ∙ ap Ok c.in-Crowded.is)).0, c.run.auto.t))
 
 pub returns-in-Crowded-clause-stretches : goal.returns-in-Crowded-clause-stretches
 returns-in-Crowded-clause-stretches c = run_paused c.run.invariant.runs _ (c.prepare.ensures.when_crowded (c.in-Ok.is ∙ ap Ok c.in-Crowded.is)).1
@@ -262,3 +299,25 @@ returns-in-Err-put_back-clause-stretches c =
     let s = (member_goes z.After-put_back (pivot_in z.After-count-left) (member z.After-take-n)).1 why c.in-Err-put_back.is in
     left_stops z.After-count-left why c.put_back.new.w
     (omega (arith, c.put_back.auto.w, c.take-n.auto.w, c.members.auto.w, c.prepare.auto.w, c.run.auto.w)) s.1 s.0
+
+-- The records beyond, at each return.
+pub returns-then-not-is_open-clause-beyond_stays : goal.returns-then-not-is_open-clause-beyond_stays
+returns-then-not-is_open-clause-beyond_stays c = c.run.invariant.stays
+
+pub returns-then-limit-steps-clause-beyond_stays : goal.returns-then-limit-steps-clause-beyond_stays
+returns-then-limit-steps-clause-beyond_stays c = c.run.invariant.stays
+
+pub returns-in-Crowded-clause-beyond_stays : goal.returns-in-Crowded-clause-beyond_stays
+returns-in-Crowded-clause-beyond_stays c = c.prepare.ensures.beyond_stays ∙ c.run.invariant.stays
+
+pub returns-in-Err-clause-beyond_stays : goal.returns-in-Err-clause-beyond_stays
+returns-in-Err-clause-beyond_stays c = c.prepare.ensures.beyond_stays ∙ c.run.invariant.stays
+
+pub returns-in-Err-Degree-clause-beyond_stays : goal.returns-in-Err-Degree-clause-beyond_stays
+returns-in-Err-Degree-clause-beyond_stays c = c.take-n.ensures.beyond_stays ∙ c.members.invariant.stays
+
+pub returns-in-Err-Terms-clause-beyond_stays : goal.returns-in-Err-Terms-clause-beyond_stays
+returns-in-Err-Terms-clause-beyond_stays c = c.take-n.ensures.beyond_stays ∙ c.members.invariant.stays
+
+pub returns-in-Err-put_back-clause-beyond_stays : goal.returns-in-Err-put_back-clause-beyond_stays
+returns-in-Err-put_back-clause-beyond_stays c = c.put_back.ensures.beyond_stays ∙ c.take-n.ensures.beyond_stays ∙ c.members.invariant.stays

@@ -1,6 +1,6 @@
 -- What is held after each call, from the calls' contracts; `no_initial` and `no_rest` where there is no room, `kept_aside` at the end.
-use Rattle.std.proofs.Common.{◌≡◌, refl, ap, ◌∷◌, ◌+◌, ◌-◌, length, arith}
-use Rattle.branches.specs.Area.{Stored, with_open, aside}
+use Rattle.std.proofs.Common.{◌≡◌, refl, ap, ◌∙◌, ◌∷◌, ◌+◌, ◌-◌, length, arith}
+use Rattle.branches.specs.Area.{Stored, with_open, aside, used}
 use Rattle.std.specs.Prelude.{is_ok, is_err}
 use Rattle.branches.proofs.LeavesLaws.{handed}
 use Rattle.branches.proofs.LengthLaws.{left_by}
@@ -26,7 +26,8 @@ returns-in_err-put_p c = record {
       let out : Taken c.args.w.now c.args.i c.remove.new.w = record { same = c.remove.auto.w; out = c.remove.ensures.open_becomes } in
       let first : Put c.remove.new.w c.args.initial.now c.put_p.result c.put_p.new.w = record { same = c.put_p.auto.w; put = c.put_p.ensures.when_open } in
       handed c.from_residual.result c.from_residual.ensures.1 c.in_err-put_p.was
-      (no_initial (length a.w.now) a.i a.initial.now a.rest.now b bs ss (initial_leaves out H first) (ap is_err c.in_err-put_p.was));
+      (no_initial (used a.w.now) a.i a.initial.now a.rest.now b bs ss (initial_leaves out H first) (ap is_err c.in_err-put_p.was));
+  beyond_stays = c.put_p.ensures.beyond_stays ∙ c.remove.ensures.beyond_stays;
 }
 
 pub put_p-requires-2-clause-opened : goal.put_p-requires-2-clause-opened
@@ -44,8 +45,9 @@ returns-in_err-put_p-2 c = record {
       let first : Put c.remove.new.w c.args.initial.now c.put_p.result c.put_p.new.w = record { same = c.put_p.auto.w; put = c.put_p.ensures.when_open } in
       let second : Put c.put_p.new.w c.args.rest.now c.put_p-2.result c.put_p-2.new.w = record { same = c.put_p-2.auto.w; put = c.put_p-2.ensures.when_open } in
       handed c.from_residual-in_err-put_p-2.result c.from_residual-in_err-put_p-2.ensures.1 c.in_err-put_p-2.was
-      (no_rest (length a.w.now) a.i a.initial.now a.rest.now b bs ss (initial_leaves out H first) (ap is_ok c.in_ok-put_p.was)
+      (no_rest (used a.w.now) a.i a.initial.now a.rest.now b bs ss (initial_leaves out H first) (ap is_ok c.in_ok-put_p.was)
       (rest_leaves out H first (ap is_ok c.in_ok-put_p.was) second) (ap is_err c.in_err-put_p-2.was));
+  beyond_stays = c.put_p-2.ensures.beyond_stays ∙ c.put_p.ensures.beyond_stays ∙ c.remove.ensures.beyond_stays;
 }
 
 pub overflow_sub-b : goal.overflow_sub-b
@@ -85,7 +87,8 @@ returns c = record {
       let n : c.open_branch-b.result.p - 1 + 1 ≡ length b.P = omega (arith, p_is H (c.open_branch-b.ensures b bs ss H), h.0) in
       let waits = aside a.i a.initial.now a.rest.now b in
       left_by _ _ c.put_p-2.new.w a.w.now (same_rest out H first (ap is_ok c.in_ok-put_p.was) second)
-      (stops_aside (length a.w.now) a.i a.initial.now a.rest.now b bs ss (rest_leaves out H first (ap is_ok c.in_ok-put_p.was) second) (ap is_ok c.in_ok-put_p-2.was))
+      (stops_aside (used a.w.now) a.i a.initial.now a.rest.now b bs ss (rest_leaves out H first (ap is_ok c.in_ok-put_p.was) second) (ap is_ok c.in_ok-put_p-2.was))
       (ap (λ (x : Stored). with_open x (waits ∷ bs) ss) (kept_aside a.i _ a.f.now a.initial.now a.rest.now b h.0 n h.1 h.2 h.3))
       (c.keep_open.ensures.when_open_2 _ bs ss (rest_put out H first (ap is_ok c.in_ok-put_p.was) second (ap is_ok c.in_ok-put_p-2.was)));
+  beyond_stays = c.keep_open.ensures.beyond_stays ∙ c.put_p-2.ensures.beyond_stays ∙ c.put_p.ensures.beyond_stays ∙ c.remove.ensures.beyond_stays;
 }

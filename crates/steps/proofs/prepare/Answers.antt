@@ -1,7 +1,8 @@
 -- What the survey chose is the rule that fits. No answer names the call that drops or lists the branch, so that an edit which puts one for the other
 -- is refused for what it means.
-use Rattle.std.proofs.Common.{◌∙◌, sym, subst, ℕ, ◌∷◌, length, arith}
+use Rattle.std.proofs.Common.{◌∙◌, sym, subst, ℕ, ◌∷◌, arith}
 use Rattle.records.specs.Records.{view}
+use Rattle.branches.specs.Area.{used}
 use Rattle.rules.specs.Step.{Stepped}
 use Rattle.representation.specs.Represent.{branch_of}
 use Rattle.representation.specs.laws.Steps.{drop_state, list_state}
@@ -21,17 +22,17 @@ choose-requires-clause-when_open c =
 
 pub returns-in-Drop-clause-when_open : goal.returns-in-Drop-clause-when_open
 returns-in-Drop-clause-when_open c b bs ss H R =
-    let l = limits_in (length c.args.w.now) in
+    let l = limits_in (used c.args.w.now) in
     let e = chosen_drop (branch_of b) (sym (c.choose.ensures b bs ss H) ∙ c.in-Drop.is) in
-    (record { branches = bs; systems = ss }, step_by l c.args.p b bs ss _ e ∙ drop_state l c.args.p b bs ss, grind arith, ready_dropped l c.args.p b bs ss R)
+    (record { branches = bs; systems = ss }, step_by l c.args.p b bs ss _ e ∙ drop_state l c.args.p b bs ss, grind arith steps 40000000, ready_dropped l c.args.p b bs ss R)
 
 pub returns-in-List-clause-when_open : goal.returns-in-List-clause-when_open
 returns-in-List-clause-when_open c b bs ss H R =
-    let l = limits_in (length c.args.w.now) in
+    let l = limits_in (used c.args.w.now) in
     let e = chosen_list (branch_of b) (sym (c.choose.ensures b bs ss H) ∙ c.in-List.is) in (
       record { branches = bs; systems = b ∷ ss },
       step_by l c.args.p b bs ss _ e.0 ∙ list_state l c.args.p b bs ss,
-      grind arith,
+      grind arith steps 40000000,
       ready_listed l c.args.p b bs ss R (map_none b.P e.1),
     )
 
@@ -46,7 +47,7 @@ pub returns-in-Pivot-clause-when_open : goal.returns-in-Pivot-clause-when_open
 returns-in-Pivot-clause-when_open c b bs ss H R =
     let a = c.args in
     let u = c.with_pivot in
-    let most = length a.w.now in
+    let most = used a.w.now in
     let g = chosen_pivot a.p _ _ b.P b.Q b.T R.sound.branches.0.in_p R.monic.0 R.nonzero.0 (sym (c.choose.ensures b bs ss H) ∙ c.in-Pivot.is) in
     subst
     (λ (S : Stepped). Prepares (limits_in most) a.p S u.result u.new.t u.new.i (view u.new.w) most bs ss)

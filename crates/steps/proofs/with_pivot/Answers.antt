@@ -14,7 +14,7 @@ use Rattle.rules.specs.Branch.{other}
 use Rattle.rules.specs.Rule.{Rule, split, divide_or_close, rule_with}
 use Rattle.stored.specs.Stored.{member, Storable}
 use Rattle.branches.specs.Words.{is_one}
-use Rattle.branches.specs.Area.{Stored, with_open, HeldIn}
+use Rattle.branches.specs.Area.{Stored, with_open, HeldIn, used}
 use Rattle.branches.proofs.Unique.{of_every}
 use Rattle.heads.specs.Heads.{AllHold}
 use Rattle.representation.specs.Represent.{branch_of, chosen}
@@ -150,7 +150,7 @@ returns-then-is_settled-clause-when_open c b bs ss H R L =
     let I = formed z _ _ c.initial-m.ensures.written c.initial-m.ensures.in_words in
     let e = c.prepare_division-d.ensures.when_open_3 b bs ss H in (
       _,
-      comes (limits_in (length a.w.now)) a.p a.k a.place b bs ss R L c.load-n.new.out c.load-n.result (loaded z b bs ss H R L)
+      comes (limits_in (used a.w.now)) a.p a.k a.place b bs ss R L c.load-n.new.out c.load-n.result (loaded z b bs ss H R L)
           c.initial-m.new.out c.initial-m.result I _ _ _ e.0 e.1 (rule z I b bs ss H R L true (c.if-is_settled.ensures b bs ss H)),
     )
 

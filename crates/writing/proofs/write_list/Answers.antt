@@ -12,13 +12,13 @@ write-requires c =
     omega (arith, (c.requires.ss_in_bounds h.0 h.1).0, list_some (reverse (map system_of h.0)))
 
 pub overflow_sub-end : goal.overflow_sub-end
-overflow_sub-end c = let h = c.requires.held_in in top_inside h.1 (c.listed_systems-top.ensures _ h.1)
+overflow_sub-end c = let h = c.requires.held_in in omega (arith, top_inside h.1 (c.listed_systems-top.ensures _ h.1), c.count_records.ensures)
 
 pub loop-i-init : goal.loop-i-init
 loop-i-init c = record {
   same = omega arith;
   walked = λ ss H. let asked = c.requires.ss_in_bounds ss H in
-      begins _ _ ss c.write.new.words _ _ _ H asked.1 (omega arith) (omega arith) (c.listed_systems-top.ensures _ H);
+      rw c.count_records.ensures (begins _ _ ss c.write.new.words _ _ _ H asked.1 (omega arith) (omega arith) (c.listed_systems-top.ensures _ H));
 }
 
 pub system_size-size-requires : goal.system_size-size-requires

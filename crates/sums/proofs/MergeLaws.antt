@@ -213,7 +213,7 @@ module _ {p c m : ℕ} {g f out b : List Packed} {i k : ℕ} (H : Head p c m g f
     | no n ↦ let e = some n in (ap length e.0 ∙ simp length-set refl, subst_head (turn_sum K n room) e.0 e.1)
   ])
 
--- After the loop, with the rest of f copied behind the k terms.
+-- After the loop, with the rest of f, from `at` on, behind the k terms.
 module _ {p c m : ℕ} {g f out b : List Packed} {i k : ℕ} (H : Head p c m g f out b i k) (end : length b ≡ 0) where
   finish : (n : ℕ) (last : List Packed) → n ≤ length last → take n last ≡ take k out ++ drop i f → Written (left p c m f g 0) n last
   unfolding terms add_multiple
@@ -225,20 +225,20 @@ module _ {p c m : ℕ} {g f out b : List Packed} {i k : ℕ} (H : Head p c m g f
       nothing : left p c m f b i ≡ terms (drop i f)
       nothing = ap (λ z. add_multiple p c (bytes 8 m) (terms z) (terms (drop i f))) (drop_all 0 b (omega (arith, end)))
 
-  pub rest_copied : (n : ℕ) (rest part : List Packed) → rest ≡ drop i f → part ≡ rest → n ≡ k + length rest → n ≤ length out
+  pub rest_copied : (n at : ℕ) (rest part : List Packed) → rest ≡ drop at f → part ≡ rest → n ≡ k + length rest → n ≤ length out → at ≡ i
       → Written (left p c m f g 0) n (put_mid k (n - k) out part)
-  rest_copied n rest part is copy count room =
-      let same : part ≡ drop i f = copy ∙ is in
+  rest_copied n at rest part is copy count room from =
+      let same : part ≡ drop i f = copy ∙ is ∙ ap (λ (x : ℕ). drop x f) from in
       let post = post_of k (n - k) out in
       let size : length part ≡ n - k = omega (arith, ap length copy, count) in
       finish n (put_mid k (n - k) out part) (omega (arith, size, count, room, length-append (take k out) (part ++ post), length-append part post, length-take-le k out (omega arith)))
       (take-put_mid k (n - k) out part n (omega (arith, size, count)) (omega (arith, count, room)) ∙ ap (λ z. take k out ++ z) same)
 
   -- Nothing is left of f.
-  pub nothing_left : (n : ℕ) (rest : List Packed) → rest ≡ drop i f → n ≡ k + length rest → length f ≤ i → k ≤ length out → Written (left p c m f g 0) n out
-  nothing_left n rest is count all room =
+  pub nothing_left : (n at : ℕ) (rest : List Packed) → rest ≡ drop at f → n ≡ k + length rest → length f ≤ i → k ≤ length out → at ≡ i → Written (left p c m f g 0) n out
+  nothing_left n at rest is count all room from =
       let none : drop i f ≡ [] = drop_all i f all in
-      let same : n ≡ k = omega (arith, count, ap length (is ∙ none)) in
+      let same : n ≡ k = omega (arith, count, ap length (is ∙ ap (λ (x : ℕ). drop x f) from ∙ none)) in
       finish n out (omega (arith, same, room)) (ap (λ z. take z out) same ∙ sym (append-nil (take k out)) ∙ ap (λ z. take k out ++ z) (sym none))
 
 -- ── the difference ──

@@ -69,12 +69,10 @@ loop-left-preserved c =
 pub returns-then-i-f-3 : goal.returns-then-i-f-3
 returns-then-i-f-3 c =
     let f = c.args.f.now in
-    let i = c.loop-left.i in
-    rest_copied c.loop-left.invariant.1 (omega (arith, c.loop-left-test.false)) _ _ _ (between_to_end f i (length f) (omega arith)) c.copy_from_slice.ensures.after refl (omega arith)
+    rest_copied c.loop-left.invariant.1 (omega (arith, c.loop-left-test.false)) _ _ _ _ (between_to_end f _ (length f) (omega arith)) c.copy_from_slice.ensures.after refl (omega arith) (omega arith)
 
 pub returns-else-i-f-3 : goal.returns-else-i-f-3
 returns-else-i-f-3 c =
     let f = c.args.f.now in
-    let i = c.loop-left.i in
     let H = c.loop-left.invariant.1 in
-    nothing_left H (omega (arith, c.loop-left-test.false)) _ _ (between_to_end f i (length f) (omega arith)) refl c.if-i-f-3.false (omega (arith, H.k≤))
+    nothing_left H (omega (arith, c.loop-left-test.false)) _ _ _ (between_to_end f _ (length f) (omega arith)) refl c.if-i-f-3.false (omega (arith, H.k≤)) (omega arith)

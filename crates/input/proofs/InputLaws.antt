@@ -17,12 +17,16 @@ word_at-drop b at i =
     let byte : (j : ℕ) → get_or b (at + i + j) 0 ≡ get_or (drop at b) (i + j) 0 = λ j. ap (λ (m : ℕ). get_or b m 0) (omega arith) ∙ sym (get_or-drop at b (i + j) 0) in
     omega (arith, get_or-drop at b i 0, byte 1, byte 2, byte 3)
 
+-- The window whose first byte that is not yet used is this one.
+abbrev pub from : ℕ → Window → Window
+from at w = record { bytes = w.bytes; at = at; end = w.end }
+
 -- None is put.
-pub filling_none : (w : Window) (xs : List ℕ) → Filling w 0 w xs
+pub filling_none : (w : Window) {at : ℕ} (xs : List ℕ) → at ≡ w.at → Filling w 0 (from at w) xs
 unfolding words_from
-filling_none w xs =
-    let at : w.at ≡ w.at + 4 * 0 = omega arith in
-    record { reached = λ t. record { bytes = w.bytes; at = at t; end = w.end }; decoded = refl }
+filling_none w {at} xs e =
+    let on : at ≡ w.at + 4 * 0 = omega arith in
+    record { reached = λ t. record { bytes = w.bytes; at = on t; end = w.end }; decoded = refl }
 
 -- One word more is put where it stood behind those before it.
 pub filling_on : {w₀ w w' : Window} (n k : ℕ) {xs : List ℕ} {r : Option ℕ} {x : ℕ} → Enough n w₀ → k < n → k < length xs → Filling w₀ k w xs

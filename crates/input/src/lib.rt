@@ -102,9 +102,20 @@ impl<'a, R: Read> Words<'a, R> {
         ensures taken { Enough (length words.old) self.old → IsSome result × Taken self.old self.new words.new }
         ensures capacity { length self.new.bytes ≡ length self.old.bytes }
     {
+        // `next` would store the position at each word and load it again, so the words that the buffer holds are taken here.
+        let mut at = self.at;
         for i in 0..words.len() {
-            words[i] = self.next()?;
+            if self.end - at < 4 {
+                self.at = at;
+                words[i] = self.next()?;
+                at = self.at;
+                continue;
+            }
+            let buffer = &mut *self.buffer;
+            words[i] = decoding::word_at(buffer, at);
+            at += 4;
         }
+        self.at = at;
         Some(())
     }
 

@@ -4,7 +4,8 @@
 // the point has, the words. The run ends with the input, or at a job that is cut short or too long for the buffers.
 #![tactic(auto)]
 
-ghost use Rattle.std.specs.Prelude.{◌≡◌, [], ◌∷◌, ◌≤◌, length, IfSome};
+ghost use Rattle.std.specs.Prelude.{◌≡◌, [], ◌∷◌, ◌≤◌, length, IfSome, IsOk};
+ghost use Rattle.lines.specs.Text.{LineAdded};
 ghost use Rattle.lines.specs.Written.{capacity};
 ghost use Rattle.table_jobs.specs.Line.{line};
 
@@ -74,6 +75,15 @@ fn numbers_of(line: Line) -> [u32; 2]
     [line.outcome, line.value]
 }
 
+// Adds a job's line to the text.
+fn print<W: Write>(out: &mut W, text: &mut Text<'_>, line: Line) -> io::Result<()>
+    requires { 128 ≤ capacity text.old }
+    ensures line_added { 170 ≤ text.old.free → IsOk result × LineAdded (line.outcome ∷ line.value ∷ []) text.old text.new }
+    ensures capacity { capacity text.new ≡ capacity text.old }
+{
+    text.print_line(out, &numbers_of(line))
+}
+
 // Runs all jobs, and writes their lines. A proved loop has to end, and nothing says that the input does: no run uses up so many turns.
 fn run_jobs<R: Read, W: Write>(
     words: &mut Words<'_, R>,
@@ -89,7 +99,7 @@ fn run_jobs<R: Read, W: Write>(
             break;
         };
         let line = answer(job.kind, &table[..job.table], &point[..job.point]);
-        text.print_line(out, &numbers_of(line))?;
+        print(out, text, line)?;
     }
     text.write(out)
 }

@@ -7,13 +7,25 @@
 // The run ends with the input, or at a job that is cut short or too long for the buffers; what it printed before stays.
 #![tactic(auto)]
 
-ghost use Rattle.std.specs.Prelude.{◌≡◌, ◌≤◌, length};
+ghost use Rattle.std.specs.Prelude.{◌≡◌, ◌≤◌, length, [], ◌∷◌, IsOk};
+ghost use Rattle.lines.specs.Text.{LineAdded};
 ghost use Rattle.lines.specs.Written.{capacity};
 
+use elimination_job::Heading;
 use input::Words;
 use lines::Text;
 use std::io;
 use std::io::{Read, Write};
+
+// Adds a job's first line to the text.
+fn print<W: Write>(out: &mut W, text: &mut Text<'_>, heading: Heading) -> io::Result<()>
+    requires { 128 ≤ capacity text.old }
+    ensures line_added { 212 ≤ text.old.free
+        → IsOk result × LineAdded (heading.outcome ∷ heading.steps ∷ heading.value ∷ heading.nonzero ∷ []) text.old text.new }
+    ensures capacity { capacity text.new ≡ capacity text.old }
+{
+    text.print_line(out, &heading.numbers())
+}
 
 // Runs the next job, and adds its first line, the line of the output, and a line for each point; answers whether the input has it whole.
 fn run_job<R: Read, W: Write>(
@@ -42,7 +54,7 @@ fn run_job<R: Read, W: Write>(
         shape.limit,
         shape.filling,
     );
-    text.print_line(out, &heading.numbers())?;
+    print(out, text, heading)?;
     text.print_line(out, output)?;
     let list = &output[..shape.list.min(output.len())];
     tries::run_all(words, out, table, list, shape.points, text)

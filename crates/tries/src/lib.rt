@@ -1,7 +1,8 @@
 // Points against a table and its list, tried for `elimination_jobs`.
 #![tactic(auto)]
 
-ghost use Rattle.std.specs.Prelude.{◌≡◌, [], ◌∷◌, ◌≤◌, length};
+ghost use Rattle.std.specs.Prelude.{◌≡◌, [], ◌∷◌, ◌≤◌, length, IsOk};
+ghost use Rattle.lines.specs.Text.{LineAdded};
 ghost use Rattle.lines.specs.Written.{capacity};
 ghost use Rattle.tries.specs.Tried.{tried};
 
@@ -39,6 +40,16 @@ fn try_both(table: &[u32], systems: &[u32], numbers: &[u32]) -> Tried
     }
 }
 
+// Adds a point's line to the text.
+fn print<W: Write>(out: &mut W, text: &mut Text<'_>, tried: Tried) -> io::Result<()>
+    requires { 128 ≤ capacity text.old }
+    ensures line_added { 212 ≤ text.old.free
+        → IsOk result × LineAdded (tried.trial.outcome ∷ tried.trial.value ∷ tried.place.outcome ∷ tried.place.value ∷ []) text.old text.new }
+    ensures capacity { capacity text.new ≡ capacity text.old }
+{
+    text.print_line(out, &tried.numbers())
+}
+
 // Tries so many points of at most 16 numbers, and adds a line for each; answers whether the input has them all.
 pub fn run_all<R: Read, W: Write>(
     words: &mut Words<'_, R>,
@@ -58,7 +69,7 @@ pub fn run_all<R: Read, W: Write>(
             return Ok(false);
         };
         let tried = try_both(table, systems, &point[..n]);
-        text.print_line(out, &tried.numbers())?;
+        print(out, text, tried)?;
     }
     Ok(true)
 }
